@@ -1,0 +1,177 @@
+-- The moves of a pass: each is what the choice picks, no file moves twice, and they end when nothing is left to pick. Assumes nothing.
+use mathlib.Core.Path.{_≡_, refl, sym, ap, _∙_}
+use mathlib.Core.Logic.{_≢_}
+use Prim.Native.Nat.{ℕ, zero, suc, _≤_, _<_}
+use mathlib.Core.Bool.{Bool, true, false}
+use mathlib.Core.List.{List, [], _∷_}
+use mathlib.Core.Option.{Option, none, some}
+use native.Mathlib.Decide.{ℕ-discrete}
+use native.Mathlib.Omega.{arith}
+use lib.Dec.{eqb}
+use lib.ListN.{length, getD, set, take, length-set}
+use lib.Seq.{getD-set-same, getD-set-other}
+use borrow.Author.Tests.{eqb-true}
+use Rattle.rules.specs.Lists.{bit, total, count}
+use Rattle.rules.specs.Job.{Job, fileCount}
+use Rattle.rules.specs.Split.{times, balanced}
+use Rattle.rules.specs.Move.{stepsBy, State, lockOf, free, moved, after, Frees, stop, move, sizeAfter, legal, choose, movesBy, moves}
+use Rattle.rules.specs.Theorems.{Chosen}
+use Rattle.rules.proofs.Count.{hit-eq, hit-ne}
+use Rattle.rules.proofs.Tests.{and-yes}
+use Rattle.rules.proofs.Choice.{chosen, nothing-left}
+
+-- ---- the moves, for any choice
+
+module _ {ℓ} {S : Type ℓ} (pick : S → Option ℕ) (step : S → ℕ → S) where
+  pub moves-stop : (k : ℕ) (s : S) → pick s ≡ none → movesBy pick step k s ≡ []
+  unfolding movesBy
+  moves-stop zero s e = refl
+  moves-stop (suc k) s e = rw (e, movesBy)
+
+  pub moves-go : (k : ℕ) (s : S) (f : ℕ) → pick s ≡ some f → movesBy pick step (suc k) s ≡ f ∷ movesBy pick step k (step s f)
+  unfolding movesBy
+  moves-go k s f e = rw (e, movesBy)
+
+  -- each move is what the choice picks there
+  pub moves-each : (k : ℕ) (s : S) (i : ℕ) → i < length (movesBy pick step k s)
+      → pick (stepsBy step s (take i (movesBy pick step k s))) ≡ some (getD (movesBy pick step k s) i 0)
+  unfolding stepsBy
+  moves-each zero s i h = let q : i < 0 = unfold movesBy in h in absurd (omega arith)
+  moves-each (suc k) s i h = go (pick s) refl i h (λ f. moves-each k (step s f))
+    where
+      go : (o : Option ℕ) → pick s ≡ o → (i : ℕ) → i < length (movesBy pick step (suc k) s)
+          → ((f : ℕ) (i : ℕ) → i < length (movesBy pick step k (step s f)) → pick (stepsBy step (step s f) (take i (movesBy pick step k (step s f)))) ≡ some (getD (movesBy pick step k (step s f)) i 0))
+          → pick (stepsBy step s (take i (movesBy pick step (suc k) s))) ≡ some (getD (movesBy pick step (suc k) s) i 0)
+      go none e i h ih = let q : i < 0 = rw (moves-stop (suc k) s e) at h in absurd (omega arith)
+      go (some f) e zero h ih = rw (moves-go k s f e) e
+      go (some f) e (suc i) h ih =
+          let q : suc i < suc (length (movesBy pick step k (step s f))) = rw (moves-go k s f e) at h in
+          rw (moves-go k s f e) (ih f i (omega arith))
+
+-- how many files are free
+abbrev pub freeCount : State → ℕ
+freeCount st = count (λ l. eqb l 0) (st .locks)
+
+set-less : (l : List ℕ) (f : ℕ) → f < length l → getD l f 0 ≡ 0 → suc (count (λ l. eqb l 0) (set l f 1)) ≡ count (λ l. eqb l 0) l
+unfolding count total
+set-less [] f h e = absurd (omega arith)
+set-less (x ∷ l) zero h e = omega (arith, hit-eq e)
+set-less (x ∷ l) (suc f) h e = omega (arith, set-less l f (omega arith) e)
+
+count-le {ℓ} : {A : Type ℓ} (p : A → Bool) (l : List A) → count p l ≤ length l
+unfolding count total
+count-le p [] = omega arith
+count-le p (x ∷ l) = omega (arith, count-le p l, bit-le (p x))
+  where
+    bit-le : (b : Bool) → bit b ≤ 1
+    bit-le true = omega arith
+    bit-le false = omega arith
+
+pub record Long (n : ℕ) (st : State) : Type 0 where
+  pub sides : length (st .sides) ≡ n
+  pub locks : length (st .locks) ≡ n
+
+pub moved-long : {n : ℕ} {st : State} (f : ℕ) → Long n st → Long n (moved st f)
+unfolding moved
+moved-long {n} {st} f l = record { sides = length-set (st .sides) f _ ∙ l .sides; locks = length-set (st .locks) f 1 ∙ l .locks }
+
+pub after-long : {n : ℕ} (st : State) (fs : List ℕ) → Long n st → Long n (after st fs)
+unfolding stepsBy
+after-long st [] l = l
+after-long st (f ∷ fs) l = after-long (moved st f) fs (moved-long f l)
+
+-- a choice of free files below n: `see` gives the state that the choice's own s stands for
+pub record Picks {ℓ} (n : ℕ) {S : Type ℓ} (pick : S → Option ℕ) (step : S → ℕ → S) (see : S → State) : Type ℓ where
+  pub seen : (s : S) (f : ℕ) → see (step s f) ≡ moved (see s) f
+  pub good : (s : S) (f : ℕ) → pick s ≡ some f → (f < n) × (lockOf (see s) f ≡ 0)
+
+module _ {ℓ} {n : ℕ} {S : Type ℓ} {pick : S → Option ℕ} {step : S → ℕ → S} {see : S → State} (p : Picks n pick step see) where
+  seen-long : (s : S) (f : ℕ) → Long n (see s) → Long n (see (step s f))
+  seen-long s f l = rw (p .seen s f) (moved-long f l)
+
+  -- each move is of a file then still free
+  pub moves-free : (k : ℕ) (s : S) → Long n (see s) → Frees (see s) (movesBy pick step k s)
+  moves-free zero s l = unfold movesBy in stop
+  moves-free (suc k) s l = go (pick s) refl (λ f. moves-free k (step s f))
+    where
+      go : (o : Option ℕ) → pick s ≡ o → ((f : ℕ) → Long n (see (step s f)) → Frees (see (step s f)) (movesBy pick step k (step s f))) → Frees (see s) (movesBy pick step (suc k) s)
+      go none e ih = rw (moves-stop pick step (suc k) s e) stop
+      go (some f) e ih =
+          let q = p .good s f e in
+          rw (moves-go pick step k s f e)
+          (move {st = see s} {f = f} (omega (arith, q .0, l .sides)) (omega (arith, q .0, l .locks)) (q .1) (rw (p .seen s f) at (ih f (seen-long s f l))))
+
+  -- and with no fewer turns than free files, they end where nothing is picked
+  pub moves-end : (k : ℕ) (s : S) → Long n (see s) → freeCount (see s) ≤ k → pick (stepsBy step s (movesBy pick step k s)) ≡ none
+  moves-end zero s l h = go (pick s) refl
+    where
+      go : (o : Option ℕ) → pick s ≡ o → pick (stepsBy step s (movesBy pick step zero s)) ≡ none
+      go none e = rw (moves-stop pick step zero s e) (unfold stepsBy in e)
+      go (some f) e =
+          let q = p .good s f e in
+          absurd (omega (arith, set-less (see s .locks) f (omega (arith, q .0, l .locks)) (q .1)))
+  moves-end (suc k) s l h = go (pick s) refl (λ f. moves-end k (step s f))
+    where
+      go : (o : Option ℕ) → pick s ≡ o
+          → ((f : ℕ) → Long n (see (step s f)) → freeCount (see (step s f)) ≤ k → pick (stepsBy step (step s f) (movesBy pick step k (step s f))) ≡ none)
+          → pick (stepsBy step s (movesBy pick step (suc k) s)) ≡ none
+      go none e ih = rw (moves-stop pick step (suc k) s e) (unfold stepsBy in e)
+      go (some f) e ih =
+          let q = p .good s f e in
+          let less : freeCount (moved (see s) f) ≤ k = unfold moved in omega (arith, set-less (see s .locks) f (omega (arith, q .0, l .locks)) (q .1)) in
+          rw (moves-go pick step k s f e) (unfold stepsBy in ih f (seen-long s f l) (rw (p .seen s f) less))
+
+-- no file moves twice
+locked-out : {st : State} {fs : List ℕ} (x : ℕ) → 1 ≤ lockOf st x → Frees st fs → times x fs ≡ 0
+unfolding times count total moved
+locked-out x l stop = refl
+locked-out {st} x l (move {f = f} {fs = fs} a b e rest) =
+    let n : f ≢ x = λ q. omega (arith, ap (lockOf st) q) in
+    omega (arith, hit-ne n, locked-out x (rw (getD-set-other (st .locks) f x 1 0 (λ q. n (sym q))) l) rest)
+
+pub frees-once : {st : State} {fs : List ℕ} (x : ℕ) → Frees st fs → times x fs ≤ 1
+unfolding times count total moved
+frees-once x stop = omega arith
+frees-once {st} x (move {f = f} {fs = fs} a b e rest) = elim (ℕ-discrete f x) [
+  | yes q ↦ omega (arith, hit-eq q, locked-out {fs = fs} x (rw (← q, getD-set-same (st .locks) f 1 0 b) (omega arith)) rest)
+  | no n ↦ omega (arith, hit-ne n, frees-once x rest)
+]
+
+-- so there are no more moves than files
+free-count : {st : State} {fs : List ℕ} → Frees st fs → length fs ≤ freeCount st
+unfolding moved
+free-count stop = omega arith
+free-count {st} (move {f = f} a b e rest) = omega (arith, free-count rest, set-less (st .locks) f b e)
+
+pub frees-few : {st : State} {fs : List ℕ} → Frees st fs → length fs ≤ length (st .locks)
+frees-few {st} l = omega (arith, free-count l, count-le (λ l. eqb l 0) (st .locks))
+
+-- ---- one pass of document 01
+
+module _ (job : Job) (st : State) (long : Long (fileCount job) st) where
+  picks : Picks (fileCount job) (choose job) moved (λ s. s)
+  unfolding legal
+  picks = record {
+    seen = λ s f. refl;
+    good = λ s f e.
+        let c = chosen job s f e in
+        (c .below, eqb-true (lockOf s f) 0 (and-yes (free s f) (balanced job (sizeAfter job s f)) (c .lawful) .0));
+  }
+
+  pub pass-free : Frees st (moves job st)
+  unfolding moves
+  pass-free = moves-free picks (fileCount job) st long
+
+  -- each move is the choice there: legal, of greatest gain, then nearest, then lowest
+  pub pass-each : (i : ℕ) → i < length (moves job st) → Chosen job (after st (take i (moves job st))) (getD (moves job st) i 0)
+  unfolding moves
+  pass-each i h =
+      chosen job (after st (take i (movesBy (choose job) moved (fileCount job) st))) (getD (movesBy (choose job) moved (fileCount job) st) i 0)
+      (moves-each (choose job) moved (fileCount job) st i h)
+
+  -- C turns are enough: at the end no legal move exists
+  pub pass-end : (g : ℕ) → g < fileCount job → legal job (after st (moves job st)) g ≡ false
+  unfolding moves
+  pass-end =
+      nothing-left job (after st (movesBy (choose job) moved (fileCount job) st))
+      (moves-end picks (fileCount job) st long (omega (arith, count-le (λ l. eqb l 0) (st .locks), long .locks)))

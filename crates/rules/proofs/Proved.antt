@@ -1,0 +1,252 @@
+-- The theorems of specs/Theorems.antt about jobs, moves, passes and runs. Assumes nothing.
+use mathlib.Core.Path.{_≡_, refl, sym, ap, _∙_}
+use mathlib.Core.Logic.{_≢_}
+use Prim.Native.Nat.{ℕ, zero, suc, _*_, _≤_}
+use mathlib.Core.Bool.{Bool, true, not, _&&_, _||_}
+use mathlib.Core.List.{List, [], _∷_}
+use native.Mathlib.Decide.{decLt, ℕ-discrete}
+use native.Mathlib.Omega.{arith}
+use lib.Dec.{eqb, leb, ltb}
+use lib.IntN.{ℤ, pos}
+use lib.ListN.{length, getD, take, length-map}
+use lib.Seq.{take-suc, take-all, take-length}
+use borrow.Author.Tests.{eqb-true, eqb-false, leb-true, leb-false, ltb-false, eq-eqb, ne-eqb}
+use Rattle.rules.specs.declared.Verdict.{Verdict}
+use Rattle.rules.specs.Lists.{count, upTo, lowest, someBelow}
+use Rattle.rules.specs.Job.{Job, Limits, fileCount, recipeCount, files, views, recipes, Lent, scratchFor, fits}
+use Rattle.rules.specs.Split.{cut, sizeA, balanced}
+use Rattle.rules.specs.Check.{refuseIf, _orElse_, check1, check2, check3, check4, check5, badFile, check6, check7, check8, check9, check4to6, check1to6, check7to9, check, measure}
+use Rattle.rules.specs.Move.{stepsBy, State, start, free, moved, after, Frees, sizeAfter, legal}
+use Rattle.rules.specs.Pass.{cutAt, keeps, gainsAfter, startGains, Pass, passOf, tries, pass, leaves}
+use Rattle.rules.specs.Run.{mostPasses, passes, run, lastOf, figuresOf, runFiguresOf, leftBy, passEnds, runEnds}
+use Rattle.rules.specs.Theorems.{Sound, Accepted, Sides, stateAt, MovesHold, Left, Chosen, PassHolds, RunHolds, Answers}
+use Rattle.rules.proofs.Tests.{clash, or-no, and-yes, not-no}
+use Rattle.rules.proofs.Verdicts.{passes-both, not-refused, Plain, plain-if, plain-chain}
+use Rattle.rules.proofs.Count.{length-tabled, count-some}
+use Rattle.rules.proofs.Entries.{listed-holds}
+use Rattle.rules.proofs.GainKept.{frees-take, after-binary, keptUp, kept-length, kept-more, gain-kept-at, gains-kept, gains-pinned, replay-listed, cut-kept, start-fresh}
+use Rattle.rules.proofs.FourScans.{recipe-scans, all-scans, all-visits}
+use Rattle.rules.proofs.Sizes.{sizes-kept, gain-range}
+use Rattle.rules.proofs.SoundJob.{sound, recipes-distinct, recipes-length, views-total}
+use Rattle.rules.proofs.Choice.{chosen-one}
+use Rattle.rules.proofs.MovesEnd.{Long, after-long, pass-free, pass-each, pass-end, frees-once, frees-few}
+use Rattle.rules.proofs.Steps.{after-snoc, cuts-at, gains-take, gains-length, cuts-length, ends-length}
+use Rattle.rules.proofs.Runs.{keeps-le, keeps-least, keeps-shortest, one, pass-falls, pass-to, pass-size, Passes, passes-come, come-first, come-next, come-less, come-few, come-turns, come-settled, come-full, come-each, come-last, come-some, turns-none, turns-cap}
+
+-- ---- an accepted job
+
+pub accepted : (most : Limits) (job : Job) (lent : Bool) → check most job lent .number ≡ 0 → Accepted most job
+unfolding check check7to9 check7 check8 check9 files
+accepted most job lent ok =
+    let a = passes-both (check1to6 most job lent) (check7to9 most job) ok in
+    let s = sound most job lent (a .0) in
+    let ratio = eqb (job .num) 0 || leb (job .den) (job .num) || ltb (most .den) (job .den) in
+    let none = eqb (count (λ f. eqb (getD (job .marks) f 0) 0) (upTo (fileCount job))) 0 in
+    let start = balanced job (sizeA job (job .sides)) in
+    let b = passes-both (refuseIf ratio 7 0) (refuseIf none 8 0 orElse refuseIf (not start) 9 0) (a .1) in
+    let c = passes-both (refuseIf none 8 0) (refuseIf (not start) 9 0) (b .1) in
+    let r = or-no (eqb (job .num) 0 || leb (job .den) (job .num)) (ltb (most .den) (job .den)) (not-refused ratio 6 0 (b .0)) in
+    let q = or-no (eqb (job .num) 0) (leb (job .den) (job .num)) (r .0) in
+    let z : job .num ≢ 0 = eqb-false (job .num) 0 (q .0) in
+    let t = count-some (λ f. eqb (getD (job .marks) f 0) 0) (fileCount job) (eqb-false (count (λ f. eqb (getD (job .marks) f 0) 0) (upTo (fileCount job))) 0 (not-refused none 7 0 (c .0))) in
+    record {
+      sound = s;
+      distinct = recipes-distinct most job s;
+      ratio = (omega arith, leb-false (job .den) (job .num) (q .1), ltb-false (most .den) (job .den) (r .1));
+      free = (t .0, t .1, eqb-true (getD (job .marks) (t .0) 0) 0 (t .2));
+      balanced = not-no start (not-refused (not start) 8 0 (c .1));
+    }
+
+-- ---- any moves of files then free
+
+module _ (most : Limits) (job : Job) (s : Sound most job) where
+  start-long : (sides : List ℕ) → Sides job sides → Long (fileCount job) (start job sides)
+  start-long sides w = record { sides = w .long; locks = s .marksLong }
+
+  pub moves-hold : (sides ms : List ℕ) → Sides job sides → Frees (start job sides) ms → MovesHold job sides ms
+  unfolding passOf cutAt
+  moves-hold sides ms w l =
+      let st : State = start job sides in
+      let rs : List (List ℕ) = recipes job in
+      let dis = recipes-distinct most job s in
+      let g : List ℤ = startGains rs (fileCount job) st in
+      let long : length g ≡ fileCount job = unfold gainsAfter in length-tabled _ (fileCount job) in
+      record {
+        fresh = λ k f h e.
+            ap (λ (x : List ℤ). getD x f (pos 0)) (replay-listed k rs st ms g)
+            ∙ gain-kept-at rs dis k st ms l (w .binary) g (start-fresh rs dis (fileCount job) st) f (rw (kept-length rs dis st (take k ms) g, long) h) e;
+        locked = λ k f h p e.
+            ap (λ (x : List ℤ). getD x f (pos 0)) (replay-listed (suc k) rs st ms g)
+            ∙ kept-more rs dis st ms l (w .binary) g k f h (rw long p) (omega (arith, e))
+            ∙ sym (ap (λ (x : List ℤ). getD x f (pos 0)) (replay-listed k rs st ms g));
+        gains =
+            replay-listed (length ms) rs st ms g
+            ∙ ap (λ (x : List ℕ). keptUp rs st x g) (take-length ms)
+            ∙ gains-kept rs dis (fileCount job) st ms l (w .binary);
+        all = unfold gainsAfter in length-tabled _ (fileCount job);
+        pinned = λ f h e. gains-pinned rs (fileCount job) st ms f h e;
+        range = λ k f. gain-range (stateAt job sides ms k .sides) rs f;
+        cuts = λ k. rw (gains-take rs k st ms) (cut-kept rs dis st (take k ms) (frees-take k l) (w .binary));
+        present = λ k h. cuts-at rs st ms k h;
+        sizes = λ k. sizes-kept job st (take k ms) (frees-take k l) (w .binary);
+        four = recipe-scans rs dis st ms l (w .binary);
+        scans = rw (← recipes-length most job s) (all-scans rs dis st ms l (w .binary));
+        visits = rw (← views-total most job s) (all-visits rs dis st ms l (w .binary) (views job) refl);
+        once = λ f. frees-once f l;
+        few = omega (arith, frees-few l, s .marksLong);
+        prefix = keeps-le rs st ms;
+        least = λ k h. keeps-least rs st ms k h;
+        shortest = λ k h. keeps-shortest rs st ms k h;
+        next = record {
+          long = after-long st (take (keeps rs st ms) ms) (start-long sides w) .sides;
+          binary = after-binary st (take (keeps rs st ms) ms) (frees-take (keeps rs st ms) l) (w .binary);
+        };
+      }
+
+  -- ---- what the lent lists then hold
+
+  pub left : (sides ms : List ℕ) (l : Lent) → fits job l ≡ true → MovesHold job sides ms → Left job l (passOf job sides ms)
+  unfolding leaves passOf
+  left sides ms l ok m =
+      let t8 = and-yes _ (leb (scratchFor job) (length (l .scratch))) ok in
+      let t7 = and-yes _ (leb (4 * recipeCount job) (length (l .kinds))) (t8 .0) in
+      let t6 = and-yes _ (leb (4 * recipeCount job) (length (l .recipes))) (t7 .0) in
+      let t5 = and-yes _ (leb (fileCount job) (length (l .ends))) (t6 .0) in
+      let t4 = and-yes _ (leb (fileCount job) (length (l .cuts))) (t5 .0) in
+      let t3 = and-yes _ (leb (fileCount job) (length (l .gained))) (t4 .0) in
+      let t2 = and-yes (eqb (length (l .gains)) (fileCount job)) (leb (fileCount job) (length (l .tried))) (t3 .0) in
+      record {
+        gains = refl;
+        tried = listed-holds (fileCount job) 0 ms (l .tried) (m .few) (leb-true (fileCount job) (length (l .tried)) (t2 .1));
+        gained = listed-holds (fileCount job) (pos 0) _ (l .gained) (rw (gains-length (recipes job) (start job sides) ms) (m .few)) (leb-true (fileCount job) (length (l .gained)) (t3 .1));
+        cuts = listed-holds (fileCount job) 0 _ (l .cuts) (rw (cuts-length (recipes job) (start job sides) ms) (m .few)) (leb-true (fileCount job) (length (l .cuts)) (t4 .1));
+        ends = listed-holds (fileCount job) 0 _ (l .ends) (rw (ends-length (recipes job) 0 (start job sides) ms) (m .few)) (leb-true (fileCount job) (length (l .ends)) (t5 .1));
+        recipes = listed-holds (4 * recipeCount job) 0 _ (l .recipes) (rw length-map (m .scans)) (leb-true (4 * recipeCount job) (length (l .recipes)) (t6 .1));
+        kinds = listed-holds (4 * recipeCount job) 0 _ (l .kinds) (rw length-map (m .scans)) (leb-true (4 * recipeCount job) (length (l .kinds)) (t7 .1));
+        scratch = listed-holds (scratchFor job) 0 [] (l .scratch) (omega arith) (leb-true (scratchFor job) (length (l .scratch)) (t8 .1));
+      }
+
+  -- ---- one pass
+
+  pub tries-free : (sides : List ℕ) → Sides job sides → Frees (start job sides) (tries job sides)
+  tries-free sides w = pass-free job (start job sides) (start-long sides w)
+
+  -- from a balanced start, after every move
+  keeps-balance : (sides : List ℕ) → Sides job sides → balanced job (sizeA job sides) ≡ true
+      → (k : ℕ) → balanced job (sizeA job (stateAt job sides (tries job sides) k .sides)) ≡ true
+  unfolding legal sizeAfter
+  keeps-balance sides w b zero = unfold stepsBy in b
+  keeps-balance sides w b (suc k) = elim (decLt k (length (tries job sides))) [
+    | yes h ↦
+        let ms : List ℕ = tries job sides in
+        let st : State = stateAt job sides ms k in
+        let f : ℕ = getD ms k 0 in
+        let c : Chosen job st f = pass-each job (start job sides) (start-long sides w) k h in
+        let e : stateAt job sides ms (suc k) ≡ moved st f
+        = ap (λ (l : List ℕ). after (start job sides) l) (take-suc ms k 0 h) ∙ after-snoc (start job sides) (take k ms) f in
+        ap (λ (x : State). balanced job (sizeA job (x .sides))) e ∙ and-yes (free st f) (balanced job (sizeA job (moved st f .sides))) (c .lawful) .1
+    | no n ↦
+        let ms : List ℕ = tries job sides in
+        let e : take (suc k) ms ≡ take k ms = take-all (suc k) ms (omega arith) ∙ sym (take-all k ms (omega arith)) in
+        ap (λ (l : List ℕ). balanced job (sizeA job (after (start job sides) l .sides))) e ∙ keeps-balance sides w b k
+  ]
+
+  pub pass-holds : (sides : List ℕ) → Sides job sides → PassHolds job sides
+  pass-holds sides w = record {
+    moves = moves-hold sides (tries job sides) w (tries-free sides w);
+    each = pass-each job (start job sides) (start-long sides w);
+    only = λ i f h c. chosen-one job (stateAt job sides (tries job sides) i) f (getD (tries job sides) i 0) c (pass-each job (start job sides) (start-long sides w) i h);
+    ended = rw (take-length (tries job sides)) (pass-end job (start job sides) (start-long sides w));
+    falls = pass-falls job (tries job) sides;
+    balance = keeps-balance sides w;
+    returns = λ b. unfold passOf in keeps-balance sides w b (keeps (recipes job) (start job sides) (tries job sides));
+  }
+
+  -- ---- a run
+
+  pub given-sides : Sides job (job .sides)
+  given-sides = record { long = s .sidesLong; binary = s .binary }
+
+  pub run-holds : RunHolds job
+  unfolding passes
+  run-holds =
+      let try : List ℕ → List ℕ = tries job in
+      let ps : List Pass = run job in
+      let came : Passes job try (mostPasses job) (job .sides) ps = passes-come job try (mostPasses job) (job .sides) in
+      let next : (sides : List ℕ) → Sides job sides → Sides job (one job try sides .sidesAfter) = λ sides w. pass-holds sides w .moves .next in
+      let turn : 1 ≤ mostPasses job = elim (ℕ-discrete (job .cap) 0) [
+        | yes e ↦ omega (arith, turns-none job e)
+        | no n ↦ omega (arith, turns-cap job n)
+      ] in
+      let some : 1 ≤ length ps = come-some job try came turn in
+      let last = come-last job try (Sides job) next came given-sides (one job try (job .sides)) (job .sides, given-sides, refl) in
+      record {
+        some = some;
+        first = λ d. come-first job try came d some;
+        each = λ d i h. come-next job try came d i h;
+        sides = λ d i h.
+            let t = come-each job try (Sides job) next came given-sides d i h in
+            rw (t .2) (next (t .0) (t .1));
+        lessened = λ d i h. come-less job try came d i h;
+        few = come-few job try came;
+        settled = λ e. come-settled job try came (one job try (job .sides)) (omega (arith, turns-none job e));
+        capped = λ n. omega (arith, come-turns job try came, turns-cap job n);
+        full = λ h. elim (ℕ-discrete (job .cap) 0) [
+          | yes e ↦ clash (sym (come-settled job try came (one job try (job .sides)) (omega (arith, turns-none job e))) ∙ h)
+          | no n ↦ come-full job try came (one job try (job .sides)) h ∙ turns-cap job n
+        ];
+        cut =
+            ap (λ (p : Pass). p .cutAfter) (last .2) ∙ sym (pass-to job try (last .0))
+            ∙ sym (ap (λ (p : Pass). cut (p .sidesAfter) (recipes job)) (last .2));
+        size =
+            ap (λ (p : Pass). p .sizeAfter) (last .2) ∙ pass-size job try (last .0)
+            ∙ sym (ap (λ (p : Pass). sizeA job (p .sidesAfter)) (last .2));
+        returns = λ b.
+            let t = come-last job try (λ sides. Sides job sides × (balanced job (sizeA job sides) ≡ true))
+            (λ sides w. (next sides (w .0), rw (← pass-size job try sides) (pass-holds sides (w .0) .returns (w .1))))
+            came (given-sides, b) (one job try (job .sides)) (job .sides, (given-sides, b), refl) in
+            ap (λ (p : Pass). balanced job (p .sizeAfter)) (t .2) ∙ pass-holds (t .0) (t .1 .0) .returns (t .1 .1);
+      }
+
+-- ---- the answers
+
+plain-check : (most : Limits) (job : Job) (lent : Bool) → Plain (check most job lent)
+unfolding check check7to9 check7 check8 check9
+plain-check most job lent =
+    plain-chain (check1to6 most job lent) (check7to9 most job)
+    (plain-chain (check7 most job) (check8 job orElse check9 job) (plain-chain (check8 job) (check9 job) (plain-if (not (balanced job (sizeA job (job .sides)))) 8 0)))
+
+plain-six : (most : Limits) (job : Job) (lent : Bool) → Plain (check1to6 most job lent)
+unfolding check1to6 check4to6 check6
+plain-six most job lent =
+    plain-chain (check1 job) (check2 most job orElse check3 job lent orElse check4to6 job)
+    (plain-chain (check2 most job) (check3 job lent orElse check4to6 job)
+    (plain-chain (check3 job lent) (check4to6 job)
+    (plain-chain (check4 job) (check5 job orElse check6 job)
+    (plain-chain (check5 job) (check6 job) (plain-if (someBelow (badFile job) (fileCount job)) 5 (lowest (badFile job) (fileCount job)))))))
+
+lent-fits : (most : Limits) (job : Job) (lent : Bool) → check most job lent .number ≡ 0 → lent ≡ true
+unfolding check check1to6 check3
+lent-fits most job lent ok =
+    let a = passes-both (check1to6 most job lent) (check7to9 most job) ok in
+    let b = passes-both (check1 job) (check2 most job orElse check3 job lent orElse check4to6 job) (a .0) in
+    let c = passes-both (check2 most job) (check3 job lent orElse check4to6 job) (b .1) in
+    let d = passes-both (check3 job lent) (check4to6 job) (c .1) in
+    let long = eqb (length (job .sides)) (fileCount job) && eqb (length (job .marks)) (fileCount job) in
+    and-yes long lent (not-no (long && lent) (not-refused (not (long && lent)) 2 0 (d .0))) .1
+
+pub answers : (most : Limits) (job : Job) (l : Lent) → Answers most job l
+unfolding passEnds runEnds measure
+answers most job l =
+    let v = check most job (fits job l) in
+    let u = check1to6 most job true in
+    record {
+      place = plain-check most job (fits job l);
+      fitting = lent-fits most job (fits job l);
+      passRefused = λ n. rw (ne-eqb (v .number) 0 n, passEnds) refl;
+      runRefused = λ n. rw (ne-eqb (v .number) 0 n, runEnds) refl;
+      passDone = λ e. rw (eq-eqb (v .number) 0 e, passEnds) (ap (λ (x : Verdict). leftBy job l (figuresOf x (pass job (job .sides)) (pass job (job .sides) ∷ [])) (pass job (job .sides))) (plain-check most job (fits job l) e));
+      runDone = λ e. rw (eq-eqb (v .number) 0 e, runEnds) (ap (λ (x : Verdict). leftBy job l (runFiguresOf x (pass job (job .sides)) (run job)) (lastOf (pass job (job .sides)) (run job))) (plain-check most job (fits job l) e));
+      measureRefused = λ n. rw (ne-eqb (u .number) 0 n, measure) refl;
+      measureDone = λ e. rw (eq-eqb (u .number) 0 e, measure) (ap (λ (x : Verdict). record { verdict = x; cut = cut (job .sides) (recipes job); size = sizeA job (job .sides) }) (plain-six most job true e));
+    }

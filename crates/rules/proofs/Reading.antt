@@ -1,0 +1,124 @@
+-- Reading: what a stored job that is let through has, and what a refusal leaves. Assumes nothing.
+use mathlib.Core.Path.{_≡_, refl, sym, ap, _∙_}
+use Prim.Native.Nat.{ℕ, suc, _+_, _*_, _/_, _%_, _<_}
+use mathlib.Core.Bool.{Bool, true, false, not, _&&_}
+use mathlib.Core.List.{List, map}
+use native.Mathlib.Decide.{decLt}
+use native.Mathlib.Omega.{arith}
+use native.Mathlib.Nat.{div-le-self, mod-le}
+use lib.Dec.{eqb, ltb}
+use lib.ListN.{length, getD, take, drop, length-take, List·getD-eq-default}
+use lib.Seq.{getD-take, getD-drop}
+use borrow.Author.Tests.{eq-eqb, ne-eqb}
+use Rattle.rules.specs.declared.Header.{Header}
+use Rattle.rules.specs.Lists.{upTo, allBelow}
+use Rattle.rules.specs.Job.{Job, Limits, TwoByte, fileCount, recipeCount, pinCount}
+use Rattle.rules.specs.Check.{refuseIf, _orElse_, check1Of, check2Of, check1, check2, check3, check4to6, check1to6, check}
+use Rattle.rules.specs.Stored.{value, headerOf, boundsAt, pinsAt, blockVerdict, jobOf, Room, roomy, layoutVerdict, readVerdict, reading}
+use Rattle.rules.specs.Theorems.{ReadHolds, Written}
+use Rattle.rules.proofs.Verdicts.{passes-both, both-pass, not-refused, chain-go}
+use Rattle.rules.proofs.Tests.{not-no}
+use Rattle.rules.proofs.Count.{length-tabled, getD-tabled}
+use Rattle.rules.proofs.Entries.{onto-length, onto-in, onto-stays}
+use Rattle.rules.proofs.SoundJob.{sound}
+
+module _ (bytes : List ℕ) where
+  read-files : fileCount (jobOf bytes) ≡ headerOf bytes .files
+  unfolding jobOf
+  read-files = length-tabled _ (headerOf bytes .files)
+
+  read-sides : length (jobOf bytes .sides) ≡ headerOf bytes .files
+  unfolding jobOf
+  read-sides = length-tabled _ (headerOf bytes .files)
+
+  read-marks : length (jobOf bytes .marks) ≡ headerOf bytes .files
+  unfolding jobOf
+  read-marks = length-tabled _ (headerOf bytes .files)
+
+  read-recipes : recipeCount (jobOf bytes) ≡ headerOf bytes .recipes
+  unfolding jobOf
+  read-recipes = omega (arith, length-tabled (λ i. value bytes (boundsAt (headerOf bytes) + i / 253) (i % 253)) (headerOf bytes .recipes + 1))
+
+  read-pins : pinCount (jobOf bytes) ≡ headerOf bytes .pins
+  unfolding jobOf
+  read-pins = length-tabled _ (headerOf bytes .pins)
+
+-- ---- a job that is read passes 1 to 6
+
+module _ (most : Limits) (bytes : List ℕ) (room : Room) (ok : readVerdict most bytes room .number ≡ 0) where
+  read-counts : (check1Of (headerOf bytes .files) (headerOf bytes .recipes) .number ≡ 0)
+      × (check2Of most (headerOf bytes .files) (headerOf bytes .recipes) (headerOf bytes .pins) .number ≡ 0)
+      × (check4to6 (jobOf bytes) .number ≡ 0)
+      × (roomy (headerOf bytes) room ≡ true)
+  unfolding readVerdict layoutVerdict
+  read-counts =
+      let h : Header = headerOf bytes in
+      let a = passes-both (layoutVerdict most bytes room) (check4to6 (jobOf bytes)) ok in
+      let b = passes-both (refuseIf (ltb (length bytes) 512) 20 0) _ (a .0) in
+      let c = passes-both (blockVerdict h bytes 0) _ (b .1) in
+      let d = passes-both (check1Of (h .files) (h .recipes)) _ (c .1) in
+      let e = passes-both (check2Of most (h .files) (h .recipes) (h .pins)) _ (d .1) in
+      let f = passes-both (refuseIf (not (roomy h room)) 3 0) _ (e .1) in
+      (d .0, e .0, a .1, not-no (roomy h room) (not-refused (not (roomy h room)) 2 0 (f .0)))
+
+  pub read-passes : check1to6 most (jobOf bytes) true .number ≡ 0
+  unfolding check1to6 check1 check2 check3
+  read-passes =
+      let job : Job = jobOf bytes in
+      let r = read-counts in
+      let long : (not (eqb (length (job .sides)) (fileCount job) && eqb (length (job .marks)) (fileCount job) && true)) ≡ false
+      = rw (eq-eqb (length (job .sides)) (fileCount job) (read-sides bytes ∙ sym (read-files bytes)), eq-eqb (length (job .marks)) (fileCount job) (read-marks bytes ∙ sym (read-files bytes))) refl in
+      both-pass (check1 job) (check2 most job orElse check3 job true orElse check4to6 job) (rw (read-files bytes, read-recipes bytes) (r .0))
+      (both-pass (check2 most job) (check3 job true orElse check4to6 job) (rw (read-files bytes, read-recipes bytes, read-pins bytes) (r .1))
+      (both-pass (check3 job true) (check4to6 job) (ap (λ (b : Bool). refuseIf b 3 0 .number) long) (r .2)))
+
+-- ---- bytes make two-byte numbers
+
+tabled-below : (h : ℕ → ℕ) (n m : ℕ) → ((i : ℕ) → h i < m) → allBelow m (map h (upTo n))
+tabled-below h n m below i l = rw (getD-tabled h n i 0 (rw (← length-tabled h n) l)) (below i)
+
+module _ (bytes : List ℕ) (small : allBelow 256 bytes) where
+  byte-small : (i : ℕ) → getD bytes i 0 < 256
+  byte-small i = elim (decLt i (length bytes)) [
+    | yes h ↦ small i h
+    | no n ↦ omega (arith, List·getD-eq-default bytes 0 {n = i} (omega arith))
+  ]
+
+  part-small : (n k i : ℕ) → getD (take n (drop k bytes)) i 0 < 256
+  part-small n k i = elim (decLt i n) [
+    | yes h ↦ rw (getD-take n (drop k bytes) i 0 h, getD-drop k bytes i 0) (byte-small (k + i))
+    | no z ↦ omega (arith, List·getD-eq-default (take n (drop k bytes)) 0 {n = i} (omega (arith, length-take n (drop k bytes))))
+  ]
+
+  pub value-small : (b v : ℕ) → value bytes b v < 65536
+  value-small b v = omega (arith, part-small 512 (512 * b) (4 + 2 * v), part-small 512 (512 * b) (suc (4 + 2 * v)))
+
+  read-small : TwoByte (jobOf bytes)
+  unfolding jobOf headerOf
+  read-small = record {
+    sizes = tabled-below _ _ 65536 (λ i. value-small (1 + i / 126) (2 * (i % 126)));
+    sides = tabled-below _ _ 65536 (λ i. omega (arith, mod-le (value bytes (1 + i / 126) (2 * (i % 126) + 1)) 2, value-small (1 + i / 126) (2 * (i % 126) + 1)));
+    marks = tabled-below _ _ 65536 (λ i. omega (arith, div-le-self (value bytes (1 + i / 126) (2 * (i % 126) + 1)) 2, value-small (1 + i / 126) (2 * (i % 126) + 1)));
+    bounds = tabled-below _ _ 65536 (λ i. value-small (boundsAt (headerOf bytes) + i / 253) (i % 253));
+    pins = tabled-below _ _ 65536 (λ i. value-small (pinsAt (headerOf bytes) + i / 253) (i % 253));
+    num = value-small 0 3;
+    den = value-small 0 4;
+    cap = value-small 0 5;
+  }
+
+pub read-holds : (most : Limits) (bytes : List ℕ) (room : Room) → ReadHolds most bytes room
+unfolding reading check
+read-holds most bytes room = record {
+  refused = λ n. rw (ne-eqb (readVerdict most bytes room .number) 0 n, reading) refl;
+  reads = λ e. rw (eq-eqb (readVerdict most bytes room .number) 0 e, reading) refl;
+  enough = λ e. read-counts most bytes room e .3;
+  files = read-files bytes;
+  recipes = read-recipes bytes;
+  pins = read-pins bytes;
+  sound = λ e. sound most (jobOf bytes) true (read-passes most bytes room e);
+  adds = λ e. sym (chain-go refl (read-passes most bytes room e) refl);
+  small = read-small bytes;
+}
+
+pub written-holds : (xs old : List ℕ) → Written xs old
+written-holds xs old = record { long = onto-length 0 xs old; holds = onto-in 0 xs old; stays = onto-stays 0 xs old }

@@ -1,0 +1,156 @@
+-- The prefix kept, and the passes of a run. Assumes nothing.
+use mathlib.Core.Path.{_≡_, refl, sym, ap, _∙_}
+use mathlib.Core.Logic.{_≢_}
+use Prim.Native.Nat.{ℕ, zero, suc, _≤_, _<_}
+use mathlib.Core.Bool.{Bool, true, false}
+use mathlib.Core.List.{List, [], _∷_}
+use native.Mathlib.Omega.{arith}
+use lib.ListN.{length, getD}
+use borrow.Author.Tests.{eqb-false, eq-eqb, ne-eqb}
+use Rattle.rules.specs.Job.{Job, recipes}
+use Rattle.rules.specs.Split.{cut, sizeA}
+use Rattle.rules.specs.Move.{stepsBy, State}
+use Rattle.rules.specs.Pass.{cutAt, keeps, Pass, passOf}
+use Rattle.rules.specs.Run.{settles, passesBy, mostPasses, lastOf}
+use Rattle.rules.proofs.Tests.{clash}
+use Rattle.rules.proofs.Searches.{best-le, best-least, best-shortest}
+
+-- ---- the prefix kept has the least cut of all prefixes, none included, and is the shortest such
+
+module _ (rs : List (List ℕ)) (st : State) (ms : List ℕ) where
+  pub keeps-le : keeps rs st ms ≤ length ms
+  unfolding keeps
+  keeps-le = best-le (cutAt rs st ms) (length ms)
+
+  pub keeps-least : (k : ℕ) → k ≤ length ms → cutAt rs st ms (keeps rs st ms) ≤ cutAt rs st ms k
+  unfolding keeps
+  keeps-least k h = best-least (cutAt rs st ms) (length ms) k h
+
+  pub keeps-shortest : (k : ℕ) → k < keeps rs st ms → cutAt rs st ms (keeps rs st ms) < cutAt rs st ms k
+  unfolding keeps
+  keeps-shortest k h = best-shortest (cutAt rs st ms) (length ms) k h
+
+-- ---- passes, whoever chooses the moves
+
+module _ (job : Job) (try : List ℕ → List ℕ) where
+  -- the pass from these sides
+  abbrev pub one : List ℕ → Pass
+  one sides = passOf job sides (try sides)
+
+  -- a pass never raises the cut, and the next starts where it ends
+  pub pass-falls : (sides : List ℕ) → one sides .cutAfter ≤ one sides .cutBefore
+  unfolding passOf cutAt stepsBy
+  pass-falls sides = keeps-least (recipes job) _ _ 0 (omega arith)
+
+  pub pass-from : (sides : List ℕ) → one sides .cutBefore ≡ cut sides (recipes job)
+  unfolding passOf
+  pass-from sides = refl
+
+  pub pass-to : (sides : List ℕ) → cut (one sides .sidesAfter) (recipes job) ≡ one sides .cutAfter
+  unfolding passOf
+  pass-to sides = refl
+
+  pub pass-size : (sides : List ℕ) → one sides .sizeAfter ≡ sizeA job (one sides .sidesAfter)
+  unfolding passOf
+  pass-size sides = refl
+
+  -- a pass that does not settle lessens the cut
+  pub lessens : (sides : List ℕ) → settles (one sides) ≡ false → one sides .cutAfter < one sides .cutBefore
+  lessens sides e =
+      let n : one sides .cutAfter ≢ one sides .cutBefore = eqb-false (one sides .cutAfter) (one sides .cutBefore) e in
+      omega (arith, pass-falls sides)
+
+  -- how a list of passes came about: no turn was left, or a pass settled, or one did not and others followed it
+  pub data Passes : ℕ → List ℕ → List Pass → Type 0 where
+    out : {sides : List ℕ} → Passes zero sides []
+    ended : {n : ℕ} {sides : List ℕ} → settles (one sides) ≡ true → Passes (suc n) sides (one sides ∷ [])
+    on : {n : ℕ} {sides : List ℕ} {ps : List Pass} → settles (one sides) ≡ false → Passes n (one sides .sidesAfter) ps → Passes (suc n) sides (one sides ∷ ps)
+
+  pub passes-come : (n : ℕ) (sides : List ℕ) → Passes n sides (passesBy job try n sides)
+  unfolding passesBy
+  passes-come zero sides = out
+  passes-come (suc n) sides = go (settles (one sides)) refl (passes-come n (one sides .sidesAfter))
+    where
+      go : (b : Bool) → settles (one sides) ≡ b → Passes n (one sides .sidesAfter) (passesBy job try n (one sides .sidesAfter))
+          → Passes (suc n) sides (passesBy job try (suc n) sides)
+      go true e rest = rw (e, passesBy) (ended e)
+      go false e rest = rw (e, passesBy) (on e rest)
+
+  -- the first is from the sides given, each other from the sides that the one before left
+  pub come-first : {n : ℕ} {sides : List ℕ} {ps : List Pass} → Passes n sides ps → (d : Pass) → 1 ≤ length ps → getD ps 0 d ≡ one sides
+  come-first out d h = absurd (omega arith)
+  come-first (ended e) d h = refl
+  come-first (on e rest) d h = refl
+
+  pub come-next : {n : ℕ} {sides : List ℕ} {ps : List Pass} → Passes n sides ps → (d : Pass) (i : ℕ) → suc i < length ps
+      → getD ps (suc i) d ≡ one (getD ps i d .sidesAfter)
+  come-next out d i h = absurd (omega arith)
+  come-next (ended e) d i h = absurd (omega arith)
+  come-next (on e rest) d zero h = come-first rest d (omega arith)
+  come-next (on e rest) d (suc i) h = come-next rest d i (omega arith)
+
+  -- each pass but the last lessened the cut
+  pub come-less : {n : ℕ} {sides : List ℕ} {ps : List Pass} → Passes n sides ps → (d : Pass) (i : ℕ) → suc i < length ps
+      → getD ps i d .cutAfter < getD ps i d .cutBefore
+  come-less out d i h = absurd (omega arith)
+  come-less (ended e) d i h = absurd (omega arith)
+  come-less (on {sides = s} e rest) d zero h = lessens s e
+  come-less (on e rest) d (suc i) h = come-less rest d i (omega arith)
+
+  -- at most one pass more than the starting cut, and no more than the turns
+  pub come-few : {n : ℕ} {sides : List ℕ} {ps : List Pass} → Passes n sides ps → length ps ≤ suc (cut sides (recipes job))
+  come-few out = omega arith
+  come-few (ended e) = omega arith
+  come-few (on {sides = s} e rest) = omega (arith, come-few rest, lessens s e, pass-from s, pass-to s)
+
+  pub come-turns : {n : ℕ} {sides : List ℕ} {ps : List Pass} → Passes n sides ps → length ps ≤ n
+  come-turns out = omega arith
+  come-turns (ended e) = omega arith
+  come-turns (on e rest) = omega (arith, come-turns rest)
+
+  -- with more turns than the cut, the last pass settles
+  pub come-settled : {n : ℕ} {sides : List ℕ} {ps : List Pass} → Passes n sides ps → (d : Pass) → cut sides (recipes job) < n → settles (lastOf d ps) ≡ true
+  unfolding lastOf
+  come-settled out d h = absurd (omega arith)
+  come-settled (ended e) d h = e
+  come-settled (on {sides = s} e rest) d h = come-settled rest (one s) (omega (arith, lessens s e, pass-from s, pass-to s))
+
+  -- if the last does not settle, every turn was taken
+  pub come-full : {n : ℕ} {sides : List ℕ} {ps : List Pass} → Passes n sides ps → (d : Pass) → settles (lastOf d ps) ≡ false → length ps ≡ n
+  unfolding lastOf
+  come-full out d h = refl
+  come-full (ended e) d h = clash (sym e ∙ h)
+  come-full (on {sides = s} e rest) d h = ap suc (come-full rest (one s) h)
+
+  -- what a pass hands on from sides to sides holds at each pass, and at the last
+  module _ {ℓ} (good : List ℕ → Type ℓ) (keep : (sides : List ℕ) → good sides → good (one sides .sidesAfter)) where
+    pub come-each : {n : ℕ} {sides : List ℕ} {ps : List Pass} → Passes n sides ps → good sides → (d : Pass) (i : ℕ) → i < length ps
+        → (before : List ℕ) × good before × (getD ps i d ≡ one before)
+    come-each out w d i h = absurd (omega arith)
+    come-each (ended {sides = s} e) w d zero h = (s, w, refl)
+    come-each (ended e) w d (suc i) h = absurd (omega arith)
+    come-each (on {sides = s} e rest) w d zero h = (s, w, refl)
+    come-each (on {sides = s} e rest) w d (suc i) h = come-each rest (keep s w) d i (omega arith)
+
+    pub come-last : {n : ℕ} {sides : List ℕ} {ps : List Pass} → Passes n sides ps → good sides → (d : Pass)
+        → ((before : List ℕ) × good before × (d ≡ one before)) → (before : List ℕ) × good before × (lastOf d ps ≡ one before)
+    unfolding lastOf
+    come-last out w d q = q
+    come-last (ended {sides = s} e) w d q = (s, w, refl)
+    come-last (on {sides = s} e rest) w d q = come-last rest (keep s w) (one s) (s, w, refl)
+
+-- ---- the turns of a run: the cap, or one more than the starting cut
+
+pub turns-none : (job : Job) → job .cap ≡ 0 → mostPasses job ≡ suc (cut (job .sides) (recipes job))
+unfolding mostPasses
+turns-none job e = rw (eq-eqb (job .cap) 0 e) refl
+
+pub turns-cap : (job : Job) → job .cap ≢ 0 → mostPasses job ≡ job .cap
+unfolding mostPasses
+turns-cap job n = rw (ne-eqb (job .cap) 0 n) refl
+
+-- a run with a turn makes a pass
+pub come-some : (job : Job) (try : List ℕ → List ℕ) {n : ℕ} {sides : List ℕ} {ps : List Pass} → Passes job try n sides ps → 1 ≤ n → 1 ≤ length ps
+come-some job try out h = absurd (omega arith)
+come-some job try (ended e) h = omega arith
+come-some job try (on e rest) h = omega arith

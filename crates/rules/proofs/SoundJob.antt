@@ -1,0 +1,193 @@
+-- A job that passes checks 1 to 6 is sound, so every law over recipes, sides and locks applies to it. Assumes nothing.
+use mathlib.Core.Path.{_≡_, refl, sym, ap, ap₂, _∙_}
+use mathlib.Core.Logic.{_≢_}
+use Prim.Native.Nat.{ℕ, zero, suc, _+_, _-_, _≤_, _<_}
+use mathlib.Core.Bool.{Bool, false, not, _&&_, _||_}
+use mathlib.Core.List.{List, [], map}
+use native.Mathlib.Decide.{decLt}
+use native.Mathlib.Omega.{arith}
+use lib.Dec.{eqb, leb, ltb}
+use lib.ListN.{length, getD, take, drop, length-take, length-drop, List·getD-eq-default}
+use lib.Seq.{getD-take, getD-drop}
+use borrow.Author.Tests.{ltb-false, leb-false, eqb-true, eqb-false, lt-ltb, le-leb}
+use Rattle.rules.specs.Lists.{total, count, upTo, lowest, someBelow}
+use Rattle.rules.specs.Job.{Job, Limits, fileCount, recipeCount, pinCount, bound, pin, viewOf, view, views, recipes}
+use Rattle.rules.specs.Split.{sizeOf, times}
+use Rattle.rules.specs.Check.{refuseIf, refuseAt, _orElse_, short, repeatsIn, badPin, badFile, check1, check2, check3, check4, check5, check6, check4to6, check1to6}
+use Rattle.rules.specs.Theorems.{Distinct, Sound}
+use Rattle.rules.proofs.Count.{total-map, total-upTo, getD-tabled, length-tabled, times-once}
+use Rattle.rules.proofs.Tests.{or-no, and-yes, and-no, not-no}
+use Rattle.rules.proofs.Searches.{none-below}
+use Rattle.rules.proofs.Verdicts.{passes-both, not-refused}
+
+small : (l : List ℕ) (n : ℕ) → length l ≡ n → ((i : ℕ) → i < n → getD l i 0 ≤ 1) → (i : ℕ) → getD l i 0 ≤ 1
+small l n e h i = elim (decLt i n) [
+  | yes p ↦ h i p
+  | no q ↦ omega (arith, List·getD-eq-default l 0 {n = i} (omega arith))
+]
+
+-- ---- each check, passed
+
+module _ (job : Job) where
+  ok1 : check1 job .number ≡ 0 → (1 ≤ fileCount job) × (1 ≤ recipeCount job)
+  unfolding check1
+  ok1 h =
+      let r = or-no (eqb (fileCount job) 0) (eqb (recipeCount job) 0) (not-refused (eqb (fileCount job) 0 || eqb (recipeCount job) 0) 0 0 h) in
+      let a : fileCount job ≢ 0 = eqb-false (fileCount job) 0 (r .0) in
+      let b : recipeCount job ≢ 0 = eqb-false (recipeCount job) 0 (r .1) in
+      (omega arith, omega arith)
+
+  ok2 : (most : Limits) → check2 most job .number ≡ 0 → (fileCount job ≤ (most .files)) × (recipeCount job ≤ (most .recipes)) × (pinCount job ≤ (most .pins))
+  unfolding check2
+  ok2 most h =
+      let a = ltb (most .files) (fileCount job) in
+      let b = ltb (most .recipes) (recipeCount job) in
+      let c = ltb (most .pins) (pinCount job) in
+      let r = or-no (a || b) c (not-refused (a || b || c) 1 0 h) in
+      let q = or-no a b (r .0) in
+      (ltb-false (most .files) (fileCount job) (q .0), ltb-false (most .recipes) (recipeCount job) (q .1), ltb-false (most .pins) (pinCount job) (r .1))
+
+  ok3 : (lent : Bool) → check3 job lent .number ≡ 0 → (length (job .sides) ≡ fileCount job) × (length (job .marks) ≡ fileCount job)
+  unfolding check3
+  ok3 lent h =
+      let a = eqb (length (job .sides)) (fileCount job) in
+      let b = eqb (length (job .marks)) (fileCount job) in
+      let r = and-yes (a && b) lent (not-no (a && b && lent) (not-refused (not (a && b && lent)) 2 0 h)) in
+      let q = and-yes a b (r .0) in
+      (eqb-true (length (job .sides)) (fileCount job) (q .0), eqb-true (length (job .marks)) (fileCount job) (q .1))
+
+  ok4 : check4 job .number ≡ 0
+      → (bound job 0 ≡ 0) × ((j : ℕ) → j < recipeCount job → 2 + bound job j ≤ bound job (suc j)) × (bound job (recipeCount job) ≡ pinCount job)
+  unfolding check4
+  ok4 h =
+      let n = recipeCount job in
+      let a = eqb (bound job 0) 0 in
+      let c = eqb (bound job n) (pinCount job) in
+      let r = passes-both (refuseIf (not a) 4 0) (refuseAt 4 (short job) n orElse refuseIf (not c) 4 n) h in
+      let q = passes-both (refuseAt 4 (short job) n) (refuseIf (not c) 4 n) (r .1) in (
+        eqb-true (bound job 0) 0 (not-no a (not-refused (not a) 3 0 (r .0))),
+        (λ j l. ltb-false (bound job (suc j)) (2 + bound job j) (none-below (short job) n (not-refused (someBelow (short job) n) 3 (lowest (short job) n) (q .0)) j l)),
+        eqb-true (bound job n) (pinCount job) (not-no c (not-refused (not c) 3 n (q .1))),
+      )
+
+  ok5 : check5 job .number ≡ 0
+      → ((k : ℕ) → k < pinCount job → pin job k < fileCount job)
+      × ((j i k : ℕ) → j < recipeCount job → bound job j ≤ i → i < k → k < bound job (suc j) → k < pinCount job → pin job i ≢ pin job k)
+  unfolding check5 badPin
+  ok5 h =
+      let fine : (k : ℕ) → k < pinCount job → badPin job k ≡ false
+      = none-below (badPin job) (pinCount job) (not-refused (someBelow (badPin job) (pinCount job)) 4 (lowest (badPin job) (pinCount job)) h) in
+      let parts : (k : ℕ) → k < pinCount job → (leb (fileCount job) (pin job k) ≡ false) × (someBelow (repeatsIn job k) (recipeCount job) ≡ false)
+      = λ k l. or-no (leb (fileCount job) (pin job k)) (someBelow (repeatsIn job k) (recipeCount job)) (fine k l) in (
+        (λ k l. leb-false (fileCount job) (pin job k) (parts k l .0)),
+        (λ j i k a b c d l.
+            let same : ℕ → Bool = λ i. leb (bound job j) i && eqb (pin job i) (pin job k) in
+            let r : repeatsIn job k j ≡ false = none-below (repeatsIn job k) (recipeCount job) (parts k l .1) j a in
+            let s = and-no (leb (bound job j) k && ltb k (bound job (suc j))) (someBelow same k) r
+            (ap₂ (λ (x y : Bool). x && y) (le-leb (bound job j) k (omega arith)) (lt-ltb k (bound job (suc j)) d)) in
+            let t = and-no (leb (bound job j) i) (eqb (pin job i) (pin job k)) (none-below same k s i c) (le-leb (bound job j) i b) in
+            eqb-false (pin job i) (pin job k) t),
+      )
+
+  ok6 : check6 job .number ≡ 0
+      → (f : ℕ) → f < fileCount job → (1 ≤ sizeOf job f) × (getD (job .sides) f 0 ≤ 1) × (getD (job .marks) f 0 ≤ 1)
+  unfolding check6
+  ok6 h f l =
+      let a = eqb (sizeOf job f) 0 in
+      let b = ltb 1 (getD (job .sides) f 0) in
+      let c = ltb 1 (getD (job .marks) f 0) in
+      let r = or-no (a || b) c (none-below (badFile job) (fileCount job) (not-refused (someBelow (badFile job) (fileCount job)) 5 (lowest (badFile job) (fileCount job)) h) f l) in
+      let q = or-no a b (r .0) in
+      let z : sizeOf job f ≢ 0 = eqb-false (sizeOf job f) 0 (q .0) in
+      (omega arith, ltb-false 1 (getD (job .sides) f 0) (q .1), ltb-false 1 (getD (job .marks) f 0) (r .1))
+
+-- a job for which the check gives none of 1 to 6
+pub sound : (most : Limits) (job : Job) (lent : Bool) → check1to6 most job lent .number ≡ 0 → Sound most job
+unfolding check1to6 check4to6
+sound most job lent ok =
+    let a = passes-both (check1 job) (check2 most job orElse check3 job lent orElse check4to6 job) ok in
+    let b = passes-both (check2 most job) (check3 job lent orElse check4to6 job) (a .1) in
+    let c = passes-both (check3 job lent) (check4to6 job) (b .1) in
+    let d = passes-both (check4 job) (check5 job orElse check6 job) (c .1) in
+    let e = passes-both (check5 job) (check6 job) (d .1) in
+    let r1 = ok1 job (a .0) in
+    let r2 = ok2 job most (b .0) in
+    let r3 = ok3 job lent (c .0) in
+    let r4 = ok4 job (d .0) in
+    let r5 = ok5 job (e .0) in
+    let r6 = ok6 job (e .1) in
+    record {
+      someFile = r1 .0;
+      someRecipe = r1 .1;
+      fewFiles = r2 .0;
+      fewRecipes = r2 .1;
+      fewPins = r2 .2;
+      sidesLong = r3 .0;
+      marksLong = r3 .1;
+      first = r4 .0;
+      two = r4 .1;
+      last = r4 .2;
+      pinsBelow = r5 .0;
+      apart = r5 .1;
+      sizes = λ f h. r6 f h .0;
+      binary = small (job .sides) (fileCount job) (r3 .0) (λ i h. r6 i h .1);
+      marks = small (job .marks) (fileCount job) (r3 .1) (λ i h. r6 i h .2);
+    }
+
+-- ---- what a sound job has
+
+module _ (most : Limits) (job : Job) (s : Sound most job) where
+  rises : (d j : ℕ) → j + d ≡ recipeCount job → bound job j ≤ bound job (recipeCount job)
+  rises zero j e = let q : j ≡ recipeCount job = omega arith in omega (arith, ap (bound job) q)
+  rises (suc d) j e = omega (arith, s .two j (omega arith), rises d (suc j) (omega arith))
+
+  pub bound-le : (j : ℕ) → j ≤ recipeCount job → bound job j ≤ pinCount job
+  bound-le j h = omega (arith, rises (recipeCount job - j) j (omega arith), s .last)
+
+  -- the view of a recipe that is there
+  pub view-is : (j : ℕ) → j < recipeCount job → view job j ≡ take (bound job (suc j) - bound job j) (drop (bound job j) (job .pins))
+  unfolding viewOf
+  view-is j h =
+      rw (lt-ltb (suc j) (length (job .bounds)) (omega arith), le-leb (bound job j) (bound job (suc j)) (omega (arith, s .two j h)), le-leb (bound job (suc j)) (pinCount job) (bound-le (suc j) h)) refl
+
+  pub view-length : (j : ℕ) → j < recipeCount job → length (view job j) ≡ bound job (suc j) - bound job j
+  view-length j h =
+      rw (view-is j h) (length-take (bound job (suc j) - bound job j) (drop (bound job j) (job .pins)) ∙ omega (arith, length-drop (bound job j) (job .pins), bound-le (suc j) h))
+
+  pub view-at : (j i : ℕ) → j < recipeCount job → i < length (view job j) → getD (view job j) i 0 ≡ pin job (bound job j + i)
+  view-at j i h l =
+      let k : i < bound job (suc j) - bound job j = rw (← view-length j h) l in
+      ap (λ r. getD r i 0) (view-is j h) ∙ getD-take (bound job (suc j) - bound job j) (drop (bound job j) (job .pins)) i 0 k ∙ getD-drop (bound job j) (job .pins) i 0
+
+  -- every pin of a recipe is a file
+  pub view-below : (j i : ℕ) → j < recipeCount job → i < length (view job j) → getD (view job j) i 0 < fileCount job
+  view-below j i h l = rw (view-at j i h l) (s .pinsBelow (bound job j + i) (omega (arith, view-length j h, bound-le (suc j) h)))
+
+  view-distinct : (j x : ℕ) → j < recipeCount job → times x (view job j) ≤ 1
+  view-distinct j x h =
+      times-once (view job j)
+      (λ a b p q e.
+      s .apart j (bound job j + a) (bound job j + b) h (omega arith) (omega arith) (omega (arith, view-length j h)) (omega (arith, view-length j h, bound-le (suc j) h))
+      (sym (view-at j a h (omega arith)) ∙ sym e ∙ view-at j b h q))
+      x
+
+  -- no recipe holds a file twice
+  pub recipes-distinct : Distinct (recipes job)
+  unfolding views
+  recipes-distinct j x = elim (decLt j (recipeCount job)) [
+    | yes p ↦ rw (getD-tabled (view job) (recipeCount job) j [] p) (view-distinct j x p)
+    | no q ↦ rw (List·getD-eq-default (map (view job) (upTo (recipeCount job))) [] {n = j} (rw (length-tabled (view job) (recipeCount job)) (omega arith))) (unfold times count total in omega arith)
+  ]
+
+  pub recipes-length : length (recipes job) ≡ recipeCount job
+  unfolding views
+  recipes-length = length-tabled (view job) (recipeCount job)
+
+  views-upTo : (n : ℕ) → n ≤ recipeCount job → total (λ j. length (view job j)) (upTo n) ≡ bound job n
+  views-upTo zero h = unfold upTo total in sym (s .first)
+  views-upTo (suc n) h = omega (arith, total-upTo (λ j. length (view job j)) n, views-upTo n (omega arith), view-length n h, s .two n h)
+
+  -- the recipes' lengths add up to P
+  pub views-total : total length (views job) ≡ pinCount job
+  unfolding views
+  views-total = total-map length (view job) (upTo (recipeCount job)) ∙ views-upTo (recipeCount job) (omega arith) ∙ s .last

@@ -1,0 +1,61 @@
+-- A chain of checks: the first refusal is the answer, and what a check that lets through tells. Assumes nothing.
+use mathlib.Core.Path.{_≡_, refl, sym, ap, _∙_}
+use mathlib.Core.Logic.{_≢_}
+use Prim.Native.Nat.{ℕ, suc, _<_}
+use mathlib.Core.Bool.{Bool, true, false, cond}
+use native.Mathlib.Omega.{arith}
+use lib.Dec.{eqb}
+use borrow.Author.Tests.{ltb-true, eqb-true, eqb-false, eq-eqb, ne-eqb}
+use Rattle.rules.specs.declared.Verdict.{Verdict}
+use Rattle.rules.specs.Lists.{lowest, someBelow}
+use Rattle.rules.specs.Check.{done, refuseIf, _orElse_}
+use Rattle.rules.specs.Theorems.{AtLowest}
+use Rattle.rules.proofs.Searches.{none-below, lowest-passes, below-lowest}
+
+-- a is what the check v answered: the chain stops at it, or goes on
+pub chain-stop : {a v : Verdict} (w : Verdict) → a ≡ v → (a .number ≡ 0 → ⊥) → a ≡ (v orElse w)
+chain-stop {a} {v} w e h = e ∙ simp (ne-eqb (v .number) 0 (λ z. h (ap (λ (y : Verdict). y .number) e ∙ z)))
+
+pub zero-of : {a v : Verdict} → a ≡ v → a .number ≡ 0 → v .number ≡ 0
+zero-of e z = sym (ap (λ (y : Verdict). y .number) e) ∙ z
+
+pub chain-go : {a v w r : Verdict} → a ≡ v → a .number ≡ 0 → r ≡ w → r ≡ (v orElse w)
+chain-go {a} {v} e z r = r ∙ simp (eq-eqb (v .number) 0 (zero-of e z))
+
+pub passes-both : (v w : Verdict) → (v orElse w) .number ≡ 0 → (v .number ≡ 0) × (w .number ≡ 0)
+passes-both v w h = go (eqb (v .number) 0) refl h
+  where
+    go : (b : Bool) → eqb (v .number) 0 ≡ b → cond b w v .number ≡ 0 → (v .number ≡ 0) × (w .number ≡ 0)
+    go true e k = (eqb-true (v .number) 0 e, k)
+    go false e k = absurd (eqb-false (v .number) 0 e k)
+
+pub both-pass : (v w : Verdict) → v .number ≡ 0 → w .number ≡ 0 → (v orElse w) .number ≡ 0
+both-pass v w a b = rw (eq-eqb (v .number) 0 a) b
+
+pub not-refused : (b : Bool) (n p : ℕ) → refuseIf b (suc n) p .number ≡ 0 → b ≡ false
+not-refused true n p h = absurd (omega arith)
+not-refused false n p h = refl
+
+-- a verdict that lets through is plain: its place is 0 too
+abbrev pub Plain : Verdict → Type 0
+Plain v = v .number ≡ 0 → v ≡ done
+
+pub plain-if : (b : Bool) (n p : ℕ) → Plain (refuseIf b (suc n) p)
+plain-if true n p h = absurd (omega arith)
+plain-if false n p h = refl
+
+pub plain-chain : (v w : Verdict) → Plain w → Plain (v orElse w)
+plain-chain v w p h = let r = passes-both v w h in rw (eq-eqb (v .number) 0 (r .0)) (p (r .1))
+
+-- a number with a place
+pub at-lowest : (k : ℕ) (test : ℕ → Bool) (n : ℕ) → AtLowest (suc k) test n
+at-lowest k test n = record {
+  given = λ h. go (someBelow test n) refl h;
+  ungiven = λ h. none-below test n (not-refused (someBelow test n) k (lowest test n) h);
+}
+  where
+    go : (b : Bool) → someBelow test n ≡ b → refuseIf b (suc k) (lowest test n) .number ≢ 0
+        → (refuseIf b (suc k) (lowest test n) .number ≡ suc k) × (refuseIf b (suc k) (lowest test n) .place < n)
+        × (test (refuseIf b (suc k) (lowest test n) .place) ≡ true) × ((i : ℕ) → i < refuseIf b (suc k) (lowest test n) .place → test i ≡ false)
+    go true e h = let l = ltb-true (lowest test n) n e in (refl, l, lowest-passes test n l, below-lowest test n)
+    go false e h = absurd (h refl)

@@ -1,0 +1,130 @@
+-- Document 01, "Numbers for no": the check of a job, 1 to 9 in their order, each with its place. Assumes nothing.
+use Prim.Native.Nat.{ℕ, suc, _+_}
+use mathlib.Core.Bool.{Bool, true, false, not, cond, _&&_, _||_}
+use lib.ListN.{length, getD}
+use lib.Dec.{leb, ltb, eqb}
+use Rattle.rules.specs.declared.Verdict.{Verdict}
+use Rattle.rules.specs.declared.Measure.{Measure}
+use Rattle.rules.specs.Lists.{count, lowest, someBelow}
+use Rattle.rules.specs.Job.{Job, Limits, fileCount, recipeCount, pinCount, bound, pin, files, recipes}
+use Rattle.rules.specs.Split.{sizeOf, sizeA, balanced, cut}
+
+-- number 0, place 0
+abbrev pub done : Verdict
+done = record { number = 0; place = 0 }
+
+abbrev pub isDone : Verdict → Bool
+isDone v = eqb (v .number) 0
+
+-- refused with number n and place p, if the test passes
+abbrev pub refuseIf : Bool → ℕ → ℕ → Verdict
+refuseIf true n p = record { number = n; place = p }
+refuseIf false n p = done
+
+-- refused with number k, at the lowest i below n that passes the test
+abbrev pub refuseAt : ℕ → (ℕ → Bool) → ℕ → Verdict
+refuseAt k p n = refuseIf (someBelow p n) k (lowest p n)
+
+-- the first that applies is the answer
+infixr 20 _orElse_
+abbrev pub _orElse_ : Verdict → Verdict → Verdict
+v orElse w = cond (isDone v) w v
+
+-- ---- 1 and 2, of a job's counts and of a stored job's header
+
+-- C or N is 0
+abbrev pub check1Of : ℕ → ℕ → Verdict
+check1Of c n = refuseIf (eqb c 0 || eqb n 0) 1 0
+
+-- C, N or P over its most
+abbrev pub check2Of : Limits → ℕ → ℕ → ℕ → Verdict
+check2Of most c n p = refuseIf (ltb (most .files) c || ltb (most .recipes) n || ltb (most .pins) p) 2 0
+
+unfoldable pub check1 : Job → Verdict
+check1 job = check1Of (fileCount job) (recipeCount job)
+
+unfoldable pub check2 : Limits → Job → Verdict
+check2 most job = check2Of most (fileCount job) (recipeCount job) (pinCount job)
+
+-- ---- 3: sides or marks not C long, or a lent list of wrong length; `lent` says that those are right
+
+unfoldable pub check3 : Job → Bool → Verdict
+check3 job lent =
+    refuseIf (not (eqb (length (job .sides)) (fileCount job) && eqb (length (job .marks)) (fileCount job) && lent)) 3 0
+
+-- ---- 4: first bound not 0; then a recipe j with fewer than two pins; then last bound not P
+
+-- its bound j + 1 is less than 2 plus its bound j
+abbrev pub short : Job → ℕ → Bool
+short job j = ltb (bound job (suc j)) (2 + bound job j)
+
+unfoldable pub check4 : Job → Verdict
+check4 job =
+    refuseIf (not (eqb (bound job 0) 0)) 4 0
+    orElse refuseAt 4 (short job) (recipeCount job)
+    orElse refuseIf (not (eqb (bound job (recipeCount job)) (pinCount job))) 4 (recipeCount job)
+
+-- ---- 5: a pin is C or more, or repeats an earlier pin of its recipe
+
+-- the pin at position k repeats an earlier pin of recipe j
+abbrev pub repeatsIn : Job → ℕ → ℕ → Bool
+repeatsIn job k j =
+    leb (bound job j) k && ltb k (bound job (suc j))
+    && someBelow (λ i. leb (bound job j) i && eqb (pin job i) (pin job k)) k
+
+unfoldable pub badPin : Job → ℕ → Bool
+badPin job k = leb (fileCount job) (pin job k) || someBelow (repeatsIn job k) (recipeCount job)
+
+unfoldable pub check5 : Job → Verdict
+check5 job = refuseAt 5 (badPin job) (pinCount job)
+
+-- ---- 6: size 0, side over 1 or mark over 1
+
+abbrev pub badFile : Job → ℕ → Bool
+badFile job f = eqb (sizeOf job f) 0 || ltb 1 (getD (job .sides) f 0) || ltb 1 (getD (job .marks) f 0)
+
+unfoldable pub check6 : Job → Verdict
+check6 job = refuseAt 6 (badFile job) (fileCount job)
+
+-- ---- 7: num 0, num not below den, or den over its most
+
+unfoldable pub check7 : Limits → Job → Verdict
+check7 most job = refuseIf (eqb (job .num) 0 || leb (job .den) (job .num) || ltb (most .den) (job .den)) 7 0
+
+-- ---- 8: no file is free
+
+unfoldable pub check8 : Job → Verdict
+check8 job = refuseIf (eqb (count (λ f. eqb (getD (job .marks) f 0) 0) (files job)) 0) 8 0
+
+-- ---- 9: the start is not balanced
+
+unfoldable pub check9 : Job → Verdict
+check9 job = refuseIf (not (balanced job (sizeA job (job .sides)))) 9 0
+
+-- ---- in the order 1 to 9
+
+unfoldable pub check4to6 : Job → Verdict
+check4to6 job = check4 job orElse check5 job orElse check6 job
+
+unfoldable pub check7to9 : Limits → Job → Verdict
+check7to9 most job = check7 most job orElse check8 job orElse check9 job
+
+unfoldable pub check1to6 : Limits → Job → Bool → Verdict
+check1to6 most job lent = check1 job orElse check2 most job orElse check3 job lent orElse check4to6 job
+
+-- a pass and a run give 1 to 9; the check of a job, as a call of its own, the same with nothing lent
+unfoldable pub check : Limits → Job → Bool → Verdict
+check most job lent = check1to6 most job lent orElse check7to9 most job
+
+abbrev pub checkJob : Limits → Job → Verdict
+checkJob most job = check most job true
+
+-- ---- the measure: 1 to 6, else the cut and |A|, nothing moved
+
+unfoldable pub measure : Limits → Job → Measure
+measure most job =
+    let v = check1to6 most job true in
+    elim (isDone v) [
+      | true ↦ record { verdict = v; cut = cut (job .sides) (recipes job); size = sizeA job (job .sides) }
+      | false ↦ record { verdict = v; cut = 0; size = 0 }
+    ]

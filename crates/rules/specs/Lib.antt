@@ -1,0 +1,11 @@
+pub mod Lists
+pub mod Job
+pub mod Check
+pub mod Split
+pub mod Move
+pub mod Pass
+pub mod Run
+pub mod Stored
+pub mod Report
+pub mod Marked
+pub mod Theorems

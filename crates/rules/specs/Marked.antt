@@ -1,0 +1,103 @@
+-- Document 01's marked table, m1 to m9, as one statement about the definitions. Assumes nothing.
+use Prim.Native.Nat.{ℕ, _≤_}
+use mathlib.Core.Path.{_≡_, refl}
+use mathlib.Core.Bool.{true, false}
+use mathlib.Core.List.{List, [], _∷_, map}
+use lib.ListN.{length, take, set, replicate}
+use lib.IntN.{pos, negsuc}
+use borrow.Author.Tests.{le-ltb}
+use Rattle.rules.specs.Lists.{total, count, largest, upTo, lowest, bestUpTo, diff}
+use Rattle.rules.specs.Job.{Job, Limits, viewOf, files, views, recipes}
+use Rattle.rules.specs.Split.{countOn, isCut, cut, times, alone, together, gain, weight, smax, sizeOn, balanced}
+use Rattle.rules.specs.Check.{done, check1, check2, check3, check4, badPin, check5, check6, check7, check8, check9, check4to6, check7to9, check1to6, check, checkJob}
+use Rattle.rules.specs.Move.{State, start, moved, stepsBy, after, sizeAfter, legal, distAfter, challenge, firstBelow, choose, movesBy, moves, fileOn, kindsIn, kindsOf, scansFrom, scans, endsFrom, visits}
+use Rattle.rules.specs.Pass.{gainsWhen, cutsAfter, cutAt, keeps, standing, gainsAfter, Pass, passOf, pass}
+use Rattle.rules.specs.Run.{passesBy, mostPasses, passes, run, lastOf, figuresOf, runFiguresOf}
+use Rattle.rules.specs.Stored.{weigh, blockCheck, headerOf, laidOut, blockVerdict, blocksVerdict, jobOf, Room, layoutVerdict, readVerdict}
+use Rattle.rules.specs.Report.{text, digitsIn, spaced, line, refusal, figureLines, report, reportOf, prints}
+
+-- files of size 1, ratio 1/2, none pinned, cap 0
+abbrev pub small : List ℕ → List ℕ → List ℕ → Job
+small sides bounds pins = record {
+  sizes = replicate (length sides) 1;
+  sides = sides;
+  marks = replicate (length sides) 0;
+  bounds = bounds;
+  pins = pins;
+  num = 1;
+  den = 2;
+  cap = 0;
+}
+
+-- recipes {0,1}, {2,3}, {1,2}; sides A, B, A, B
+abbrev pub chain : Job
+chain = small (0 ∷ 1 ∷ 0 ∷ 1 ∷ []) (0 ∷ 2 ∷ 4 ∷ 6 ∷ []) (0 ∷ 1 ∷ 2 ∷ 3 ∷ 1 ∷ 2 ∷ [])
+
+-- one recipe {0,1}, sides A, B
+abbrev pub pair : Job
+pair = small (0 ∷ 1 ∷ []) (0 ∷ 2 ∷ []) (0 ∷ 1 ∷ [])
+
+-- recipe {0,1,2}, files 0 and 1 in A, 2 in B
+abbrev pub triple : Job
+triple = small (0 ∷ 0 ∷ 1 ∷ []) (0 ∷ 3 ∷ []) (0 ∷ 1 ∷ 2 ∷ [])
+
+abbrev pub begin : Job → State
+begin job = start job (job .sides)
+
+-- the scan kinds of a move sequence that no pass chose
+abbrev pub given : Job → List ℕ → List ℕ
+given job ms = map (λ s. s .kind) (scans (recipes job) (begin job) ms)
+
+-- what the table says of one pass: moves, cuts after, scans, visits, kept
+abbrev pub said : Pass → List ℕ × List ℕ × ℕ × ℕ × ℕ
+said p = (p .tried, p .cuts, length (p .scanned), p .visited, p .kept)
+
+pub record Marked : Type 0 where
+  -- the chain: a job, under any limits that are wide enough for it; its passes; its gain list at the end; what the program prints
+  pub m1·check : (most : Limits) → 4 ≤ most .files → 3 ≤ most .recipes → 6 ≤ most .pins → 2 ≤ most .den → checkJob most chain ≡ done
+  pub m1·passes :
+      map said (run chain) ≡
+      (1 ∷ 2 ∷ 0 ∷ 3 ∷ [], 1 ∷ 1 ∷ 2 ∷ 3 ∷ [], 9, 18, 1) ∷ (2 ∷ 1 ∷ 3 ∷ 0 ∷ [], 1 ∷ 1 ∷ 2 ∷ 1 ∷ [], 9, 18, 0) ∷ []
+  pub m1·gains : lastOf (pass chain (chain .sides)) (run chain) .gains ≡ pos 1 ∷ pos 0 ∷ pos 0 ∷ negsuc 0 ∷ []
+  pub m1·prints : reportOf chain ≡ text "done\ncut 3 1\nsize 3 1\npasses 2\nsettled yes\nkept 1\nvisits 36\nsides AAAB\n"
+  -- its starting gains
+  pub m2 : map (gain (chain .sides) (recipes chain)) (files chain) ≡ pos 1 ∷ pos 2 ∷ pos 2 ∷ pos 1 ∷ []
+  -- after its first move the free files 0, 2, 3 have gains -1, 0, 1
+  pub m3 : map (gain (after (begin chain) (1 ∷ []) .sides) (recipes chain)) (0 ∷ 2 ∷ 3 ∷ []) ≡ negsuc 0 ∷ pos 0 ∷ pos 1 ∷ []
+  -- in it |A| of 1 and 3 is balanced, 0 and 4 not
+  pub m4 : map (balanced chain) (0 ∷ 1 ∷ 3 ∷ 4 ∷ []) ≡ false ∷ true ∷ true ∷ false ∷ []
+  -- file 0 moves, cut 0, two passes, 12 visits
+  pub m5·moves : map (λ p. take (p .kept) (p .tried)) (run pair) ≡ (0 ∷ []) ∷ [] ∷ []
+  pub m5·prints : reportOf pair ≡ text "done\ncut 1 0\nsize 0 2\npasses 2\nsettled yes\nkept 1\nvisits 12\nsides BB\n"
+  -- the move sequence 0, 1, 2, given and not chosen by a pass, gives scan kinds 2, 4, 3, 1, so 12 visits and the bound met
+  pub m6·kinds : given triple (0 ∷ 1 ∷ 2 ∷ []) ≡ 2 ∷ 4 ∷ 3 ∷ 1 ∷ []
+  pub m6·visits : visits (views triple) (scans (recipes triple) (begin triple) (0 ∷ 1 ∷ 2 ∷ [])) ≡ 12
+  -- "Errors to catch": in its recipe the moves 0, 2, 1 give three and not five
+  pub m6·three : given triple (0 ∷ 2 ∷ 1 ∷ []) ≡ 2 ∷ 4 ∷ 2 ∷ []
+  -- 510 zero bytes have check 21,845; only byte 509 set, to 255: 20,823
+  pub m7 : blockCheck (replicate 510 0) ≡ 21845
+  pub m8 : blockCheck (set (replicate 510 0) 509 255) ≡ 20823
+  -- a 512-byte file of zeros is refused 21, under any limits: by reading, whatever is lent, and so by the program
+  pub m9·reads : (most : Limits) (room : Room) → readVerdict most (replicate 512 0) room ≡ record { number = 21; place = 0 }
+  pub m9·prints : (most : Limits) → prints most (replicate 512 0) ≡ text "refused 21 0\n"
+
+pub marked : Marked
+unfolding total count largest upTo lowest bestUpTo diff viewOf files views countOn isCut cut times alone together gain weight smax sizeOn balanced check1 check2 check3 check4 badPin check5 check6 check7 check8 check9 check4to6 check7to9 check1to6 check moved stepsBy sizeAfter legal distAfter challenge firstBelow choose movesBy moves fileOn kindsIn kindsOf scansFrom scans endsFrom visits gainsWhen cutsAfter cutAt keeps standing gainsAfter passOf passesBy mostPasses passes lastOf figuresOf runFiguresOf weigh blockCheck headerOf laidOut blockVerdict blocksVerdict jobOf layoutVerdict readVerdict text digitsIn spaced line refusal figureLines report prints
+marked = record {
+  m1·check = λ m f r p d. rw (le-ltb (m .files) 4 f, le-ltb (m .recipes) 3 r, le-ltb (m .pins) 6 p, le-ltb (m .den) 2 d) refl;
+  m1·passes = refl;
+  m1·gains = refl;
+  m1·prints = refl;
+  m2 = refl;
+  m3 = refl;
+  m4 = refl;
+  m5·moves = refl;
+  m5·prints = refl;
+  m6·kinds = refl;
+  m6·visits = refl;
+  m6·three = refl;
+  m7 = refl;
+  m8 = refl;
+  m9·reads = λ most room. refl;
+  m9·prints = λ most. refl;
+}

@@ -1,0 +1,111 @@
+-- Document 01, "A run", and what a pass and a run answer and leave behind, refused or not. Assumes nothing.
+use Prim.Native.Nat.{ℕ, zero, suc}
+use mathlib.Core.Bool.{Bool, true, false, cond}
+use mathlib.Core.List.{List, [], _∷_}
+use lib.ListN.{length}
+use lib.Dec.{eqb}
+use Rattle.rules.specs.declared.Verdict.{Verdict}
+use Rattle.rules.specs.declared.Figures.{Figures}
+use Rattle.rules.specs.declared.RunFigures.{RunFigures}
+use Rattle.rules.specs.Lists.{total}
+use Rattle.rules.specs.Job.{Job, Limits, recipes, Lent, fits}
+use Rattle.rules.specs.Split.{cut}
+use Rattle.rules.specs.Check.{isDone, check}
+use Rattle.rules.specs.Pass.{Pass, passOf, tries, pass, leaves}
+
+-- ---- the passes
+
+-- a pass left the cut equal
+abbrev pub settles : Pass → Bool
+settles p = eqb (p .cutAfter) (p .cutBefore)
+
+-- passes follow one another until one leaves the cut equal, at most n of them; `try` says what moves a pass tries
+unfoldable pub passesBy : Job → (List ℕ → List ℕ) → ℕ → List ℕ → List Pass
+passesBy job try zero sides = []
+passesBy job try (suc n) sides =
+    let p = passOf job sides (try sides) in
+    p ∷ elim (settles p) [ true ↦ [] | false ↦ passesBy job try n (p .sidesAfter) ]
+
+-- the cap; with none, each pass that goes on lessens the cut, so one more than the starting cut is enough
+unfoldable pub mostPasses : Job → ℕ
+mostPasses job = cond (eqb (job .cap) 0) (suc (cut (job .sides) (recipes job))) (job .cap)
+
+unfoldable pub passes : Job → (List ℕ → List ℕ) → List Pass
+passes job try = passesBy job try (mostPasses job) (job .sides)
+
+-- the passes of a run
+abbrev pub run : Job → List Pass
+run job = passes job (tries job)
+
+-- the last of the passes that begin with `first`
+unfoldable pub lastOf : Pass → List Pass → Pass
+lastOf first [] = first
+lastOf first (p ∷ ps) = lastOf p ps
+
+-- ---- the answers
+
+-- counts are sums over the passes; the cut before is the first pass's; the cut and |A| after are the last pass's
+unfoldable pub figuresOf : Verdict → Pass → List Pass → Figures
+figuresOf v first ps =
+    let l = lastOf first ps in
+    record {
+      verdict = v;
+      before = first .cutBefore;
+      cut = l .cutAfter;
+      size = l .sizeAfter;
+      tried = total (λ p. length (p .tried)) ps;
+      kept = total (λ p. p .kept) ps;
+      scans = total (λ p. length (p .scanned)) ps;
+      visits = total (λ p. p .visited) ps;
+    }
+
+-- the number of passes; settled is yes exactly if the last pass left the cut equal
+unfoldable pub runFiguresOf : Verdict → Pass → List Pass → RunFigures
+runFiguresOf v first ps = record { figures = figuresOf v first ps; passes = length ps; settled = settles (lastOf first ps) }
+
+-- all other numbers of a refused answer are 0
+abbrev pub noFigures : Verdict → Figures
+noFigures v = record {
+  verdict = v;
+  before = 0;
+  cut = 0;
+  size = 0;
+  tried = 0;
+  kept = 0;
+  scans = 0;
+  visits = 0;
+}
+
+abbrev pub noRunFigures : Verdict → RunFigures
+noRunFigures v = record { figures = noFigures v; passes = 0; settled = false }
+
+-- ---- what a call answers, and what the sides and the other lent lists then hold
+
+pub record Ended (A : Type 0) : Type 0 where
+  pub answer : A
+  pub sides : List ℕ
+  pub lent : Lent
+
+-- the lists are the last pass's
+abbrev pub leftBy : {A : Type 0} → Job → Lent → A → Pass → Ended A
+leftBy job l a p = record { answer = a; sides = p .sidesAfter; lent = leaves job l p }
+
+-- no lent list changes
+abbrev pub unchanged : {A : Type 0} → Job → Lent → A → Ended A
+unchanged job l a = record { answer = a; sides = job .sides; lent = l }
+
+-- a pass is a run of one
+unfoldable pub passEnds : Limits → Job → Lent → Ended Figures
+passEnds most job l =
+    let v = check most job (fits job l) in
+    let p = pass job (job .sides) in
+    elim (isDone v) [ true ↦ leftBy job l (figuresOf v p (p ∷ [])) p | false ↦ unchanged job l (noFigures v) ]
+
+unfoldable pub runEnds : Limits → Job → Lent → Ended RunFigures
+runEnds most job l =
+    let v = check most job (fits job l) in
+    let first = pass job (job .sides) in
+    elim (isDone v) [
+      | true ↦ leftBy job l (runFiguresOf v first (run job)) (lastOf first (run job))
+      | false ↦ unchanged job l (noRunFigures v)
+    ]

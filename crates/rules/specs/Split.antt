@@ -1,0 +1,82 @@
+-- Document 01, "Gain, cut, balance". `rs` is a list of recipes, each a list of files. Assumes nothing.
+use Prim.Native.Nat.{ℕ, _+_, _-_, _*_}
+use mathlib.Core.Bool.{Bool, _&&_}
+use mathlib.Core.List.{List}
+use lib.ListN.{getD}
+use lib.Dec.{leb, ltb, eqb}
+use lib.IntN.{ℤ}
+use Rattle.rules.specs.Lists.{bit, total, count, largest, diff}
+use Rattle.rules.specs.Job.{Job, files}
+
+-- vault A is 0, vault B is 1
+abbrev pub other : ℕ → ℕ
+other u = 1 - u
+
+abbrev pub sideOf : List ℕ → ℕ → ℕ
+sideOf sides f = getD sides f 0
+
+abbrev pub onSide : List ℕ → ℕ → ℕ → Bool
+onSide sides u f = eqb (sideOf sides f) u
+
+-- how many files of r are on side u
+unfoldable pub countOn : List ℕ → ℕ → List ℕ → ℕ
+countOn sides u r = count (onSide sides u) r
+
+-- a recipe is cut if it has files in both vaults
+unfoldable pub isCut : List ℕ → List ℕ → Bool
+isCut sides r = ltb 0 (countOn sides 0 r) && ltb 0 (countOn sides 1 r)
+
+-- the cut is the number of cut recipes
+unfoldable pub cut : List ℕ → List (List ℕ) → ℕ
+cut sides rs = count (isCut sides) rs
+
+-- how often r holds f
+unfoldable pub times : ℕ → List ℕ → ℕ
+times f r = count (λ x. eqb x f) r
+
+abbrev pub holds : List ℕ → ℕ → Bool
+holds r f = ltb 0 (times f r)
+
+-- p, the number of recipes of f
+abbrev pub recipesWith : List (List ℕ) → ℕ → ℕ
+recipesWith rs f = count (λ r. holds r f) rs
+
+-- r is a recipe of f where it is alone on its side
+unfoldable pub alone : List ℕ → ℕ → List ℕ → Bool
+alone sides f r = holds r f && eqb (countOn sides (sideOf sides f) r) 1
+
+-- r is a recipe of f with no file on the other side
+unfoldable pub together : List ℕ → ℕ → List ℕ → Bool
+together sides f r = holds r f && eqb (countOn sides (other (sideOf sides f)) r) 0
+
+-- the count of its recipes where it is alone on its side, less the count of those with no file on the other side
+unfoldable pub gain : List ℕ → List (List ℕ) → ℕ → ℤ
+gain sides rs f = diff (count (alone sides f) rs) (count (together sides f) rs)
+
+-- ---- balance
+
+abbrev pub sizeOf : Job → ℕ → ℕ
+sizeOf job f = getD (job .sizes) f 0
+
+-- W, the sum of all sizes
+unfoldable pub weight : Job → ℕ
+weight job = total (sizeOf job) (files job)
+
+-- the largest size in the job
+unfoldable pub smax : Job → ℕ
+smax job = largest (sizeOf job) (files job)
+
+-- the sum on side u; |A| is that of side 0
+unfoldable pub sizeOn : Job → ℕ → List ℕ → ℕ
+sizeOn job u sides = total (λ f. bit (onSide sides u f) * sizeOf job f) (files job)
+
+abbrev pub sizeA : Job → List ℕ → ℕ
+sizeA job sides = sizeOn job 0 sides
+
+-- den·|A| + den·smax is at least num·W, and den·|A| is at most num·W + den·smax
+abbrev pub inWindow : ℕ → ℕ → ℕ → ℕ → ℕ → Bool
+inWindow num den w m a = leb (num * w) (den * a + den * m) && leb (den * a) (num * w + den * m)
+
+-- |A| of a is balanced
+unfoldable pub balanced : Job → ℕ → Bool
+balanced job a = inWindow (job .num) (job .den) (weight job) (smax job) a

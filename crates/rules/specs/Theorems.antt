@@ -1,0 +1,221 @@
+-- What holds of the definitions, a fact to a field. A line above each record names its proof and what that asks. Assumes nothing.
+use mathlib.Core.Path.{_≡_}
+use mathlib.Core.Logic.{_≢_}
+use Prim.Native.Nat.{ℕ, suc, _+_, _*_, _≤_, _<_}
+use mathlib.Core.Bool.{Bool, true, false}
+use mathlib.Core.List.{List, [], _∷_, map}
+use lib.ListN.{length, getD, take}
+use lib.Dec.{eqb}
+use lib.IntN.{ℤ, pos, _-ℤ_}
+use lib.Signed.{ltZ}
+use Rattle.rules.specs.Lists.{count, diff, sum, onto, allBelow}
+use Rattle.rules.specs.Job.{Job, Limits, TwoByte, fileCount, recipeCount, pinCount, bound, pin, recipes, Lent, scratchFor, fits}
+use Rattle.rules.specs.Split.{sideOf, cut, times, recipesWith, gain, sizeOf, sizeOn, weight, sizeA, balanced}
+use Rattle.rules.specs.Check.{done, refuseAt, check1to6, check7to9, check, measure}
+use Rattle.rules.specs.Move.{State, start, lockOf, after, legal, distAfter, replay}
+use Rattle.rules.specs.Pass.{cutAt, startGains, Pass, passOf, tries, pass, leaves}
+use Rattle.rules.specs.Run.{settles, run, lastOf, noFigures, noRunFigures, leftBy, unchanged, figuresOf, runFiguresOf, passEnds, runEnds}
+use Rattle.rules.specs.Stored.{headerOf, jobOf, Room, roomy, readVerdict, written, noHeader, reading}
+
+-- ---- an accepted job has what the theorems ask
+
+-- every file's side is 0 or 1
+abbrev pub Binary : List ℕ → Type 0
+Binary sides = (f : ℕ) → sideOf sides f ≤ 1
+
+-- no recipe holds a file twice
+abbrev pub Distinct : List (List ℕ) → Type 0
+Distinct rs = (j f : ℕ) → times f (getD rs j []) ≤ 1
+
+-- what checks 1 to 6 let through (SoundJob `sound`, where `check1to6` answers 0)
+pub record Sound (most : Limits) (job : Job) : Type 0 where
+  pub someFile : 1 ≤ fileCount job
+  pub someRecipe : 1 ≤ recipeCount job
+  pub fewFiles : fileCount job ≤ most .files
+  pub fewRecipes : recipeCount job ≤ most .recipes
+  pub fewPins : pinCount job ≤ most .pins
+  pub sidesLong : length (job .sides) ≡ fileCount job
+  pub marksLong : length (job .marks) ≡ fileCount job
+  pub first : bound job 0 ≡ 0
+  pub two : (j : ℕ) → j < recipeCount job → 2 + bound job j ≤ bound job (suc j)
+  pub last : bound job (recipeCount job) ≡ pinCount job
+  pub pinsBelow : (k : ℕ) → k < pinCount job → pin job k < fileCount job
+  pub apart : (j i k : ℕ) → j < recipeCount job → bound job j ≤ i → i < k → k < bound job (suc j) → k < pinCount job → pin job i ≢ pin job k
+  pub sizes : (f : ℕ) → f < fileCount job → 1 ≤ sizeOf job f
+  pub binary : Binary (job .sides)
+  pub marks : (f : ℕ) → getD (job .marks) f 0 ≤ 1
+
+-- what checks 1 to 9 let through (Proved `accepted`, where `check` answers 0)
+pub record Accepted (most : Limits) (job : Job) : Type 0 where
+  pub sound : Sound most job
+  pub distinct : Distinct (recipes job)
+  pub ratio : (1 ≤ job .num) × (job .num < job .den) × (job .den ≤ most .den)
+  pub free : (f : ℕ) × (f < fileCount job) × (getD (job .marks) f 0 ≡ 0)
+  pub balanced : balanced job (sizeA job (job .sides)) ≡ true
+
+-- sides that a pass may start from
+pub record Sides (job : Job) (sides : List ℕ) : Type 0 where
+  pub long : length sides ≡ fileCount job
+  pub binary : Binary sides
+
+-- ---- any moves, each of a file then still free, whoever chose them (Proved `moves-hold`, of a sound job, such sides and such moves)
+
+-- the state after the first k moves
+abbrev pub stateAt : Job → List ℕ → List ℕ → ℕ → State
+stateAt job sides ms k = after (start job sides) (take k ms)
+
+-- the gain list after the first k moves: the starting gains, and then only what is listed
+abbrev pub replayedTo : Job → List ℕ → List ℕ → ℕ → List ℤ
+replayedTo job sides ms k =
+    let p = passOf job sides ms in
+    replay (recipes job) (start job sides) (take k (p .tried)) 0 (p .ends) (p .scanned) (startGains (recipes job) (fileCount job) (start job sides))
+
+pub record MovesHold (job : Job) (sides ms : List ℕ) : Type 0 where
+  -- after every move the replay gives each free file's gain worked out afresh
+  pub fresh : (k f : ℕ) → f < fileCount job → lockOf (stateAt job sides ms k) f ≡ 0
+      → getD (replayedTo job sides ms k) f (pos 0) ≡ gain (stateAt job sides ms k .sides) (recipes job) f
+  -- and a move leaves the entry of every file that is then locked
+  pub locked : (k f : ℕ) → k < length ms → f < fileCount job → lockOf (stateAt job sides ms (suc k)) f ≢ 0
+      → getD (replayedTo job sides ms (suc k)) f (pos 0) ≡ getD (replayedTo job sides ms k) f (pos 0)
+  -- replayed to the end it is the gain list left behind
+  pub gains : replayedTo job sides ms (length ms) ≡ passOf job sides ms .gains
+  pub all : length (passOf job sides ms .gains) ≡ fileCount job
+  pub pinned : (f : ℕ) → f < fileCount job → getD (job .marks) f 0 ≢ 0 → getD (passOf job sides ms .gains) f (pos 0) ≡ pos 0
+  -- a gain lies from minus p to plus p
+  pub range : (k f : ℕ) →
+      (ltZ (gain (stateAt job sides ms k .sides) (recipes job) f) (diff 0 (recipesWith (recipes job) f)) ≡ false)
+      × (ltZ (pos (recipesWith (recipes job) f)) (gain (stateAt job sides ms k .sides) (recipes job) f) ≡ false)
+  -- after every move the starting cut less the gains so far is the present cut, which is the one listed, and the two vault sizes add up to W
+  pub cuts : (k : ℕ) → pos (cut sides (recipes job)) -ℤ sum (take k (passOf job sides ms .gained)) ≡ pos (cutAt (recipes job) (start job sides) ms k)
+  pub present : (k : ℕ) → k < length ms → getD (passOf job sides ms .cuts) k 0 ≡ cutAt (recipes job) (start job sides) ms (suc k)
+  pub sizes : (k : ℕ) → sizeOn job 0 (stateAt job sides ms k .sides) + sizeOn job 1 (stateAt job sides ms k .sides) ≡ weight job
+  -- no recipe is scanned more than four times, so scans are at most 4N, and visits at most 4P
+  pub four : (j : ℕ) → count (λ c. eqb (c .recipe) j) (passOf job sides ms .scanned) ≤ 4
+  pub scans : length (passOf job sides ms .scanned) ≤ 4 * recipeCount job
+  pub visits : passOf job sides ms .visited ≤ 4 * pinCount job
+  -- no file moves twice, so moves are at most C
+  pub once : (f : ℕ) → times f ms ≤ 1
+  pub few : length ms ≤ fileCount job
+  -- the prefix kept is one of the moves tried, has the least cut of all prefixes, none included, and is the shortest such
+  pub prefix : passOf job sides ms .kept ≤ length ms
+  pub least : (k : ℕ) → k ≤ length ms → passOf job sides ms .cutAfter ≤ cutAt (recipes job) (start job sides) ms k
+  pub shortest : (k : ℕ) → k < passOf job sides ms .kept → passOf job sides ms .cutAfter < cutAt (recipes job) (start job sides) ms k
+  -- another pass may start from the sides left
+  pub next : Sides job (passOf job sides ms .sidesAfter)
+
+-- ---- what a lent list holds afterwards, entry by entry
+
+-- the first n entries hold xs, then z; further entries stay
+pub record Listed {ℓ} {A : Type ℓ} (n : ℕ) (z : A) (xs old new : List A) : Type ℓ where
+  pub long : length new ≡ length old
+  pub holds : (d : A) (i : ℕ) → i < length xs → getD new i d ≡ getD xs i d
+  pub then : (d : A) (i : ℕ) → length xs ≤ i → i < n → getD new i d ≡ z
+  pub further : (d : A) (i : ℕ) → n ≤ i → getD new i d ≡ getD old i d
+
+-- (Proved `left`, of moves that hold and lists that fit)
+pub record Left (job : Job) (l : Lent) (p : Pass) : Type 0 where
+  pub gains : leaves job l p .gains ≡ p .gains
+  pub tried : Listed (fileCount job) 0 (p .tried) (l .tried) (leaves job l p .tried)
+  pub gained : Listed (fileCount job) (pos 0) (p .gained) (l .gained) (leaves job l p .gained)
+  pub cuts : Listed (fileCount job) 0 (p .cuts) (l .cuts) (leaves job l p .cuts)
+  pub ends : Listed (fileCount job) 0 (p .ends) (l .ends) (leaves job l p .ends)
+  pub recipes : Listed (4 * recipeCount job) 0 (map (λ s. s .recipe) (p .scanned)) (l .recipes) (leaves job l p .recipes)
+  pub kinds : Listed (4 * recipeCount job) 0 (map (λ s. s .kind) (p .scanned)) (l .kinds) (leaves job l p .kinds)
+  pub scratch : Listed (scratchFor job) 0 [] (l .scratch) (leaves job l p .scratch)
+
+-- ---- one pass (Proved `pass-holds`, of a sound job and sides that a pass may start from)
+
+-- f is legal, and no legal move comes before it: none has a greater gain; of those with no less a gain none is nearer, and those of lower number are further
+pub record Chosen (job : Job) (st : State) (f : ℕ) : Type 0 where
+  pub below : f < fileCount job
+  pub lawful : legal job st f ≡ true
+  pub greatest : (g : ℕ) → g < fileCount job → legal job st g ≡ true → ltZ (gain (st .sides) (recipes job) f) (gain (st .sides) (recipes job) g) ≡ false
+  pub nearest : (g : ℕ) → g < fileCount job → legal job st g ≡ true → ltZ (gain (st .sides) (recipes job) g) (gain (st .sides) (recipes job) f) ≡ false
+      → distAfter job st f ≤ distAfter job st g
+  pub lowest : (g : ℕ) → g < f → legal job st g ≡ true → ltZ (gain (st .sides) (recipes job) g) (gain (st .sides) (recipes job) f) ≡ false
+      → distAfter job st f < distAfter job st g
+
+pub record PassHolds (job : Job) (sides : List ℕ) : Type 0 where
+  pub moves : MovesHold job sides (tries job sides)
+  -- each move is the choice there, and the only one; when the moves end no legal move is left: C turns never end a pass
+  pub each : (i : ℕ) → i < length (tries job sides) → Chosen job (stateAt job sides (tries job sides) i) (getD (tries job sides) i 0)
+  pub only : (i f : ℕ) → i < length (tries job sides) → Chosen job (stateAt job sides (tries job sides) i) f → f ≡ getD (tries job sides) i 0
+  pub ended : (f : ℕ) → f < fileCount job → legal job (stateAt job sides (tries job sides) (length (tries job sides))) f ≡ false
+  -- it never raises the cut
+  pub falls : pass job sides .cutAfter ≤ pass job sides .cutBefore
+  -- from a balanced start the split after every move is balanced, and so is the one returned
+  pub balance : balanced job (sizeA job sides) ≡ true → (k : ℕ) → balanced job (sizeA job (stateAt job sides (tries job sides) k .sides)) ≡ true
+  pub returns : balanced job (sizeA job sides) ≡ true → balanced job (pass job sides .sizeAfter) ≡ true
+
+-- ---- a run (Proved `run-holds`, of a sound job)
+
+pub record RunHolds (job : Job) : Type 0 where
+  -- pass after pass, each from the sides that the one before left; so all that holds of a pass holds of each
+  pub some : 1 ≤ length (run job)
+  pub first : (d : Pass) → getD (run job) 0 d ≡ pass job (job .sides)
+  pub each : (d : Pass) (i : ℕ) → suc i < length (run job) → getD (run job) (suc i) d ≡ pass job (getD (run job) i d .sidesAfter)
+  pub sides : (d : Pass) (i : ℕ) → i < length (run job) → Sides job (getD (run job) i d .sidesAfter)
+  -- every pass but the last lessened the cut, so passes are at most the starting cut plus one
+  pub lessened : (d : Pass) (i : ℕ) → suc i < length (run job) → getD (run job) i d .cutAfter < getD (run job) i d .cutBefore
+  pub few : length (run job) ≤ suc (cut (job .sides) (recipes job))
+  -- without a cap a run ends settled: its turns never end it; with one, passes are at most the cap, and as many where it is not settled
+  pub settled : job .cap ≡ 0 → settles (lastOf (pass job (job .sides)) (run job)) ≡ true
+  pub capped : job .cap ≢ 0 → length (run job) ≤ job .cap
+  pub full : settles (lastOf (pass job (job .sides)) (run job)) ≡ false → length (run job) ≡ job .cap
+  -- what is reported is true of the split returned, and that is balanced
+  pub cut : lastOf (pass job (job .sides)) (run job) .cutAfter ≡ cut (lastOf (pass job (job .sides)) (run job) .sidesAfter) (recipes job)
+  pub size : lastOf (pass job (job .sides)) (run job) .sizeAfter ≡ sizeA job (lastOf (pass job (job .sides)) (run job) .sidesAfter)
+  pub returns : balanced job (sizeA job (job .sides)) ≡ true → balanced job (lastOf (pass job (job .sides)) (run job) .sizeAfter) ≡ true
+
+-- ---- the answers (Proved `answers`, of any input)
+
+-- a number with a place stands at the lowest that passes the test, and is given only if one does
+pub record AtLowest (k : ℕ) (test : ℕ → Bool) (n : ℕ) : Type 0 where
+  pub given : refuseAt k test n .number ≢ 0 →
+      (refuseAt k test n .number ≡ k) × (refuseAt k test n .place < n) × (test (refuseAt k test n .place) ≡ true)
+      × ((i : ℕ) → i < refuseAt k test n .place → test i ≡ false)
+  pub ungiven : refuseAt k test n .number ≡ 0 → (i : ℕ) → i < n → test i ≡ false
+
+pub record Answers (most : Limits) (job : Job) (l : Lent) : Type 0 where
+  -- number 0 has place 0, and is given only if the lent lists fit
+  pub place : check most job (fits job l) .number ≡ 0 → check most job (fits job l) ≡ done
+  pub fitting : check most job (fits job l) .number ≡ 0 → fits job l ≡ true
+  -- a refusal changes no lent list, and all its other numbers are 0
+  pub passRefused : check most job (fits job l) .number ≢ 0 → passEnds most job l ≡ unchanged job l (noFigures (check most job (fits job l)))
+  pub runRefused : check most job (fits job l) .number ≢ 0 → runEnds most job l ≡ unchanged job l (noRunFigures (check most job (fits job l)))
+  -- else the figures and lists are those of the pass, and of the run's passes
+  pub passDone : check most job (fits job l) .number ≡ 0
+      → passEnds most job l ≡ leftBy job l (figuresOf done (pass job (job .sides)) (pass job (job .sides) ∷ [])) (pass job (job .sides))
+  pub runDone : check most job (fits job l) .number ≡ 0
+      → runEnds most job l ≡ leftBy job l (runFiguresOf done (pass job (job .sides)) (run job)) (lastOf (pass job (job .sides)) (run job))
+  -- the measure
+  pub measureRefused : check1to6 most job true .number ≢ 0 → measure most job ≡ record { verdict = check1to6 most job true; cut = 0; size = 0 }
+  pub measureDone : check1to6 most job true .number ≡ 0
+      → measure most job ≡ record { verdict = done; cut = cut (job .sides) (recipes job); size = sizeA job (job .sides) }
+
+-- ---- reading (Reading `read-holds`, of any input, and `written-holds`)
+
+pub record ReadHolds (most : Limits) (bytes : List ℕ) (room : Room) : Type 0 where
+  -- refused, it answers zeros and writes nothing
+  pub refused : readVerdict most bytes room .number ≢ 0 →
+      reading most bytes room ≡ record { answer = record { verdict = readVerdict most bytes room; header = noHeader }; room = room }
+  -- else it writes the job's entries and answers the header's six figures
+  pub reads : readVerdict most bytes room .number ≡ 0 →
+      reading most bytes room ≡ record { answer = record { verdict = readVerdict most bytes room; header = headerOf bytes }; room = written (jobOf bytes) room }
+  -- for which there is room
+  pub enough : readVerdict most bytes room .number ≡ 0 → roomy (headerOf bytes) room ≡ true
+  -- the job has as many files, recipes and pins as the header says
+  pub files : fileCount (jobOf bytes) ≡ headerOf bytes .files
+  pub recipes : recipeCount (jobOf bytes) ≡ headerOf bytes .recipes
+  pub pins : pinCount (jobOf bytes) ≡ headerOf bytes .pins
+  -- a job that is read passes 1 to 6, so the run's own check adds 7 to 9
+  pub sound : readVerdict most bytes room .number ≡ 0 → Sound most (jobOf bytes)
+  pub adds : readVerdict most bytes room .number ≡ 0 → check most (jobOf bytes) true ≡ check7to9 most (jobOf bytes)
+  -- every number of it is a two-byte number, where each byte is one
+  pub small : allBelow 256 bytes → TwoByte (jobOf bytes)
+
+-- what a list lent to the reader holds afterwards: the entries written, and those beyond as they were
+pub record Written (xs old : List ℕ) : Type 0 where
+  pub long : length xs ≤ length old → length (onto xs old) ≡ length old
+  pub holds : (i : ℕ) → i < length xs → getD (onto xs old) i 0 ≡ getD xs i 0
+  pub stays : (i : ℕ) → length xs ≤ i → getD (onto xs old) i 0 ≡ getD old i 0

@@ -1,0 +1,50 @@
+// The answers of document 01's calls, as every crate hands them back; specs/ says what each holds.
+// Nothing runs here: the crate is the meaning of document 01 and the theorems about it.
+
+// A number for no and its place; 0 and 0 is done.
+pub struct Verdict {
+    pub number: usize,
+    pub place: usize,
+}
+
+// The measure: the cut and |A| of a job as it stands.
+pub struct Measure {
+    pub verdict: Verdict,
+    pub cut: usize,
+    pub size: u64,
+}
+
+// The answer of a pass: the cut before; the cut and |A| after; moves tried and kept, scans, visits.
+pub struct Figures {
+    pub verdict: Verdict,
+    pub before: usize,
+    pub cut: usize,
+    pub size: u64,
+    pub tried: u64,
+    pub kept: u64,
+    pub scans: u64,
+    pub visits: u64,
+}
+
+// The answer of a run: that of a pass, with the number of passes and settled besides.
+pub struct RunFigures {
+    pub figures: Figures,
+    pub passes: u64,
+    pub settled: bool,
+}
+
+// The six figures of a stored job's header: C, N, P, num, den, cap.
+pub struct Header {
+    pub files: u16,
+    pub recipes: u16,
+    pub pins: u16,
+    pub num: u16,
+    pub den: u16,
+    pub cap: u16,
+}
+
+// The answer of reading.
+pub struct ReadFigures {
+    pub verdict: Verdict,
+    pub header: Header,
+}
