@@ -29,7 +29,7 @@ small l n e h i = elim (decLt i n) [
 -- ---- each check, passed
 
 module _ (job : Job) where
-  ok1 : check1 job .number ≡ 0 → (1 ≤ fileCount job) × (1 ≤ recipeCount job)
+  pub ok1 : check1 job .number ≡ 0 → (1 ≤ fileCount job) × (1 ≤ recipeCount job)
   unfolding check1
   ok1 h =
       let r = or-no (eqb (fileCount job) 0) (eqb (recipeCount job) 0) (not-refused (eqb (fileCount job) 0 || eqb (recipeCount job) 0) 0 0 h) in
@@ -47,7 +47,7 @@ module _ (job : Job) where
       let q = or-no a b (r .0) in
       (ltb-false (most .files) (fileCount job) (q .0), ltb-false (most .recipes) (recipeCount job) (q .1), ltb-false (most .pins) (pinCount job) (r .1))
 
-  ok3 : (lent : Bool) → check3 job lent .number ≡ 0 → (length (job .sides) ≡ fileCount job) × (length (job .marks) ≡ fileCount job)
+  pub ok3 : (lent : Bool) → check3 job lent .number ≡ 0 → (length (job .sides) ≡ fileCount job) × (length (job .marks) ≡ fileCount job)
   unfolding check3
   ok3 lent h =
       let a = eqb (length (job .sides)) (fileCount job) in
@@ -56,7 +56,7 @@ module _ (job : Job) where
       let q = and-yes a b (r .0) in
       (eqb-true (length (job .sides)) (fileCount job) (q .0), eqb-true (length (job .marks)) (fileCount job) (q .1))
 
-  ok4 : check4 job .number ≡ 0
+  pub ok4 : check4 job .number ≡ 0
       → (bound job 0 ≡ 0) × ((j : ℕ) → j < recipeCount job → 2 + bound job j ≤ bound job (suc j)) × (bound job (recipeCount job) ≡ pinCount job)
   unfolding check4
   ok4 h =

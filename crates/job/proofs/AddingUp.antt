@@ -1,0 +1,84 @@
+-- A loop that adds the files up. Assumes nothing.
+use mathlib.Core.Path.{_≡_, refl, sym, ap, _∙_}
+use Prim.Native.Nat.{ℕ, suc, _+_, _*_, _≤_, _<_, max}
+use mathlib.Core.Bool.{Bool, true, false}
+use mathlib.Core.List.{List, [], _∷_, _++_}
+use native.Mathlib.Omega.{arith}
+use native.Mathlib.Nat.{max-le, le-max-left, le-max-right, zero-max, max-zero, le-trans, le-antisymm}
+use native.Mathlib.Numerals.{add-one}
+use lib.Dec.{eqb}
+use lib.ListN.{getD}
+use Rattle.rules.specs.Lists.{bit, total, count, largest, upTo}
+use Rattle.rules.specs.Job.{Job}
+use Rattle.rules.specs.Split.{sideOf, onSide, sizeOf}
+use Rattle.rules.proofs.Count.{total-upTo}
+use Rattle.job.specs.declared.figures.Totals.{Totals}
+use Rattle.job.specs.Totals.{isFree, totalsOf, withFile, Within, Added}
+
+max-assoc : (a b c : ℕ) → max (max a b) c ≡ max a (max b c)
+max-assoc a b c =
+    le-antisymm
+    (max-le (max-le (le-max-left a (max b c)) (le-trans (le-max-left b c) (le-max-right a (max b c)))) (le-trans (le-max-right b c) (le-max-right a (max b c))))
+    (max-le (le-trans (le-max-left a b) (le-max-left (max a b) c)) (max-le (le-trans (le-max-right a b) (le-max-left (max a b) c)) (le-max-right (max a b) c)))
+
+largest-append : (w : ℕ → ℕ) (a b : List ℕ) → largest w (a ++ b) ≡ max (largest w a) (largest w b)
+unfolding largest
+largest-append w [] b = sym (zero-max (largest w b))
+largest-append w (x ∷ a) b = ap (max (w x)) (largest-append w a b) ∙ sym (max-assoc (w x) (largest w a) (largest w b))
+
+-- one number more, as a loop has it
+pub largest-upTo : (w : ℕ → ℕ) (n : ℕ) → largest w (upTo (suc n)) ≡ max (largest w (upTo n)) (w n)
+unfolding largest upTo
+largest-upTo w n = largest-append w (upTo n) (n ∷ []) ∙ ap (max (largest w (upTo n))) (max-zero (w n))
+
+same-totals : (t u : Totals) → t .weight ≡ u .weight → t .largest ≡ u .largest → t .size ≡ u .size → t .free ≡ u .free → t ≡ u
+same-totals t u p q r s = λ i. record { weight = p i; largest = q i; size = r i; free = s i }
+
+-- the walk over n files has come to i, with t
+pub record Walked (job : Job) (n i : ℕ) (t : Totals) : Type 0 where
+  pub stop : i ≤ n
+  pub added : Added job i t
+
+pub walked-none : (job : Job) (n : ℕ) → Walked job n 0 (record { weight = 0; largest = 0; size = 0; free = 0 })
+walked-none job n = record {
+  stop = omega arith;
+  added = record {
+    is = unfold totalsOf total count largest upTo in refl;
+    within = record { weight = omega arith; largest = omega arith; size = omega arith; free = omega arith };
+  };
+}
+
+pub bit-le : (b : Bool) (x : ℕ) → bit b * x ≤ x
+bit-le true x = omega arith
+bit-le false x = omega arith
+
+module _ {job : Job} {n i : ℕ} {t : Totals} (w : Walked job n i t) where
+  pub walked-more : (r : Totals) → i < n → sizeOf job i ≤ 65535 → r ≡ withFile t (sizeOf job i) (sideOf (job .sides) i) (getD (job .marks) i 0) → Walked job n (i + 1) r
+  unfolding totalsOf count
+  walked-more r h l e =
+      let file : Totals → Totals = λ y. withFile y (sizeOf job i) (sideOf (job .sides) i) (getD (job .marks) i 0) in
+      let in-a : ℕ → ℕ = λ f. bit (onSide (job .sides) 0 f) * sizeOf job f in
+      let was = w .added .within in
+      record {
+        stop = omega arith;
+        added = record {
+          is =
+              e ∙ ap file (w .added .is)
+              ∙ same-totals (file (totalsOf job i)) (totalsOf job (suc i))
+              (sym (total-upTo (sizeOf job) i)) (sym (largest-upTo (sizeOf job) i)) (sym (total-upTo in-a i)) (sym (total-upTo (λ f. bit (isFree job f)) i))
+              ∙ ap (totalsOf job) (sym (add-one i));
+          within = record {
+            weight = omega (arith, ap (λ (y : Totals). y .weight) e, was .weight);
+            largest = rw (ap (λ (y : Totals). y .largest) e) (max-le (omega (arith, was .largest)) (omega arith));
+            size = omega (arith, ap (λ (y : Totals). y .size) e, was .size, bit-le (eqb (sideOf (job .sides) i) 0) (sizeOf job i));
+            free = omega (arith, ap (λ (y : Totals). y .free) e, was .free, bit-le (eqb (getD (job .marks) i 0) 0) 1);
+          };
+        };
+      }
+
+  pub walked-end : n ≤ i → Added job n t
+  walked-end h = let e : i ≡ n = omega (arith, w .stop) in rw (← e) (w .added)
+
+-- totals within a bound are within a larger one
+pub within-more : {t : Totals} {a b : ℕ} → a ≤ b → Within t a → Within t b
+within-more h w = record { weight = omega arith; largest = omega arith; size = omega arith; free = omega arith }

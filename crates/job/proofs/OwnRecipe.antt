@@ -1,0 +1,86 @@
+-- A pin's own recipe is the one between whose bounds it stands, so check 5 can go recipe by recipe. Assumes nothing.
+use mathlib.Core.Path.{_≡_, refl, ap, ap₂, _∙_}
+use Prim.Native.Nat.{ℕ, zero, suc, _+_, _-_, _≤_, _<_}
+use mathlib.Core.Bool.{Bool, true, false, _&&_, _||_}
+use native.Mathlib.Decide.{decLt}
+use native.Mathlib.Omega.{arith}
+use native.Mathlib.Numerals.{add-one}
+use lib.Dec.{leb, ltb}
+use borrow.Author.Tests.{le-leb, lt-leb, lt-ltb, le-ltb}
+use Rattle.rules.specs.Lists.{lowest, someBelow}
+use Rattle.rules.specs.Job.{Job, fileCount, recipeCount, pinCount, bound, pin}
+use Rattle.rules.specs.Check.{repeatsIn, badPin}
+use Rattle.job.specs.Pins.{onwards, samePin, badFrom}
+use Rattle.job.proofs.Search.{Passed, passed-none, passed-end, part-end, part-hit, some-at}
+
+-- bounds that pass check 4
+pub record Rising (job : Job) : Type 0 where
+  pub first : bound job 0 ≡ 0
+  pub two : (j : ℕ) → j < recipeCount job → 2 + bound job j ≤ bound job (suc j)
+  pub last : bound job (recipeCount job) ≡ pinCount job
+
+module _ (job : Job) (b : Rising job) where
+  rises : (d i j : ℕ) → i + d ≡ j → j ≤ recipeCount job → bound job i ≤ bound job j
+  rises zero i j e h = let q : i ≡ j = omega arith in omega (arith, ap (bound job) q)
+  rises (suc d) i j e h = omega (arith, b .two i (omega arith), rises d (suc i) j (omega arith) h)
+
+  rising : (i j : ℕ) → i ≤ j → j ≤ recipeCount job → bound job i ≤ bound job j
+  rising i j l h = rises (j - i) i j (omega arith) h
+
+  module _ (j k : ℕ) (h : j < recipeCount job) (l : bound job j ≤ k) (g : k < bound job (suc j)) where
+    other-recipe : (i : ℕ) → i < recipeCount job → (i ≡ j → ⊥) → repeatsIn job k i ≡ false
+    other-recipe i m z =
+        let same = someBelow (onwards (bound job i) (samePin (job .pins) k)) k in
+        elim (decLt i j) [
+          | yes q ↦
+              ap (λ (t : Bool). leb (bound job i) k && t && same) (le-ltb k (bound job (suc i)) (omega (arith, rising (suc i) j q (omega arith))))
+              ∙ and-false (leb (bound job i) k) same
+          | no q ↦ ap (λ (t : Bool). t && ltb k (bound job (suc i)) && same) (lt-leb (bound job i) k (omega (arith, rising (suc j) i (omega arith) (omega arith))))
+        ]
+      where
+        and-false : (t s : Bool) → t && false && s ≡ false
+        and-false true s = refl
+        and-false false s = refl
+
+    pub bad-there : badPin job k ≡ badFrom (fileCount job) (job .pins) (bound job j) k
+    unfolding badPin
+    bad-there =
+        ap (λ (t : Bool). leb (fileCount job) (pin job k) || t)
+        (some-at (repeatsIn job k) (recipeCount job) j h other-recipe
+        ∙ ap₂ (λ (s t : Bool). s && t && someBelow (onwards (bound job j) (samePin (job .pins) k)) k) (le-leb (bound job j) k l) (lt-ltb k (bound job (suc j)) g))
+
+-- ---- the loop over the recipes has come to j
+pub record PinsPassed (job : Job) (j : ℕ) : Type 0 where
+  pub among : j ≤ recipeCount job
+  pub rising : Rising job
+  pub passed : Passed (badPin job) (pinCount job) (bound job j)
+
+pub pins-none : (job : Job) → Rising job → PinsPassed job 0
+pins-none job b = record { among = omega arith; rising = b; passed = rw (b .first) passed-none }
+
+module _ {job : Job} {j : ℕ} (x : PinsPassed job j) where
+  pub pins-end : recipeCount job ≤ j → pinCount job ≡ lowest (badPin job) (pinCount job)
+  pins-end h =
+      let q : recipeCount job ≡ j = omega (arith, x .among) in
+      passed-end (x .passed) (omega (arith, x .rising .last, ap (bound job) q))
+
+  -- recipe j has the pins from a up to e
+  module _ (h : j < recipeCount job) (a e : ℕ) (p : a ≡ bound job j) (q : e ≡ bound job (j + 1)) where
+    next : e ≡ bound job (suc j)
+    next = q ∙ ap (bound job) (add-one j)
+
+    pub pins-part : (a ≤ e) × (e ≤ pinCount job)
+    pins-part = (omega (arith, next, x .rising .two j h), omega (arith, next, x .rising .last, rising job (x .rising) (suc j) (recipeCount job) h (omega arith)))
+
+    module _ (r : ℕ) (s : r ≡ lowest (onwards a (badFrom (fileCount job) (job .pins) a)) e) where
+      agree : (k : ℕ) → bound job j ≤ k → k < e → badPin job k ≡ badFrom (fileCount job) (job .pins) (bound job j) k
+      agree k l g = bad-there job (x .rising) j k h l (omega (arith, next))
+
+      found : r ≡ lowest (onwards (bound job j) (badFrom (fileCount job) (job .pins) (bound job j))) e
+      found = s ∙ ap (λ (i : ℕ). lowest (onwards i (badFrom (fileCount job) (job .pins) i)) e) p
+
+      pub pins-hit : r < e → r ≡ lowest (badPin job) (pinCount job)
+      pins-hit = part-hit (x .passed) e r (pins-part .1) agree found
+
+      pub pins-more : e ≤ r → PinsPassed job (j + 1)
+      pins-more l = record { among = omega arith; rising = x .rising; passed = rw (← q) (part-end (x .passed) e r (pins-part .1) agree found l) }

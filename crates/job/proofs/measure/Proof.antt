@@ -1,0 +1,36 @@
+use mathlib.Core.Path.{_∙_}
+use native.Mathlib.Omega.{arith}
+use Rattle.rules.specs.Job.{views}
+use Rattle.rules.proofs.Verdicts.{zero-of}
+use Rattle.rules.proofs.SoundJob.{sound}
+use Rattle.job.specs.Totals.{totalsOf}
+use Rattle.job.proofs.Whole.{lists-only, measure-refused, measure-done}
+use borrow.Author.Needs.{needs}
+use Rattle.job.proofs.measure.Statement.{statement}
+use Rattle.job.proofs.measure.Tie as tie
+
+check1to6-requires : tie.Need-check1to6-requires
+check1to6-requires c κs = search needs
+
+returns : tie.Need-returns
+returns c = measure-refused _ _ (c .before .before .check1to6 .ensures ∙ lists-only _ _ _) (c .if1 .taken)
+
+totals-of-requires : tie.Need-totals-of-requires
+totals-of-requires c κs =
+    let s = sound _ _ _ (zero-of (c .before .before .check1to6 .ensures) (c .if1 .left)) in
+    (s .fewFiles, (s .sidesLong, s .marksLong))
+
+cut-requires : tie.Need-cut-requires
+cut-requires c κs =
+    let s = sound _ _ _ (zero-of (c .before .before .before .check1to6 .ensures) (c .before .if1 .left)) in
+    λ k l. omega (arith, s .pinsBelow k l, s .sidesLong)
+
+returns-2 : tie.Need-returns-2
+unfolding totalsOf views
+returns-2 c =
+    measure-done _ _ (c .before .before .before .before .check1to6 .ensures ∙ lists-only _ _ _) _ _
+    (c .before .before .if1 .left) (c .cut .ensures) (c .before .totals-of .ensures .is)
+
+pub measure-spec : {M : Type 1} → statement M
+measure-spec =
+    tie.close (tie.spec check1to6-requires returns totals-of-requires cut-requires returns-2)

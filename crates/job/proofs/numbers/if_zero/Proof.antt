@@ -1,0 +1,13 @@
+use borrow.Author.Tests.{eq-eqb, ne-eqb}
+use native.Mathlib.Omega.{arith}
+use Rattle.job.proofs.numbers.if_zero.Statement.{statement}
+use Rattle.job.proofs.numbers.if_zero.Tie as tie
+
+returns : tie.Need-returns
+returns c = simp (eq-eqb _ _ (c .if1 .taken)) (omega arith)
+
+returns-2 : tie.Need-returns-2
+returns-2 c = simp (ne-eqb _ _ (c .if1 .left)) (omega arith)
+
+pub if-zero-spec : {M : Type 1} → statement M
+if-zero-spec = tie.close (tie.spec returns returns-2)

@@ -1,0 +1,65 @@
+use mathlib.Core.Path.{refl, _∙_}
+use native.Mathlib.Omega.{arith}
+use Rattle.rules.specs.Job.{views}
+use Rattle.rules.specs.Check.{check}
+use Rattle.rules.proofs.Verdicts.{chain-stop, chain-go, zero-of}
+use Rattle.rules.proofs.SoundJob.{sound}
+use Rattle.job.specs.Totals.{totalsOf}
+use Rattle.job.proofs.AddingUp.{within-more}
+use Rattle.job.proofs.Whole.{lists-only, survey-refused, survey-done}
+use borrow.Author.Needs.{needs}
+use Rattle.job.proofs.survey.Statement.{statement}
+use Rattle.job.proofs.survey.Tie as tie
+
+check1to6-requires : tie.Need-check1to6-requires
+check1to6-requires c κs = search needs
+
+returns : tie.Need-returns
+unfolding check
+returns c =
+    survey-refused _ _ _ (chain-stop _ (c .before .before .check1to6 .ensures ∙ lists-only _ _ _) (c .if1 .taken)) (c .if1 .taken)
+
+totals-of-requires : tie.Need-totals-of-requires
+totals-of-requires c κs =
+    let s = sound _ _ _ (zero-of (c .before .before .check1to6 .ensures) (c .if1 .left)) in
+    (s .fewFiles, (s .sidesLong, s .marksLong))
+
+check7to9-requires : tie.Need-check7to9-requires
+check7to9-requires c κs =
+    let s = sound _ _ _ (zero-of (c .before .before .before .check1to6 .ensures) (c .before .if1 .left)) in
+    within-more (omega (arith, s .fewFiles)) (c .totals-of .ensures .within)
+
+returns-2 : tie.Need-returns-2
+unfolding check totalsOf
+returns-2 c =
+    let t = c .before .before .before in
+    survey-refused _ _ _
+    (chain-go (t .before .before .before .check1to6 .ensures ∙ lists-only _ _ _) (t .before .if1 .left)
+    (c .before .before .check7to9 .ensures _ (record { num = refl; den = refl; totals = t .totals-of .ensures .is })))
+    (c .if2 .taken)
+
+cut-requires : tie.Need-cut-requires
+cut-requires c κs =
+    let s = sound _ _ _ (zero-of (c .before .before .before .before .before .before .check1to6 .ensures) (c .before .before .before .before .if1 .left)) in
+    λ k l. omega (arith, s .pinsBelow k l, s .sidesLong)
+
+returns-3 : tie.Need-returns-3
+unfolding check totalsOf views
+returns-3 c =
+    let t = c .before .before .before .before in
+    survey-done _ _ _
+    (chain-go (t .before .before .before .check1to6 .ensures ∙ lists-only _ _ _) (t .before .if1 .left)
+    (c .before .before .before .check7to9 .ensures _ (record { num = refl; den = refl; totals = t .totals-of .ensures .is })))
+    _ _ (c .before .if2 .left) (c .cut .ensures) (t .totals-of .ensures .is)
+
+pub survey-spec : {M : Type 1} → statement M
+survey-spec =
+    tie.close
+    (tie.spec
+    check1to6-requires
+    returns
+    totals-of-requires
+    check7to9-requires
+    returns-2
+    cut-requires
+    returns-3)

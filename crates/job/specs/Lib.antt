@@ -1,0 +1,4 @@
+pub mod Parts
+pub mod Pins
+pub mod Totals
+pub mod Survey

@@ -1,0 +1,55 @@
+-- W, smax, |A| and the number of free files, as one walk over the files adds them up. Assumes nothing.
+use Prim.Native.Nat.{ℕ, _+_, _*_, _≤_, max}
+use mathlib.Core.Path.{_≡_}
+use mathlib.Core.Bool.{Bool}
+use lib.ListN.{getD}
+use lib.Dec.{eqb}
+use Rattle.job.specs.declared.figures.Totals.{Totals}
+use Rattle.rules.specs.Lists.{bit, total, count, largest, upTo}
+use Rattle.rules.specs.Job.{Job, Limits, fileCount}
+use Rattle.rules.specs.Split.{onSide, sizeOf}
+use Rattle.rules.specs.declared.Verdict.{Verdict}
+use Rattle.rules.specs.Check.{check7to9}
+
+abbrev pub isFree : Job → ℕ → Bool
+isFree job f = eqb (getD (job .marks) f 0) 0
+
+-- those of the first n files
+unfoldable pub totalsOf : Job → ℕ → Totals
+totalsOf job n = record {
+  weight = total (sizeOf job) (upTo n);
+  largest = largest (sizeOf job) (upTo n);
+  size = total (λ f. bit (onSide (job .sides) 0 f) * sizeOf job f) (upTo n);
+  free = count (isFree job) (upTo n);
+}
+
+-- one file more, of the given size, side and mark
+abbrev pub withFile : Totals → ℕ → ℕ → ℕ → Totals
+withFile t size side mark = record {
+  weight = t .weight + size;
+  largest = max (t .largest) size;
+  size = t .size + bit (eqb side 0) * size;
+  free = t .free + bit (eqb mark 0);
+}
+
+-- none of them is over b
+pub record Within (t : Totals) (b : ℕ) : Type 0 where
+  pub weight : t .weight ≤ b
+  pub largest : t .largest ≤ b
+  pub size : t .size ≤ b
+  pub free : t .free ≤ b
+
+-- t are the totals of n files, each of a two-byte size
+pub record Added (job : Job) (n : ℕ) (t : Totals) : Type 0 where
+  pub is : t ≡ totalsOf job n
+  pub within : Within t (n * 65535)
+
+-- the job has ratio n/d and totals t
+pub record Has (job : Job) (n d : ℕ) (t : Totals) : Type 0 where
+  pub num : job .num ≡ n
+  pub den : job .den ≡ d
+  pub totals : t ≡ totalsOf job (fileCount job)
+
+-- v is what 7 to 9 give of every job with ratio n/d and totals t
+abbrev pub Gives7to9 : Limits → ℕ → ℕ → Totals → Verdict → Type 0
+Gives7to9 most n d t v = (job : Job) → Has job n d t → v ≡ check7to9 most job

@@ -1,0 +1,115 @@
+// The figures of a job: what its files add up to, balance, and the cut.
+use crate::Job;
+use crate::bounds::recipe_count;
+use crate::numbers::bit;
+use crate::numbers::if_zero;
+use crate::numbers::larger;
+use crate::numbers::long;
+use crate::numbers::wide;
+use crate::view;
+use rules::Verdict;
+ghost use mathlib.Core.Path.{_≡_};
+ghost use Prim.Native.Nat.{_*_, _≤_, _<_};
+ghost use lib.ListN.{length};
+ghost use Rattle.rules.specs.Lists.{allBelow};
+ghost use Rattle.rules.specs.Job.{recipes};
+ghost use Rattle.rules.specs.Split.{inWindow, countOn, isCut, «cut»};
+ghost use Rattle.job.specs.Parts.{ofFiles, ofRecipes};
+ghost use Rattle.job.specs.Totals.{withFile, Within, Added};
+
+// W, smax, |A| and the number of free files.
+pub(crate) struct Totals {
+    pub weight: u64,
+    pub largest: u64,
+    pub size: u64,
+    pub free: u64,
+}
+
+// The answer of a survey: W, smax, |A| and the cut, where the verdict is done.
+pub struct Survey {
+    pub verdict: Verdict,
+    pub weight: u64,
+    pub largest: u64,
+    pub size: u64,
+    pub cut: usize,
+}
+
+fn with_file(t: Totals, size: u16, side: u16, mark: u16) -> Totals
+    requires { do ⌜ Within t ((← ⟦Job::MOST_FILES⟧) * 65535) ⌝ }
+    ensures { λ r. ⌜ r ≡ withFile t size side mark ⌝ }
+{
+    let s = long(size);
+    Totals {
+        weight: t.weight + s,
+        largest: larger(t.largest, s),
+        size: t.size + if_zero(side, s),
+        free: t.free + if_zero(mark, 1),
+    }
+}
+
+pub(crate) fn totals_of(sizes: &[u16], sides: &[u16], marks: &[u16]) -> Totals
+    requires { do ⌜ length (now sizes) ≤ (← ⟦Job::MOST_FILES⟧) ⌝ }
+    requires { ⌜ (length (now sides) ≡ length (now sizes)) × (length (now marks) ≡ length (now sizes)) ⌝ }
+    ensures { λ r. ⌜ Added (ofFiles (now (sizes .entry)) (now (sides .entry)) (now (marks .entry))) (length (now (sizes .entry))) r ⌝ }
+{
+    let mut t = Totals {
+        weight: 0,
+        largest: 0,
+        size: 0,
+        free: 0,
+    };
+    let mut f = 0;
+    while f < sizes.len() {
+        t = with_file(t, sizes[f], sides[f], marks[f]);
+        f += 1;
+    }
+    t
+}
+
+pub(crate) fn is_balanced(job: Job, t: Totals) -> bool
+    requires { do ⌜ Within t ((← ⟦Job::MOST_FILES⟧) * 65535) ⌝ }
+    ensures { λ r. ⌜ r ≡ inWindow (job .num) (job .den) (t .weight) (t .largest) (t .size) ⌝ }
+{
+    let num = long(job.num);
+    let den = long(job.den);
+    let w = num * t.weight;
+    let m = den * t.largest;
+    let a = den * t.size;
+    (w <= a + m) & (a <= w + m)
+}
+
+// How many pins of a recipe are on a side.
+fn count_on(sides: &[u16], side: u16, recipe: &[u16]) -> usize
+    requires { ⌜ allBelow (length (now sides)) (now recipe) ⌝ }
+    ensures { λ r. ⌜ r ≡ countOn (now (sides .entry)) side (now (recipe .entry)) ⌝ }
+{
+    let mut x = 0;
+    let mut i = 0;
+    while i < recipe.len() {
+        let f = wide(recipe[i]);
+        x += bit(sides[f] == side);
+        i += 1;
+    }
+    x
+}
+
+fn is_cut(sides: &[u16], recipe: &[u16]) -> bool
+    requires { ⌜ allBelow (length (now sides)) (now recipe) ⌝ }
+    ensures { λ r. ⌜ r ≡ isCut (now (sides .entry)) (now (recipe .entry)) ⌝ }
+{
+    (0 < count_on(sides, 0, recipe)) & (0 < count_on(sides, 1, recipe))
+}
+
+pub(crate) fn cut(sides: &[u16], bounds: &[u16], pins: &[u16]) -> usize
+    requires { ⌜ allBelow (length (now sides)) (now pins) ⌝ }
+    ensures { λ r. ⌜ r ≡ «cut» (now (sides .entry)) (recipes (ofRecipes (now (bounds .entry)) (now (pins .entry)))) ⌝ }
+{
+    let n = recipe_count(bounds);
+    let mut x = 0;
+    let mut j = 0;
+    while j < n {
+        x += bit(is_cut(sides, view(bounds, pins, j)));
+        j += 1;
+    }
+    x
+}

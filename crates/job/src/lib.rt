@@ -1,0 +1,150 @@
+// The kind of job of document 01: its figures and limits, the view of a recipe, the check, the measure and the survey.
+mod bounds;
+mod figures;
+mod files;
+mod numbers;
+mod pins;
+mod verdict;
+
+use bounds::recipe_count;
+pub use figures::Survey;
+use figures::cut;
+use figures::totals_of;
+use numbers::wide;
+use rules::Measure;
+use rules::Verdict;
+use verdict::check1to6;
+use verdict::check7to9;
+ghost use mathlib.Core.Path.{_≡_};
+ghost use mathlib.Core.Bool.{true};
+ghost use Rattle.rules.specs.Job.{limitsOf, asJob, viewOf};
+ghost use Rattle.rules.specs.Check.{checkJob, «measure»};
+ghost use Rattle.job.specs.Survey.{surveyOf};
+
+// What a job has besides its lists: the ratio num/den for A, and the cap.
+pub struct Job {
+    pub num: u16,
+    pub den: u16,
+    pub cap: u16,
+}
+
+impl Job {
+    pub const MOST_FILES: usize = 1024;
+
+    pub const MOST_RECIPES: usize = 1024;
+
+    pub const MOST_PINS: usize = 4096;
+
+    pub const MOST_DEN: u16 = 1000;
+
+    pub fn new(num: u16, den: u16, cap: u16) -> Self
+        ensures { λ r. ⌜ (r .num ≡ num) × (r .den ≡ den) × (r .cap ≡ cap) ⌝ }
+    {
+        Self { num, den, cap }
+    }
+}
+
+// Recipe j's own part of the pins, or an empty part.
+pub fn view<'a, 'b>(bounds: &'b [u16], pins: &'a [u16], j: usize) -> &'a [u16]
+    ensures { λ r. ⌜ now r ≡ viewOf (now (bounds .entry)) (now (pins .entry)) j ⌝ }
+{
+    if recipe_count(bounds) <= j {
+        return &pins[0..0];
+    }
+    let a = wide(bounds[j]);
+    let b = wide(bounds[j + 1]);
+    if b < a {
+        return &pins[0..0];
+    }
+    if pins.len() < b {
+        return &pins[0..0];
+    }
+    &pins[a..b]
+}
+
+// 1 to 9.
+pub fn check(
+    job: Job,
+    sizes: &[u16],
+    sides: &[u16],
+    marks: &[u16],
+    bounds: &[u16],
+    pins: &[u16],
+) -> Verdict
+    ensures { λ r. do ⌜ r ≡ checkJob (limitsOf (← ⟦Job::MOST_FILES⟧ .entry) (← ⟦Job::MOST_RECIPES⟧ .entry) (← ⟦Job::MOST_PINS⟧ .entry) (← ⟦Job::MOST_DEN⟧ .entry)) (asJob (now (sizes .entry)) (now (sides .entry)) (now (marks .entry)) (now (bounds .entry)) (now (pins .entry)) (job .num) (job .den) (job .cap)) ⌝ }
+{
+    let v = check1to6(sizes, sides, marks, bounds, pins, true);
+    if v.number != 0 {
+        return v;
+    }
+    check7to9(job, totals_of(sizes, sides, marks))
+}
+
+// 1 to 6, else the cut and |A|.
+pub fn measure(
+    job: Job,
+    sizes: &[u16],
+    sides: &[u16],
+    marks: &[u16],
+    bounds: &[u16],
+    pins: &[u16],
+) -> Measure
+    ensures { λ r. do ⌜ r ≡ «measure» (limitsOf (← ⟦Job::MOST_FILES⟧ .entry) (← ⟦Job::MOST_RECIPES⟧ .entry) (← ⟦Job::MOST_PINS⟧ .entry) (← ⟦Job::MOST_DEN⟧ .entry)) (asJob (now (sizes .entry)) (now (sides .entry)) (now (marks .entry)) (now (bounds .entry)) (now (pins .entry)) (job .num) (job .den) (job .cap)) ⌝ }
+{
+    let verdict = check1to6(sizes, sides, marks, bounds, pins, true);
+    if verdict.number != 0 {
+        return Measure {
+            verdict,
+            cut: 0,
+            size: 0,
+        };
+    }
+    let t = totals_of(sizes, sides, marks);
+    Measure {
+        verdict,
+        cut: cut(sides, bounds, pins),
+        size: t.size,
+    }
+}
+
+// 1 to 9, where `lent` says that the lent lists have the right lengths, and the figures that a pass or run starts from.
+pub fn survey(
+    job: Job,
+    sizes: &[u16],
+    sides: &[u16],
+    marks: &[u16],
+    bounds: &[u16],
+    pins: &[u16],
+    lent: bool,
+) -> Survey
+    ensures { λ r. do ⌜ r ≡ surveyOf (limitsOf (← ⟦Job::MOST_FILES⟧ .entry) (← ⟦Job::MOST_RECIPES⟧ .entry) (← ⟦Job::MOST_PINS⟧ .entry) (← ⟦Job::MOST_DEN⟧ .entry)) (asJob (now (sizes .entry)) (now (sides .entry)) (now (marks .entry)) (now (bounds .entry)) (now (pins .entry)) (job .num) (job .den) (job .cap)) lent ⌝ }
+{
+    let v = check1to6(sizes, sides, marks, bounds, pins, lent);
+    if v.number != 0 {
+        return Survey {
+            verdict: v,
+            weight: 0,
+            largest: 0,
+            size: 0,
+            cut: 0,
+        };
+    }
+    let t = totals_of(sizes, sides, marks);
+    let verdict = check7to9(job, t);
+    if verdict.number != 0 {
+        return Survey {
+            verdict,
+            weight: 0,
+            largest: 0,
+            size: 0,
+            cut: 0,
+        };
+    }
+    Survey {
+        verdict,
+        weight: t.weight,
+        largest: t.largest,
+        size: t.size,
+        cut: cut(sides, bounds, pins),
+    }
+}

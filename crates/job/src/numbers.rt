@@ -1,0 +1,45 @@
+// Two-byte numbers widened, and tests as numbers.
+ghost use mathlib.Core.Path.{_≡_};
+ghost use Prim.Native.Nat.{_*_, _≤_, max};
+ghost use lib.Dec.{eqb};
+ghost use Rattle.rules.specs.Lists.{«bit»};
+
+pub(crate) fn wide(x: u16) -> usize
+    ensures { λ r. ⌜ r ≡ x ⌝ }
+{
+    x as usize
+}
+
+pub(crate) fn long(x: u16) -> u64
+    ensures { λ r. ⌜ r ≡ x ⌝ }
+{
+    x as u64
+}
+
+pub(crate) fn bit(test: bool) -> usize
+    ensures { λ r. ⌜ (r ≡ «bit» test) × (r ≤ 1) ⌝ }
+{
+    if test {
+        return 1;
+    }
+    0
+}
+
+// x where the other number is 0, else 0.
+pub(crate) fn if_zero(other: u16, x: u64) -> u64
+    ensures { λ r. ⌜ r ≡ «bit» (eqb other 0) * x ⌝ }
+{
+    if other == 0 {
+        return x;
+    }
+    0
+}
+
+pub(crate) fn larger(a: u64, b: u64) -> u64
+    ensures { λ r. ⌜ r ≡ max a b ⌝ }
+{
+    if a < b {
+        return b;
+    }
+    a
+}

@@ -1,0 +1,702 @@
+"""A plain reference for the two-vault split, written from document 01 alone.
+
+It is slow and simple on purpose. Every gain is counted anew from the split at
+every move, so no step here rests on the scans that it lists: the scans are
+worked out beside the gains and never used to change one.
+
+Document 01's words are the names. Sentences of it are quoted where a line
+follows them.
+"""
+
+from dataclasses import dataclass, replace
+from functools import cached_property
+
+# "At most 1,024 files, 1,024 recipes, 4,096 pins; den at most 1,000."
+MOST_FILES = 1024
+MOST_RECIPES = 1024
+MOST_PINS = 4096
+MOST_DEN = 1000
+
+A, B = 0, 1
+FREE, PINNED = 0, 1
+
+
+# ---- A job
+
+
+@dataclass(frozen=True)
+class Job:
+    """The lists and figures of a job; nothing here says that it is sound."""
+
+    sizes: tuple
+    sides: tuple
+    marks: tuple
+    bounds: tuple
+    pins: tuple
+    num: int
+    den: int
+    cap: int
+
+    def __post_init__(self):
+        # Tuples, so that no later change of a caller's list reaches a job.
+        for name in ("sizes", "sides", "marks", "bounds", "pins"):
+            object.__setattr__(self, name, tuple(getattr(self, name)))
+
+    def changed(self, **fields):
+        """The same job with some fields put anew."""
+        return replace(self, **fields)
+
+    @property
+    def files(self):
+        """C."""
+        return len(self.sizes)
+
+    @property
+    def recipes(self):
+        """N: "the bounds list has N+1 numbers; with fewer than two, N is 0"."""
+        return max(len(self.bounds) - 1, 0)
+
+    @cached_property
+    def total(self):
+        """W, "the sum of all sizes"."""
+        return sum(self.sizes)
+
+    @cached_property
+    def largest(self):
+        """smax, "the largest size in the job", pinned files too."""
+        return max(self.sizes)
+
+    @cached_property
+    def recipe_files(self):
+        """The files of each recipe, for a job whose bounds are sound."""
+        return [view(self.bounds, self.pins, j) for j in range(self.recipes)]
+
+    @cached_property
+    def file_recipes(self):
+        """The recipes of each file "in rising number"."""
+        lists = [[] for _ in range(self.files)]
+        for j, files in enumerate(self.recipe_files):
+            for file in files:
+                lists[file].append(j)
+        return lists
+
+
+def view(bounds, pins, j):
+    """The part of the pins that is recipe j's own.
+
+    Empty "if there is no such recipe, or its two bounds are out of order or
+    beyond the pins".
+    """
+    if j + 1 >= len(bounds):
+        return []
+    start, end = bounds[j], bounds[j + 1]
+    if start > end or end > len(pins):
+        return []
+    return list(pins[start:end])
+
+
+# ---- Numbers for no: each finder gives the place of its refusal, or None
+
+
+def first(places):
+    return next(iter(places), None)
+
+
+def place_if(refused, place=0):
+    return place if refused else None
+
+
+def find_1(job, lent_ok):
+    return place_if(job.files == 0 or job.recipes == 0)
+
+
+def find_2(job, lent_ok):
+    return place_if(over_most(job.files, job.recipes, len(job.pins)))
+
+
+def over_most(files, recipes, pins):
+    return files > MOST_FILES or recipes > MOST_RECIPES or pins > MOST_PINS
+
+
+def find_3(job, lent_ok):
+    own = len(job.sides) == job.files and len(job.marks) == job.files
+    return place_if(not own or not lent_ok)
+
+
+def find_4(job, lent_ok):
+    """Three tests, each over the whole job before the next."""
+    bounds = job.bounds
+    if bounds[0] != 0:
+        return 0
+    short = first(j for j in range(job.recipes) if bounds[j + 1] < 2 + bounds[j])
+    if short is not None:
+        return short
+    return place_if(bounds[job.recipes] != len(job.pins), job.recipes)
+
+
+def find_5(job, lent_ok):
+    """The lowest position over all recipes, which hold the pins in order."""
+    for j in range(job.recipes):
+        for position in range(job.bounds[j], job.bounds[j + 1]):
+            earlier = job.pins[job.bounds[j] : position]
+            pin = job.pins[position]
+            if pin >= job.files or pin in earlier:
+                return position
+    return None
+
+
+def find_6(job, lent_ok):
+    return first(
+        i
+        for i in range(job.files)
+        if job.sizes[i] == 0 or job.sides[i] > 1 or job.marks[i] > 1
+    )
+
+
+def find_7(job, lent_ok):
+    return place_if(job.num == 0 or job.num >= job.den or job.den > MOST_DEN)
+
+
+def find_8(job, lent_ok):
+    return place_if(all(mark == PINNED for mark in job.marks))
+
+
+def find_9(job, lent_ok):
+    return place_if(not balanced(job, size_of_a(job, job.sides)))
+
+
+FINDERS = (find_1, find_2, find_3, find_4, find_5, find_6, find_7, find_8, find_9)
+
+
+def refusal(job, lent_ok, last):
+    """ "Checks run in the order 1 to 9 and the first that applies is the answer." """
+    for number, find in enumerate(FINDERS[:last], start=1):
+        place = find(job, lent_ok)
+        if place is not None:
+            return number, place
+    return 0, 0
+
+
+def check(job, lent_ok=True):
+    """The number 0 to 9 and its place. lent_ok: the lists lent have their lengths."""
+    return refusal(job, lent_ok, 9)
+
+
+def measure(job):
+    """Number, place, cut and |A|: "gives 1 to 6", with nothing moved."""
+    number, place = refusal(job, True, 6)
+    if number:
+        return number, place, 0, 0
+    return 0, 0, cut(job, job.sides), size_of_a(job, job.sides)
+
+
+def lent_fits(job, gains, moves, scans, scratch):
+    """Whether lent lists of these lengths serve: one, four, two and one of them."""
+    return (
+        gains == job.files
+        and all(length >= job.files for length in moves)
+        and all(length >= 4 * job.recipes for length in scans)
+        and scratch >= len(job.pins) + 4 * job.files + 4 * job.recipes + 16
+    )
+
+
+# ---- Gain, cut, balance
+
+
+def side_counts(job, sides):
+    """For each recipe, its number of files in A and in B."""
+    counts = []
+    for files in job.recipe_files:
+        in_b = sum(sides[file] for file in files)
+        counts.append((len(files) - in_b, in_b))
+    return counts
+
+
+def cut(job, sides):
+    """ "The cut is the number of cut recipes", those with files in both vaults."""
+    return sum(1 for in_a, in_b in side_counts(job, sides) if in_a and in_b)
+
+
+def all_gains(job, sides):
+    """The gain of every file, counted from the split alone.
+
+    "The count of its recipes where it is alone on its side, less the count of
+    those with no file on the other side."
+    """
+    gains = [0] * job.files
+    for files, counts in zip(job.recipe_files, side_counts(job, sides)):
+        for file in files:
+            own_side = sides[file]
+            if counts[own_side] == 1:
+                gains[file] += 1
+            if counts[1 - own_side] == 0:
+                gains[file] -= 1
+    return gains
+
+
+def size_of_a(job, sides):
+    return sum(size for size, side in zip(job.sizes, sides) if side == A)
+
+
+def balanced(job, size_a):
+    """Both tests in whole numbers, as document 01 writes them."""
+    goal = job.num * job.total
+    slack = job.den * job.largest
+    return job.den * size_a + slack >= goal and job.den * size_a <= goal + slack
+
+
+# ---- One pass
+
+
+def size_after(job, sides, size_a, file):
+    """|A| once the file has changed its side."""
+    return size_a - job.sizes[file] if sides[file] == A else size_a + job.sizes[file]
+
+
+def choose(job, sides, locked, gains):
+    """The file to move, or None when no legal move exists.
+
+    "Choose the legal move of greatest gain; of equals the least distance
+    between den·|A| after it and num·W; of equals the lowest file number."
+    """
+    size_a = size_of_a(job, sides)
+    best = None
+    for file in range(job.files):
+        if locked[file]:
+            continue
+        after = size_after(job, sides, size_a, file)
+        if not balanced(job, after):
+            continue
+        distance = abs(job.den * after - job.num * job.total)
+        rank = (-gains[file], distance, file)
+        if best is None or rank < best:
+            best = rank
+    return None if best is None else best[2]
+
+
+def scans_of_move(job, sides, locked, file):
+    """The scans of a move, as (recipe, kind). sides: the split before the move.
+
+    Of a recipe of the moved file, T counts "its files on the side moved to,
+    before the move, and F those left on the other side, after it". The moved
+    file is in neither count.
+    """
+    side_to = 1 - sides[file]
+    scans = []
+    for j in job.file_recipes[file]:
+        others = [other for other in job.recipe_files[j] if other != file]
+        files_t = [other for other in others if sides[other] == side_to]
+        files_f = [other for other in others if sides[other] != side_to]
+        if len(files_t) == 0:
+            scans.append((j, 1))
+        if len(files_t) == 1 and not locked[files_t[0]]:
+            scans.append((j, 2))
+        if len(files_f) == 0:
+            scans.append((j, 3))
+        if len(files_f) == 1 and not locked[files_f[0]]:
+            scans.append((j, 4))
+    return scans
+
+
+def best_prefix(cuts):
+    """How many moves to keep. cuts[k] is the cut after k moves; cuts[0] the start.
+
+    "The prefix of moves with the least cut, the shortest of equals; no move at
+    all is a prefix."
+    """
+    return cuts.index(min(cuts))
+
+
+@dataclass
+class PassAnswer:
+    """The answer of a pass, the sides it leaves, and what the lent lists hold."""
+
+    cut_before: int
+    cut_after: int
+    size_a: int
+    tried: int
+    kept: int
+    scans: int
+    visits: int
+    sides: list
+    gains: list
+    # The four move lists, "the first C move entries".
+    move_files: list
+    move_gains: list
+    move_cuts: list
+    move_scans: list
+    # The two scan lists, "first 4N scan entries".
+    scan_recipes: list
+    scan_kinds: list
+
+
+def padded(entries, length):
+    """The lists "hold the lists, then zeros"."""
+    return list(entries) + [0] * (length - len(entries))
+
+
+def end_gains(job, sides, move_files, move_gains):
+    """ "What stood after the last move tried: a moved file keeps the gain it had
+    when chosen, a pinned file holds 0." """
+    gains = all_gains(job, sides)
+    for file in range(job.files):
+        if job.marks[file] == PINNED:
+            gains[file] = 0
+    for file, gain in zip(move_files, move_gains):
+        gains[file] = gain
+    return gains
+
+
+def sides_after(sides, moved):
+    """The split once these files have changed their sides."""
+    after = list(sides)
+    for file in moved:
+        after[file] = 1 - after[file]
+    return after
+
+
+def one_pass(job, start):
+    """One pass over a sound job from the given sides."""
+    sides = list(start)
+    locked = [mark == PINNED for mark in job.marks]
+    cuts = [cut(job, sides)]
+    move_files, move_gains, move_scans, scans = [], [], [], []
+    while True:
+        gains = all_gains(job, sides)
+        file = choose(job, sides, locked, gains)
+        if file is None:
+            break
+        locked[file] = True
+        scans += scans_of_move(job, sides, locked, file)
+        sides[file] = 1 - sides[file]
+        cuts.append(cut(job, sides))
+        move_files.append(file)
+        move_gains.append(gains[file])
+        move_scans.append(len(scans))
+    kept = best_prefix(cuts)
+    left = sides_after(start, move_files[:kept])
+    return PassAnswer(
+        cut_before=cuts[0],
+        cut_after=cuts[kept],
+        size_a=size_of_a(job, left),
+        tried=len(move_files),
+        kept=kept,
+        scans=len(scans),
+        visits=sum(len(job.recipe_files[j]) for j, _ in scans),
+        sides=left,
+        gains=end_gains(job, sides, move_files, move_gains),
+        move_files=padded(move_files, job.files),
+        move_gains=padded(move_gains, job.files),
+        move_cuts=padded(cuts[1:], job.files),
+        move_scans=padded(move_scans, job.files),
+        scan_recipes=padded([j for j, _ in scans], 4 * job.recipes),
+        scan_kinds=padded([kind for _, kind in scans], 4 * job.recipes),
+    )
+
+
+# ---- A run
+
+
+@dataclass
+class RunAnswer:
+    """The answer of a run; last holds the last pass, whose sides and lists stand."""
+
+    number: int = 0
+    place: int = 0
+    cut_before: int = 0
+    cut_after: int = 0
+    size_a: int = 0
+    passes: int = 0
+    settled: bool = False
+    tried: int = 0
+    kept: int = 0
+    scans: int = 0
+    visits: int = 0
+    last: PassAnswer = None
+
+
+def all_passes(job):
+    """ "Passes follow one another until one leaves the cut equal, or the cap is
+    reached." A cap of 0 is none."""
+    answers = []
+    sides = job.sides
+    while True:
+        answer = one_pass(job, sides)
+        answers.append(answer)
+        sides = answer.sides
+        if answer.cut_after == answer.cut_before or len(answers) == job.cap:
+            return answers
+
+
+def run(job, lent_ok=True):
+    """The passes of a job, or its refusal with all other numbers 0."""
+    number, place = check(job, lent_ok)
+    if number:
+        return RunAnswer(number, place)
+    answers = all_passes(job)
+    last = answers[-1]
+    return RunAnswer(
+        cut_before=answers[0].cut_before,
+        cut_after=last.cut_after,
+        size_a=last.size_a,
+        passes=len(answers),
+        settled=last.cut_after == last.cut_before,
+        tried=sum(answer.tried for answer in answers),
+        kept=sum(answer.kept for answer in answers),
+        scans=sum(answer.scans for answer in answers),
+        visits=sum(answer.visits for answer in answers),
+        last=last,
+    )
+
+
+# ---- The stored job
+
+BLOCK = 512
+CHECKED = 510  # the bytes that a block's check covers
+VALUES = 253
+FILES_TO_A_BLOCK = 126
+HEADER, FILES, BOUNDS, PINS = 1, 2, 3, 4
+HEADER_VALUES = 6
+
+# Lengths lent for sizes, sides, marks, bounds and pins.
+ROOM_FOR_THE_LARGEST = (MOST_FILES, MOST_FILES, MOST_FILES, MOST_RECIPES + 1, MOST_PINS)
+
+
+def two_bytes(number):
+    """ "Low byte first everywhere." """
+    return number.to_bytes(2, "little")
+
+
+def number_at(data, at):
+    return int.from_bytes(data[at : at + 2], "little")
+
+
+def block_check(block):
+    """ "21,845 plus the sum of (i+1) times byte i over the first 510", in two bytes."""
+    total = sum((i + 1) * byte for i, byte in enumerate(block[:CHECKED]))
+    return (21845 + total) % 65536
+
+
+def make_block(number, kind, values):
+    """A whole block with its check. The values are at most 253."""
+    head = two_bytes(number) + bytes([kind, len(values)])
+    body = b"".join(two_bytes(value) for value in values)
+    checked = (head + body).ljust(CHECKED, b"\0")
+    return checked + two_bytes(block_check(checked))
+
+
+def value_counts(files, recipes, pins):
+    """Kind and count of values of each block, in order, as the header makes them.
+
+    "Only the last block of a kind may be short; a kind with no values has no
+    block." A file takes two values.
+    """
+    return (
+        [(HEADER, HEADER_VALUES)]
+        + [(FILES, 2 * count) for count in split(files, FILES_TO_A_BLOCK)]
+        + [(BOUNDS, count) for count in split(recipes + 1, VALUES)]
+        + [(PINS, count) for count in split(pins, VALUES)]
+    )
+
+
+def split(total, most):
+    """The counts that fill blocks of this most in turn."""
+    full, short = divmod(total, most)
+    return [most] * full + ([short] if short else [])
+
+
+def file_values(job):
+    """ "Two values each, size and then side + 2·mark." """
+    values = []
+    for size, side, mark in zip(job.sizes, job.sides, job.marks):
+        values += [size, side + 2 * mark]
+    return values
+
+
+def write_values(header, files, bounds, pins):
+    """The blocks of these values, cut as their own lengths say, faults and all."""
+    values = list(header) + list(files) + list(bounds) + list(pins)
+    counts = value_counts(len(files) // 2, len(bounds) - 1, len(pins))
+    blocks = []
+    for number, (kind, count) in enumerate(counts):
+        blocks.append(make_block(number, kind, values[:count]))
+        values = values[count:]
+    return b"".join(blocks)
+
+
+def write_job(job):
+    """The stored form of a job."""
+    header = (job.files, job.recipes, len(job.pins), job.num, job.den, job.cap)
+    return write_values(header, file_values(job), job.bounds, job.pins)
+
+
+def block_at(data, number):
+    return data[BLOCK * number : BLOCK * (number + 1)]
+
+
+def block_values(block, count):
+    return [number_at(block, 4 + 2 * i) for i in range(count)]
+
+
+def block_refusal(data, number, kind, count):
+    """ "21 then 22" of one block: number of the refusal, or 0."""
+    block = block_at(data, number)
+    if number_at(block, CHECKED) != block_check(block):
+        return 21
+    head = two_bytes(number) + bytes([kind, count])
+    unused = block[4 + 2 * count : CHECKED]
+    if block[:4] != head or any(unused):
+        return 22
+    # "A file's second value over 3 is 22."
+    if kind == FILES and any(value > 3 for value in block_values(block, count)[1::2]):
+        return 22
+    return 0
+
+
+def refused_reading(number, place):
+    """ "All other numbers of a refused answer are 0." """
+    return number, place, (0,) * HEADER_VALUES, None
+
+
+def read_job(data, room=None):
+    """Number, place, the header's six figures and the job (None when refused).
+
+    The order of the refusals is that of "The stored job", and reading "stops
+    after check 6".
+    """
+    if len(data) < BLOCK:
+        return refused_reading(20, 0)
+    number = block_refusal(data, 0, HEADER, HEADER_VALUES)
+    if number:
+        return refused_reading(number, 0)
+    header = tuple(block_values(block_at(data, 0), HEADER_VALUES))
+    number = header_refusal(header, room or ROOM_FOR_THE_LARGEST)
+    if number:
+        return refused_reading(number, 0)
+    counts = value_counts(*header[:3])
+    if len(data) != BLOCK * len(counts):
+        return refused_reading(20, 0)
+    for block, (kind, count) in enumerate(counts[1:], start=1):
+        number = block_refusal(data, block, kind, count)
+        if number:
+            return refused_reading(number, block)
+    job = job_of_blocks(data, header, counts)
+    number, place = refusal(job, True, 6)
+    if number:
+        return refused_reading(number, place)
+    return 0, 0, header, job
+
+
+def header_refusal(header, room):
+    """ "Refusals 1 and 2 from the header; 3 for a lent list too short." """
+    files, recipes, pins = header[:3]
+    if files == 0 or recipes == 0:
+        return 1
+    if over_most(files, recipes, pins):
+        return 2
+    needed = (files, files, files, recipes + 1, pins)
+    if any(have < need for have, need in zip(room, needed)):
+        return 3
+    return 0
+
+
+def job_of_blocks(data, header, counts):
+    """The job that blocks of a right layout hold."""
+    lists = {HEADER: [], FILES: [], BOUNDS: [], PINS: []}
+    for number, (kind, count) in enumerate(counts):
+        lists[kind] += block_values(block_at(data, number), count)
+    seconds = lists[FILES][1::2]
+    return Job(
+        sizes=lists[FILES][0::2],
+        sides=[second % 2 for second in seconds],
+        marks=[second // 2 for second in seconds],
+        bounds=lists[BOUNDS],
+        pins=lists[PINS],
+        num=header[3],
+        den=header[4],
+        cap=header[5],
+    )
+
+
+# ---- The program's words
+
+
+def refused_line(number, place):
+    return f"refused {number} {place}\n"
+
+
+def letters(sides):
+    """ "One letter for each file." """
+    return "".join("AB"[side] for side in sides)
+
+
+def run_stored(data):
+    """What the program prints for these bytes on standard input."""
+    number, place, _, job = read_job(data)
+    if number:
+        return refused_line(number, place)
+    answer = run(job)
+    if answer.number:
+        return refused_line(answer.number, answer.place)
+    lines = [
+        "done",
+        f"cut {answer.cut_before} {answer.cut_after}",
+        f"size {answer.size_a} {job.total - answer.size_a}",
+        f"passes {answer.passes}",
+        f"settled {'yes' if answer.settled else 'no'}",
+        f"kept {answer.kept}",
+        f"visits {answer.visits}",
+        f"sides {letters(answer.last.sides)}",
+    ]
+    return "\n".join(lines) + "\n"
+
+
+def move_lines(answer):
+    """Each move tried, followed by its own scans."""
+    lines = []
+    start = 0
+    for k in range(answer.tried):
+        lines.append(
+            f"move {answer.move_files[k]} {answer.move_gains[k]} {answer.move_cuts[k]}"
+        )
+        end = answer.move_scans[k]
+        for recipe, kind in zip(
+            answer.scan_recipes[start:end], answer.scan_kinds[start:end]
+        ):
+            lines.append(f"scan {recipe} {kind}")
+        start = end
+    return lines
+
+
+def trace(data):
+    """One pass over a stored job, move by move."""
+    number, place, _, job = read_job(data)
+    if number == 0:
+        number, place = check(job)
+    if number:
+        return refused_line(number, place)
+    answer = one_pass(job, job.sides)
+    lines = ["done"]
+    lines += move_lines(answer)
+    lines += [
+        "gains " + " ".join(str(gain) for gain in answer.gains),
+        f"cut {answer.cut_before} {answer.cut_after}",
+        f"size {answer.size_a} {job.total - answer.size_a}",
+        f"tried {answer.tried}",
+        f"kept {answer.kept}",
+        f"scans {answer.scans}",
+        f"visits {answer.visits}",
+        f"sides {letters(answer.sides)}",
+    ]
+    return "\n".join(lines) + "\n"
+
+
+def main(words, data):
+    """The report of the bytes, or with the one word `trace` their trace."""
+    return trace(data) if words == ["trace"] else run_stored(data)
+
+
+if __name__ == "__main__":
+    import sys
+
+    sys.stdout.write(main(sys.argv[1:], sys.stdin.buffer.read()))

@@ -1,0 +1,823 @@
+"""Self-tests of the reference: what document 01 says, asked of planner.py.
+
+The last class plants the errors that document 01 names and asks that the same
+tests see them, so that none of them passes for want of looking.
+"""
+
+import itertools
+import random
+import unittest
+from unittest import mock
+
+import faults
+import planner
+import samples
+from mill import mill
+from planner import A, B, FREE, PINNED
+
+RANDOM_JOBS = 300
+
+
+def small_jobs(count=RANDOM_JOBS):
+    """Random sound jobs from two files up, of many shapes; always the same ones."""
+    for seed in range(count):
+        rng = random.Random(seed)
+        yield samples.random_job(
+            rng,
+            files=rng.randint(2, 24),
+            recipes=rng.randint(1, 30),
+            longest=rng.choice([2, 3, 5, 24]),
+            top_size=rng.choice([1, 3, 9, 65535]),
+            pinned=rng.choice([0, 0.1, 0.5, 0.9]),
+            cap=rng.choice([0, 0, 1, 2, 65535]),
+        )
+
+
+def moves_of(answer):
+    return answer.move_files[: answer.tried]
+
+
+def scans_by_move(answer):
+    """The listed scans of each move, cut where the fourth move list says."""
+    scans = list(zip(answer.scan_recipes, answer.scan_kinds))
+    ends = [0] + answer.move_scans[: answer.tried]
+    return [scans[a:b] for a, b in zip(ends, ends[1:])]
+
+
+def scanned_files(job, sides, file, recipe, kind):
+    """The files that a scan of this kind speaks of. sides: before the move."""
+    others = [other for other in job.recipe_files[recipe] if other != file]
+    if kind in (1, 3):
+        return others
+    side_to = 1 - sides[file]
+    return [other for other in others if (sides[other] == side_to) == (kind == 2)]
+
+
+STEPS = {1: 1, 2: -1, 3: -1, 4: 1}
+
+
+class Replay:
+    """The gains of the free files, kept by the listed scans alone."""
+
+    def __init__(self, job, start):
+        self.job = job
+        self.sides = list(start)
+        self.locked = [mark == PINNED for mark in job.marks]
+        self.gains = planner.all_gains(job, start)
+
+    def move(self, file, scans):
+        self.locked[file] = True
+        for recipe, kind in scans:
+            for other in scanned_files(self.job, self.sides, file, recipe, kind):
+                if not self.locked[other]:
+                    self.gains[other] += STEPS[kind]
+        self.sides[file] = 1 - self.sides[file]
+
+    def free_gains(self):
+        return self.free_part(self.gains)
+
+    def recounted(self):
+        return self.free_part(planner.all_gains(self.job, self.sides))
+
+    def free_part(self, gains):
+        return {i: gain for i, gain in enumerate(gains) if not self.locked[i]}
+
+
+# ---- What a pass has to meet; each raises AssertionError where it does not
+
+
+def see_replay(job, start):
+    """After every move the replayed gains of free files are those from scratch."""
+    answer = planner.one_pass(job, start)
+    replay = Replay(job, start)
+    for file, scans in zip(moves_of(answer), scans_by_move(answer)):
+        replay.move(file, scans)
+        assert replay.free_gains() == replay.recounted(), "a gain replayed is wrong"
+
+
+def see_four_scans(job, start):
+    """No recipe is scanned over four times, and the visits are the sum."""
+    answer = planner.one_pass(job, start)
+    scanned = answer.scan_recipes[: answer.scans]
+    for recipe in set(scanned):
+        assert scanned.count(recipe) <= 4, "a recipe scanned over four times"
+    lengths = [job.bounds[j + 1] - job.bounds[j] for j in scanned]
+    assert answer.visits == sum(lengths), "the visits are not the sum"
+
+
+def see_moves(job, start):
+    """Each move is free and legal, no free file ranks before it, and sums hold."""
+    answer = planner.one_pass(job, start)
+    sides = list(start)
+    locked = [mark == PINNED for mark in job.marks]
+    for k, file in enumerate(moves_of(answer)):
+        legal = legal_moves(job, sides, locked)
+        assert file in legal, "a move that is not legal"
+        assert file == min(legal, key=legal.get), "a better move was there"
+        assert answer.move_gains[k] == -legal[file][0], "a gain is wrong"
+        locked[file] = True
+        sides[file] = 1 - sides[file]
+        now = planner.cut(job, sides)
+        gained = sum(answer.move_gains[: k + 1])
+        assert answer.move_cuts[k] == now, "a cut is wrong"
+        assert answer.cut_before - gained == now, "the gains do not add up"
+    assert not legal_moves(job, sides, locked), "a legal move was left"
+
+
+def legal_moves(job, sides, locked):
+    """Each legal file with its rank, the gain taken as what the cut loses."""
+    legal = {}
+    for file in range(job.files):
+        after = planner.sides_after(sides, [file])
+        in_a = sum(job.sizes[i] for i in range(job.files) if after[i] == A)
+        # Both of the two tests of balance say that this is at most den·smax.
+        off = job.den * in_a - job.num * sum(job.sizes)
+        if locked[file] or abs(off) > job.den * max(job.sizes):
+            continue
+        lost = planner.cut(job, sides) - planner.cut(job, after)
+        legal[file] = (-lost, abs(off), file)
+    return legal
+
+
+def see_best_prefix(job, start):
+    """The sides are those of the shortest prefix of least cut, and so are figures."""
+    answer = planner.one_pass(job, start)
+    moves = moves_of(answer)
+    cuts = [
+        planner.cut(job, planner.sides_after(start, moves[:k]))
+        for k in range(len(moves) + 1)
+    ]
+    assert all(now > cuts[answer.kept] for now in cuts[: answer.kept]), "not shortest"
+    assert all(now >= cuts[answer.kept] for now in cuts), "not the least cut"
+    assert answer.cut_after == cuts[answer.kept], "not the cut of the prefix"
+    left = planner.sides_after(start, moves[: answer.kept])
+    assert answer.sides == left, "not the sides of the prefix"
+    assert answer.size_a == planner.size_of_a(job, left), "not the size of A"
+
+
+def see_lists(job, start):
+    """The gain list at the end, and the zeros behind the lists."""
+    answer = planner.one_pass(job, start)
+    moves = moves_of(answer)
+    end = planner.all_gains(job, planner.sides_after(start, moves))
+    for file in range(job.files):
+        if job.marks[file] == PINNED:
+            expected = 0
+        elif file in moves:
+            expected = answer.move_gains[moves.index(file)]
+        else:
+            expected = end[file]
+        assert answer.gains[file] == expected, "the gain list is wrong"
+    move_lists = (
+        answer.move_files,
+        answer.move_gains,
+        answer.move_cuts,
+        answer.move_scans,
+    )
+    for entries in move_lists:
+        assert len(entries) == job.files, "a move list is not C long"
+        assert not any(entries[answer.tried :]), "no zeros behind the moves"
+    for entries in (answer.scan_recipes, answer.scan_kinds):
+        assert len(entries) == 4 * job.recipes, "a scan list is not 4N long"
+        assert not any(entries[answer.scans :]), "no zeros behind the scans"
+
+
+ALL_SEEN = (see_replay, see_four_scans, see_moves, see_best_prefix, see_lists)
+
+
+class Chain(unittest.TestCase):
+    """ "Chain case, whole"."""
+
+    def setUp(self):
+        self.job = samples.chain()
+        self.first = planner.one_pass(self.job, self.job.sides)
+        self.second = planner.one_pass(self.job, self.first.sides)
+
+    def test_starting_gains(self):
+        self.assertEqual(planner.all_gains(self.job, self.job.sides), [1, 2, 2, 1])
+
+    def test_first_pass(self):
+        answer = self.first
+        self.assertEqual(answer.move_files, [1, 2, 0, 3])
+        self.assertEqual(answer.move_cuts, [1, 1, 2, 3])
+        self.assertEqual((answer.cut_before, answer.cut_after), (3, 1))
+        self.assertEqual((answer.tried, answer.kept), (4, 1))
+        self.assertEqual((answer.scans, answer.visits), (9, 18))
+        self.assertEqual(answer.sides, [A, A, A, B])
+
+    def test_second_pass(self):
+        answer = self.second
+        self.assertEqual(answer.move_files, [2, 1, 3, 0])
+        self.assertEqual(answer.move_cuts, [1, 1, 2, 1])
+        self.assertEqual((answer.kept, answer.visits), (0, 18))
+        self.assertEqual(answer.gains, [1, 0, 0, -1])
+
+    def test_run(self):
+        answer = planner.run(self.job)
+        self.assertEqual((answer.passes, answer.settled), (2, True))
+        self.assertEqual((answer.tried, answer.kept), (8, 1))
+        self.assertEqual((answer.scans, answer.visits), (18, 36))
+        self.assertEqual(answer.last, self.second)
+
+    def test_program(self):
+        report = planner.run_stored(planner.write_job(self.job))
+        self.assertEqual(
+            report,
+            "done\ncut 3 1\nsize 3 1\npasses 2\nsettled yes\n"
+            "kept 1\nvisits 36\nsides AAAB\n",
+        )
+
+    def test_trace(self):
+        lines = planner.trace(planner.write_job(self.job)).splitlines()
+        moves = [line for line in lines if line.startswith("move")]
+        self.assertEqual(
+            moves, ["move 1 2 1", "move 2 0 1", "move 0 -1 2", "move 3 -1 3"]
+        )
+        # The first move's two recipes, each with its two adjustments.
+        self.assertEqual(
+            lines[:6],
+            ["done", moves[0], "scan 0 2", "scan 0 3", "scan 2 2", "scan 2 3"],
+        )
+        self.assertEqual(lines[-8], "gains -1 2 0 -1")
+        self.assertEqual(lines[-7:-5], ["cut 3 1", "size 3 1"])
+        self.assertEqual(
+            lines[-5:], ["tried 4", "kept 1", "scans 9", "visits 18", "sides AAAB"]
+        )
+        self.assertEqual(len(lines), 1 + 4 + 9 + 8)
+
+    def test_cap_of_one_is_not_settled(self):
+        answer = planner.run(samples.chain(cap=1))
+        self.assertEqual((answer.passes, answer.settled, answer.visits), (1, False, 18))
+
+    def test_cap_of_two_is_settled(self):
+        """The second pass is the last by the cap, and leaves the cut equal."""
+        answer = planner.run(samples.chain(cap=2))
+        self.assertEqual((answer.passes, answer.settled), (2, True))
+
+
+class Marked(unittest.TestCase):
+    """m3 to m9; m1 and m2 are the chain's own tests."""
+
+    def test_m3_gains_after_the_first_move(self):
+        job = samples.chain()
+        gains = planner.all_gains(job, planner.sides_after(job.sides, [1]))
+        self.assertEqual([gains[i] for i in (0, 2, 3)], [-1, 0, 1])
+
+    def test_m4_balance(self):
+        job = samples.chain()
+        found = [planner.balanced(job, size_a) for size_a in range(5)]
+        self.assertEqual(found, [False, True, True, True, False])
+
+    def test_m5_two_files(self):
+        job = samples.two_files()
+        first = planner.one_pass(job, job.sides)
+        self.assertEqual((first.move_files[0], first.move_cuts[0]), (0, 0))
+        answer = planner.run(job)
+        self.assertEqual((answer.cut_after, answer.passes, answer.visits), (0, 2, 12))
+        self.assertTrue(answer.settled)
+
+    def kinds(self, moves):
+        """The scan kinds of moves that are given and not chosen."""
+        job = samples.three_files()
+        sides, locked, kinds = list(job.sides), [False] * 3, []
+        for file in moves:
+            locked[file] = True
+            scans = planner.scans_of_move(job, sides, locked, file)
+            kinds += [kind for _, kind in scans]
+            sides[file] = 1 - sides[file]
+        return kinds
+
+    def test_m6_the_bound_met(self):
+        self.assertEqual(self.kinds([0, 1, 2]), [2, 4, 3, 1])
+
+    def test_locked_file_left_alone_is_not_scanned(self):
+        """The moves 0, 2, 1 "would give five" were the locked file scanned."""
+        self.assertEqual(self.kinds([0, 2, 1]), [2, 4, 2])
+
+    def test_m7_check_of_zeros(self):
+        self.assertEqual(planner.block_check(bytes(510)), 21845)
+
+    def test_m8_check_of_the_last_byte(self):
+        self.assertEqual(planner.block_check(bytes(509) + b"\xff"), 20823)
+
+    def test_m9_zeros_are_refused(self):
+        self.assertEqual(planner.run_stored(bytes(512)), "refused 21 0\n")
+
+
+class Passes(unittest.TestCase):
+    """Facts of every pass, on many random jobs."""
+
+    def test_random_jobs(self):
+        for job in small_jobs():
+            self.assertEqual(planner.check(job), (0, 0))
+            for see in ALL_SEEN:
+                see(job, job.sides)
+
+    def test_gain_is_what_the_cut_loses(self):
+        for job in small_jobs():
+            gains = planner.all_gains(job, job.sides)
+            for file in range(job.files):
+                after = planner.sides_after(job.sides, [file])
+                lost = planner.cut(job, job.sides) - planner.cut(job, after)
+                self.assertEqual(gains[file], lost)
+                self.assertLessEqual(abs(gains[file]), len(job.file_recipes[file]))
+
+    def test_balance_after_every_move(self):
+        for job in small_jobs():
+            answer = planner.one_pass(job, job.sides)
+            for k in range(answer.tried + 1):
+                after = planner.sides_after(job.sides, moves_of(answer)[:k])
+                self.assertTrue(planner.balanced(job, planner.size_of_a(job, after)))
+
+    def test_pinned_files_stay(self):
+        for job in small_jobs():
+            answer = planner.run(job)
+            for file in range(job.files):
+                if job.marks[file] == PINNED:
+                    self.assertEqual(answer.last.sides[file], job.sides[file])
+
+    def test_file_on_no_recipe_has_gain_0(self):
+        job = samples.chain().changed(
+            sizes=[1] * 5, sides=[A, B, A, B, A], marks=[FREE] * 5
+        )
+        self.assertEqual(planner.check(job), (0, 0))
+        answer = planner.one_pass(job, job.sides)
+        self.assertIn(4, moves_of(answer))
+        self.assertEqual(answer.gains[4], 0)
+
+    def test_ties_go_by_distance_then_number(self):
+        """Gains alike: file 1 lands nearest the goal, and 2 is as near but later."""
+        job = samples.job_of_recipes(
+            [[0, 1, 2, 3]],
+            sizes=[4, 2, 2, 4],
+            sides=[A, A, A, B],
+            marks=[FREE] * 4,
+            num=1,
+            den=2,
+            cap=0,
+        )
+        # |A| is 8 of 12: file 1 or 2 brings it to 6, file 0 to 4, file 3 to 12.
+        # File 3 has the greatest gain, and 12 is more than 6 + 4.
+        self.assertEqual(planner.all_gains(job, job.sides), [0, 0, 0, 1])
+        self.assertEqual(planner.one_pass(job, job.sides).move_files[0], 1)
+
+
+class Runs(unittest.TestCase):
+    def test_run_is_its_passes(self):
+        for job in small_jobs():
+            answer = planner.run(job)
+            self.assertEqual((answer.number, answer.place), (0, 0))
+            sides, cuts, visits = job.sides, [planner.cut(job, job.sides)], 0
+            for _ in range(answer.passes):
+                one = planner.one_pass(job, sides)
+                sides, visits = one.sides, visits + one.visits
+                cuts.append(one.cut_after)
+            self.assertEqual(answer.visits, visits)
+            self.assertEqual(answer.last.sides, sides)
+            # Every pass but the last lowers the cut.
+            for before, after in zip(cuts, cuts[1:-1]):
+                self.assertLess(after, before)
+            self.assertEqual(answer.settled, cuts[-1] == cuts[-2])
+            if not answer.settled:
+                self.assertEqual(answer.passes, job.cap)
+            if job.cap:
+                self.assertLessEqual(answer.passes, job.cap)
+
+
+def wide_job(files):
+    """So many files of size 1, half in each vault, one recipe of two."""
+    return planner.Job(
+        [1] * files, [i % 2 for i in range(files)], [0] * files, [0, 2], [0, 1], 1, 2, 0
+    )
+
+
+class Refusals(unittest.TestCase):
+    """The table "Numbers for no"."""
+
+    def refused(self, number, place, lent_ok=True, **fields):
+        job = samples.chain().changed(**fields)
+        self.assertEqual(planner.check(job, lent_ok), (number, place))
+        answer = vars(planner.run(job, lent_ok))
+        self.assertEqual((answer.pop("number"), answer.pop("place")), (number, place))
+        # "All other numbers of a refused answer are 0."
+        self.assertFalse(any(answer.values()))
+
+    def test_1(self):
+        self.refused(1, 0, sizes=[])
+        self.refused(1, 0, bounds=[])
+        self.refused(1, 0, bounds=[0])
+
+    def test_2(self):
+        self.assertEqual(planner.check(wide_job(1024)), (0, 0))
+        self.assertEqual(planner.check(wide_job(1025)), (2, 0))
+        self.refused(2, 0, bounds=[0] * 1026)
+        self.refused(4, 0, bounds=[0] * 1025)
+        self.refused(2, 0, pins=[0] * 4097)
+        self.refused(4, 3, pins=[0] * 4096)
+
+    def test_3(self):
+        self.refused(3, 0, sides=[A, B, A])
+        self.refused(3, 0, sides=[A, B, A, B, A])
+        self.refused(3, 0, marks=[])
+        self.refused(3, 0, lent_ok=False)
+
+    def test_3_lent_lengths(self):
+        job = samples.chain()
+        right = dict(gains=4, moves=[4] * 4, scans=[12] * 2, scratch=6 + 16 + 12 + 16)
+        self.assertTrue(planner.lent_fits(job, **right))
+        longer = dict(gains=4, moves=[5] * 4, scans=[13] * 2, scratch=51)
+        self.assertTrue(planner.lent_fits(job, **longer))
+        for wrong in (
+            dict(gains=3),
+            dict(gains=5),
+            dict(moves=[4, 4, 3, 4]),
+            dict(scans=[12, 11]),
+            dict(scratch=49),
+        ):
+            self.assertFalse(planner.lent_fits(job, **{**right, **wrong}))
+
+    def test_4(self):
+        self.refused(4, 0, bounds=[1, 3, 5, 6])
+        self.refused(4, 0, bounds=[0, 1, 4, 6])
+        self.refused(4, 1, bounds=[0, 2, 3, 6])
+        self.refused(4, 2, bounds=[0, 2, 65535, 6])
+        self.refused(4, 3, bounds=[0, 2, 4, 7])
+        self.refused(4, 3, bounds=[0, 2, 4, 65535])
+        # A short recipe goes before an end that is not P.
+        self.refused(4, 2, bounds=[0, 2, 4, 5])
+        self.refused(4, 1, bounds=[0, 2, 0, 7])
+
+    def test_5(self):
+        self.refused(5, 0, pins=[4, 1, 2, 3, 1, 2])
+        self.refused(5, 5, pins=[0, 1, 2, 3, 1, 65535])
+        self.refused(5, 1, pins=[0, 0, 2, 3, 1, 4])
+        self.refused(5, 5, pins=[0, 1, 2, 3, 1, 1])
+
+    def test_6(self):
+        self.refused(6, 0, sizes=[0, 1, 1, 1])
+        self.refused(6, 3, sides=[A, B, A, 2])
+        self.refused(6, 1, marks=[0, 2, 0, 65535])
+
+    def test_7(self):
+        self.refused(7, 0, num=0)
+        self.refused(7, 0, num=2)
+        self.refused(7, 0, num=0, den=0)
+        self.refused(7, 0, num=500, den=1001)
+        passes = samples.chain().changed(num=500, den=1000)
+        self.assertEqual(planner.check(passes), (0, 0))
+
+    def test_8(self):
+        self.refused(8, 0, marks=[PINNED] * 4)
+
+    def test_9(self):
+        self.refused(9, 0, sides=[A] * 4)
+        self.refused(9, 0, sides=[B] * 4)
+
+    def test_measure(self):
+        job = samples.chain()
+        self.assertEqual(planner.measure(job), (0, 0, 3, 2))
+        # It needs no ratio, no free file and no balance.
+        for fields in (dict(num=0), dict(marks=[PINNED] * 4)):
+            self.assertEqual(planner.measure(job.changed(**fields)), (0, 0, 3, 2))
+        self.assertEqual(planner.measure(job.changed(sides=[A] * 4)), (0, 0, 0, 4))
+        self.assertEqual(planner.measure(job.changed(sizes=[1, 0, 1, 1])), (6, 1, 0, 0))
+
+    def test_view(self):
+        bounds, pins = [0, 2, 5, 4, 6, 7], [0, 1, 2, 3, 1, 2]
+        self.assertEqual(planner.view(bounds, pins, 0), [0, 1])
+        self.assertEqual(planner.view(bounds, pins, 1), [2, 3, 1])
+        for j in (2, 4, 5, 6, 10**9):
+            self.assertEqual(planner.view(bounds, pins, j), [])
+        self.assertEqual(planner.view(bounds, pins, 3), [1, 2])
+        self.assertEqual(planner.view([], pins, 0), [])
+        # A part that starts within the pins and ends beyond them, and a fall
+        # from beyond them.
+        self.assertEqual(planner.view([2, 7], pins, 0), [])
+        self.assertEqual(planner.view([7, 6], pins, 0), [])
+
+
+# One fault of each number, on fields that leave the other faults standing.
+JOB_FAULTS = {
+    1: dict(bounds=[0]),
+    2: dict(pins=[0] * 4097),
+    3: dict(marks=[0] * 3),
+    4: dict(bounds=[1, 2, 4, 6]),
+    5: dict(pins=[0, 1, 2, 4, 1, 2]),
+    6: dict(sizes=[1, 1, 0, 1]),
+    7: dict(num=2),
+    8: dict(marks=[PINNED] * 4),
+    9: dict(sides=[A] * 4),
+}
+
+
+class Order(unittest.TestCase):
+    """ "Checks run in the order 1 to 9 and the first that applies is the answer." """
+
+    def test_pairs_of_faults(self):
+        for low, high in itertools.combinations(JOB_FAULTS, 2):
+            # The fields of the lower number stand where both change one list.
+            fields = {**JOB_FAULTS[high], **JOB_FAULTS[low]}
+            number, _ = planner.check(samples.chain().changed(**fields))
+            self.assertEqual(number, low, (low, high))
+
+    def test_each_fault_by_itself(self):
+        for number, fields in JOB_FAULTS.items():
+            job = samples.chain().changed(**fields)
+            self.assertEqual(planner.check(job)[0], number)
+
+
+# A byte of any block of the chain, and what must not stand there.
+WRONG_LAYOUTS = ((0, 9), (1, 1), (2, 0), (2, 5), (3, 0), (3, 253), (509, 1))
+
+
+class Stored(unittest.TestCase):
+    """ "The stored job"."""
+
+    def setUp(self):
+        self.job = samples.chain()
+        self.data = planner.write_job(self.job)
+
+    def answer(self, data, room=None):
+        number, place, header, job = planner.read_job(data, room)
+        if number:
+            self.assertEqual((header, job), ((0,) * 6, None))
+        return number, place
+
+    def rechecked(self, block, at, byte):
+        """The chain's bytes with one byte of a block put anew, and its check too."""
+        blocks = [bytearray(planner.block_at(self.data, b)) for b in range(4)]
+        blocks[block][at] = byte
+        check = planner.block_check(blocks[block])
+        blocks[block][510:] = planner.two_bytes(check)
+        return b"".join(blocks)
+
+    def test_the_bytes_themselves(self):
+        """The layout, from document 01's sentences and not from the writer."""
+        self.assertEqual(len(self.data), 4 * 512)
+        head = bytes([0, 0, 1, 6, 4, 0, 3, 0, 6, 0, 1, 0, 2, 0, 0, 0])
+        files = bytes([1, 0, 2, 8, 1, 0, 0, 0, 1, 0, 1, 0, 1, 0, 0, 0, 1, 0, 1, 0])
+        bounds = bytes([2, 0, 3, 4, 0, 0, 2, 0, 4, 0, 6, 0])
+        pins = bytes([3, 0, 4, 6, 0, 0, 1, 0, 2, 0, 3, 0, 1, 0, 2, 0])
+        for number, block in enumerate((head, files, bounds, pins)):
+            start = 512 * number
+            self.assertEqual(self.data[start : start + len(block)], block)
+            self.assertFalse(any(self.data[start + len(block) : start + 510]))
+            total = 21845 + sum((i + 1) * byte for i, byte in enumerate(block))
+            low, high = total % 256, total // 256 % 256
+            self.assertEqual(self.data[start + 510 : start + 512], bytes([low, high]))
+
+    def test_what_was_written_is_read(self):
+        for job in small_jobs():
+            data = planner.write_job(job)
+            header = (job.files, job.recipes, len(job.pins), job.num, job.den, job.cap)
+            self.assertEqual(planner.read_job(data), (0, 0, header, job))
+
+    def test_block_counts(self):
+        """126 files, 253 bounds and 253 pins to a block; no values, no block."""
+        for files, recipes, pins, blocks in (
+            (126, 252, 253, 4),
+            (127, 252, 253, 5),
+            (126, 253, 253, 5),
+            (126, 252, 254, 5),
+            (1, 1, 0, 3),
+            (1024, 1024, 4096, 1 + 9 + 5 + 17),
+        ):
+            self.assertEqual(len(planner.value_counts(files, recipes, pins)), blocks)
+
+    def test_short_and_long(self):
+        for length in (0, 1, 511):
+            self.assertEqual(self.answer(self.data[:length]), (20, 0))
+        for length in (512, 513, 2047):
+            self.assertEqual(self.answer(self.data[:length]), (20, 0))
+        self.assertEqual(self.answer(self.data + b"\0"), (20, 0))
+        self.assertEqual(self.answer(self.data + self.data[512:1024]), (20, 0))
+
+    def test_wrong_check(self):
+        for block in range(4):
+            for at in (0, 4, 509, 510, 511):
+                data = bytearray(self.data)
+                data[512 * block + at] ^= 1
+                self.assertEqual(self.answer(bytes(data)), (21, block))
+
+    def test_wrong_layout(self):
+        for block in range(4):
+            for at, byte in WRONG_LAYOUTS:
+                data = self.rechecked(block, at, byte)
+                self.assertEqual(self.answer(data), (22, block))
+
+    def test_first_unused_value(self):
+        """Both bytes behind the last value of each block."""
+        for block, used in enumerate((6, 8, 4, 6)):
+            for at in (4 + 2 * used, 5 + 2 * used):
+                self.assertEqual(self.answer(self.rechecked(block, at, 1)), (22, block))
+
+    def test_unused_value_of_a_full_file_block(self):
+        """126 files take 252 values; the 253rd is unused."""
+        data = bytearray(planner.write_job(wide_job(127)))
+        data[512 + 508] = 1
+        check = planner.block_check(planner.block_at(data, 1))
+        data[512 + 510 : 1024] = planner.two_bytes(check)
+        self.assertEqual(self.answer(bytes(data)), (22, 1))
+
+    def test_header_of_no_files(self):
+        for at in (4, 6):
+            self.assertEqual(self.answer(self.rechecked(0, at, 0)), (1, 0))
+
+    def test_header_of_one_file(self):
+        """One file and one recipe pass 1, and meet 4: the recipe has no pins."""
+        data = planner.write_values((1, 1, 0, 1, 2, 0), [1, 0], [0, 0], [])
+        self.assertEqual(self.answer(data), (4, 0))
+
+    def test_header_at_its_most(self):
+        job = samples.random_job(random.Random(1), 1024, 1024, longest=4, reach=64)
+        self.assertEqual(self.answer(planner.write_job(job)), (0, 0))
+        for header in ((1025, 1, 2), (2, 1025, 2), (2, 1, 4097), (65535,) * 3):
+            block = planner.make_block(0, 1, header + (1, 2, 0))
+            self.assertEqual(self.answer(block), (2, 0))
+
+    def test_second_value_of_a_file(self):
+        self.assertEqual(self.answer(self.rechecked(1, 6, 3)), (0, 0))
+        self.assertEqual(self.answer(self.rechecked(1, 6, 4)), (22, 1))
+        self.assertEqual(self.answer(self.rechecked(1, 7, 1)), (22, 1))
+
+    def test_reading_stops_after_6(self):
+        for fields in (dict(num=0), dict(marks=[PINNED] * 4), dict(sides=[A] * 4)):
+            data = planner.write_job(self.job.changed(**fields))
+            self.assertEqual(self.answer(data), (0, 0))
+        for number in (4, 5, 6):
+            data = planner.write_job(self.job.changed(**JOB_FAULTS[number]))
+            self.assertEqual(self.answer(data)[0], number)
+
+    def test_room(self):
+        needed = (4, 4, 4, 4, 6)
+        self.assertEqual(self.answer(self.data, needed), (0, 0))
+        for k in range(5):
+            room = tuple(n - (i == k) for i, n in enumerate(needed))
+            self.assertEqual(self.answer(self.data, room), (3, 0))
+
+    def test_program_adds_7_to_9(self):
+        for number in (7, 8, 9):
+            data = planner.write_job(self.job.changed(**JOB_FAULTS[number]))
+            self.assertEqual(planner.run_stored(data), f"refused {number} 0\n")
+            self.assertEqual(planner.trace(data), f"refused {number} 0\n")
+
+
+class StoredOrder(unittest.TestCase):
+    """ "Order: under 512 bytes 20; block 0 check 21, layout 22; ..." """
+
+    def report(self, planted):
+        return planner.run_stored(faults.stored_chain(planted))
+
+    def test_no_fault(self):
+        self.assertTrue(self.report([]).startswith("done\n"))
+
+    def test_each_fault_by_itself(self):
+        for fault in faults.IN_ORDER:
+            (number, place), _ = fault
+            self.assertEqual(self.report([fault]), f"refused {number} {place}\n")
+
+    def test_pairs_of_faults(self):
+        for early, late in itertools.combinations(faults.IN_ORDER, 2):
+            (number, place), _ = early
+            for pair in ((early, late), (late, early)):
+                self.assertEqual(self.report(pair), f"refused {number} {place}\n")
+
+    def test_under_512_goes_first(self):
+        for fault in faults.IN_ORDER:
+            data = faults.stored_chain([fault])[:511]
+            self.assertEqual(planner.run_stored(data), "refused 20 0\n")
+
+    def test_room_goes_before_the_length(self):
+        data = faults.stored_chain([])
+        room = (4, 4, 3, 4, 6)
+        self.assertEqual(planner.read_job(data[:512], room)[:2], (3, 0))
+        # And after 1 and 2.
+        none = faults.stored_chain([faults.IN_ORDER[2]])
+        self.assertEqual(planner.read_job(none, (0,) * 5)[:2], (1, 0))
+        many = faults.stored_chain([faults.IN_ORDER[3]])
+        self.assertEqual(planner.read_job(many, (0,) * 5)[:2], (2, 0))
+
+
+class Mill(unittest.TestCase):
+    def test_it_is_sound_and_gains_much(self):
+        job = mill()
+        self.assertEqual((job.files, job.recipes, len(job.pins)), (306, 300, 857))
+        self.assertEqual(planner.check(job), (0, 0))
+        answer = planner.run(job)
+        self.assertTrue(answer.settled)
+        self.assertLess(answer.cut_after * 2, answer.cut_before)
+
+
+# ---- Errors to catch
+
+
+def scans_with(kind_2_looks, kind_4_looks, t_counts_moved, else_only):
+    """scans_of_move with one of document 01's errors put in."""
+
+    def scans(job, sides, locked, file):
+        side_to = 1 - sides[file]
+        found = []
+        for j in job.file_recipes[file]:
+            others = [other for other in job.recipe_files[j] if other != file]
+            files_t = [other for other in others if sides[other] == side_to]
+            files_f = [other for other in others if sides[other] != side_to]
+            counted = len(files_t) + (1 if t_counts_moved else 0)
+            before = []
+            if counted == 0:
+                before.append((j, 1))
+            if counted == 1 and not (kind_2_looks and files_t and locked[files_t[0]]):
+                before.append((j, 2))
+            after = []
+            if len(files_f) == 0:
+                after.append((j, 3))
+            if len(files_f) == 1 and not (kind_4_looks and locked[files_f[0]]):
+                after.append((j, 4))
+            found += before if else_only and before else before + after
+        return found
+
+    return scans
+
+
+def latest_best_prefix(cuts):
+    return len(cuts) - 1 - cuts[::-1].index(min(cuts))
+
+
+def last_prefix(cuts):
+    return len(cuts) - 1
+
+
+class CanFail(unittest.TestCase):
+    """Each error that document 01 names is seen by the test that is meant for it."""
+
+    def seen(self, see, name, wrong):
+        with mock.patch.object(planner, name, wrong):
+            for job in small_jobs():
+                try:
+                    see(job, job.sides)
+                except AssertionError:
+                    return True
+        return False
+
+    def test_right_scans_pass(self):
+        """The copy above, with no error put in, is not seen as wrong."""
+        right = scans_with(True, True, False, False)
+        for see in ALL_SEEN:
+            self.assertFalse(self.seen(see, "scans_of_move", right))
+
+    def test_kind_4_of_a_locked_file(self):
+        wrong = scans_with(True, False, False, False)
+        self.assertTrue(self.seen(see_four_scans, "scans_of_move", wrong))
+        with mock.patch.object(planner, "scans_of_move", wrong):
+            self.assertEqual(len(Marked().kinds([0, 2, 1])), 5)
+
+    def test_t_after_the_move(self):
+        wrong = scans_with(True, True, True, False)
+        self.assertTrue(self.seen(see_replay, "scans_of_move", wrong))
+
+    def test_one_adjustment_of_a_two_file_recipe(self):
+        wrong = scans_with(True, True, False, True)
+        self.assertTrue(self.seen(see_replay, "scans_of_move", wrong))
+
+    def test_latest_best_prefix(self):
+        self.assertTrue(self.seen(see_best_prefix, "best_prefix", latest_best_prefix))
+
+    def test_cut_of_the_last_move(self):
+        self.assertTrue(self.seen(see_best_prefix, "best_prefix", last_prefix))
+
+    def test_choice_without_the_distance(self):
+        def lowest_of_greatest(job, sides, locked, gains):
+            legal = legal_moves(job, sides, locked)
+            return min(legal, key=lambda i: (-gains[i], i)) if legal else None
+
+        self.assertTrue(self.seen(see_moves, "choose", lowest_of_greatest))
+
+    def test_choice_without_the_balance(self):
+        def any_free(job, sides, locked, gains):
+            free = [i for i in range(job.files) if not locked[i]]
+            return min(free, key=lambda i: (-gains[i], i)) if free else None
+
+        self.assertTrue(self.seen(see_moves, "choose", any_free))
+
+    def test_gain_list_of_the_end(self):
+        def not_kept(job, sides, move_files, move_gains):
+            return planner.all_gains(job, sides)
+
+        self.assertTrue(self.seen(see_lists, "end_gains", not_kept))
+
+    def test_gain_without_pinned_files(self):
+        def only_free(job, sides):
+            free = [mark == FREE for mark in job.marks]
+            gains = [0] * job.files
+            for files in job.recipe_files:
+                seen = [sides[f] for f in files if free[f]]
+                for f in files:
+                    alone = seen.count(sides[f]) == 1
+                    none_there = seen.count(1 - sides[f]) == 0
+                    gains[f] += alone - none_there
+            return gains
+
+        self.assertTrue(self.seen(see_moves, "all_gains", only_free))
+
+
+if __name__ == "__main__":
+    unittest.main()
