@@ -37,7 +37,7 @@ module _ (job : Job) where
       let b : recipeCount job ≢ 0 = eqb-false (recipeCount job) 0 (r .1) in
       (omega arith, omega arith)
 
-  ok2 : (most : Limits) → check2 most job .number ≡ 0 → (fileCount job ≤ (most .files)) × (recipeCount job ≤ (most .recipes)) × (pinCount job ≤ (most .pins))
+  pub ok2 : (most : Limits) → check2 most job .number ≡ 0 → (fileCount job ≤ (most .files)) × (recipeCount job ≤ (most .recipes)) × (pinCount job ≤ (most .pins))
   unfolding check2
   ok2 most h =
       let a = ltb (most .files) (fileCount job) in

@@ -1,0 +1,211 @@
+-- What keeps a pass in progress within its lists and numbers. Assumes nothing.
+use mathlib.Core.Path.{_≡_, refl, ap, _∙_}
+use Prim.Native.Nat.{ℕ, suc, _+_, _*_, _≤_, _<_}
+use mathlib.Core.Bool.{Bool, true, false, cond}
+use mathlib.Core.List.{List, [], _∷_, map}
+use native.Mathlib.Decide.{decLt}
+use native.Mathlib.Omega.{arith}
+use lib.Dec.{leb, eqb}
+use lib.IntN.{ℤ, pos, negsuc, _-ℤ_}
+use lib.ListN.{length, getD, length-map, List·getD-eq-default}
+use borrow.Author.Tests.{leb-true, eqb-true, le-leb, eq-eqb}
+use Rattle.rules.specs.Lists.{bit, count, upTo, diff}
+use Rattle.rules.specs.Job.{Job, Limits, fileCount, recipeCount, pinCount, views, recipes, Lent, scratchFor, fits}
+use Rattle.rules.specs.Split.{isCut, cut, holds, gain, weight, sizeA}
+use Rattle.rules.specs.Move.{State, free, moved, scans, endsFrom, visits}
+use Rattle.rules.specs.Pass.{gainsWhen, cutsAfter, standing, gainsAfter}
+use Rattle.rules.specs.Theorems.{Sound}
+use Rattle.rules.proofs.Tests.{and-yes}
+use Rattle.rules.proofs.Count.{total-le, total-const, getD-tabled, length-tabled}
+use Rattle.rules.proofs.Signed.{up, down, abs, diff-key}
+use Rattle.rules.proofs.Entries.{onto-length}
+use Rattle.rules.proofs.GainKept.{gains-kept, cut-moved}
+use Rattle.rules.proofs.Steps.{gains-length, cuts-length, ends-length}
+use Rattle.rules.proofs.FourScans.{all-scans, all-visits}
+use Rattle.rules.proofs.Sizes.{sizes-add, gain-abs}
+use Rattle.rules.proofs.SoundJob.{recipes-distinct, recipes-length, views-total}
+use Rattle.split.specs.Moving.{Board}
+use Rattle.split.specs.Going.{begins, made, stands, Going}
+use Rattle.split.proofs.NextMove.{Next, stands-long, stands-binary, made-free, few-moves}
+use Rattle.split.proofs.BestSoFar.{made-length}
+use Rattle.split.proofs.ChoiceNow.{gainsNow, gains-long, gains-fresh}
+
+-- ---- the lent lists are long enough
+
+pub record Roomy (job : Job) (l : Lent) : Type 0 where
+  pub gains : length (l .gains) ≡ fileCount job
+  pub tried : fileCount job ≤ length (l .tried)
+  pub gained : fileCount job ≤ length (l .gained)
+  pub cuts : fileCount job ≤ length (l .cuts)
+  pub scansSoFar : fileCount job ≤ length (l .ends)
+  pub scannedRecipes : 4 * recipeCount job ≤ length (l .recipes)
+  pub scannedKinds : 4 * recipeCount job ≤ length (l .kinds)
+  pub scratch : scratchFor job ≤ length (l .scratch)
+
+pub roomy : (job : Job) (l : Lent) → fits job l ≡ true → Roomy job l
+roomy job l ok =
+    let t8 = and-yes _ (leb (scratchFor job) (length (l .scratch))) ok in
+    let t7 = and-yes _ (leb (4 * recipeCount job) (length (l .kinds))) (t8 .0) in
+    let t6 = and-yes _ (leb (4 * recipeCount job) (length (l .recipes))) (t7 .0) in
+    let t5 = and-yes _ (leb (fileCount job) (length (l .ends))) (t6 .0) in
+    let t4 = and-yes _ (leb (fileCount job) (length (l .cuts))) (t5 .0) in
+    let t3 = and-yes _ (leb (fileCount job) (length (l .gained))) (t4 .0) in
+    let t2 = and-yes (eqb (length (l .gains)) (fileCount job)) (leb (fileCount job) (length (l .tried))) (t3 .0) in
+    record {
+      gains = eqb-true (length (l .gains)) (fileCount job) (t2 .0);
+      tried = leb-true (fileCount job) (length (l .tried)) (t2 .1);
+      gained = leb-true (fileCount job) (length (l .gained)) (t3 .1);
+      cuts = leb-true (fileCount job) (length (l .cuts)) (t4 .1);
+      scansSoFar = leb-true (fileCount job) (length (l .ends)) (t5 .1);
+      scannedRecipes = leb-true (4 * recipeCount job) (length (l .recipes)) (t6 .1);
+      scannedKinds = leb-true (4 * recipeCount job) (length (l .kinds)) (t7 .1);
+      scratch = leb-true (scratchFor job) (length (l .scratch)) (t8 .1);
+    }
+
+pub roomy-fits : {job : Job} {l : Lent} → Roomy job l → fits job l ≡ true
+roomy-fits {job} {l} r =
+    rw (eq-eqb (length (l .gains)) (fileCount job) (r .gains), le-leb (fileCount job) (length (l .tried)) (r .tried), le-leb (fileCount job) (length (l .gained)) (r .gained), le-leb (fileCount job) (length (l .cuts)) (r .cuts), le-leb (fileCount job) (length (l .ends)) (r .scansSoFar), le-leb (4 * recipeCount job) (length (l .recipes)) (r .scannedRecipes), le-leb (4 * recipeCount job) (length (l .kinds)) (r .scannedKinds), le-leb (scratchFor job) (length (l .scratch)) (r .scratch))
+
+-- ---- gains and cuts are no more than recipes
+
+count-few {ℓ} : {A : Type ℓ} (p : A → Bool) (xs : List A) → count p xs ≤ length xs
+unfolding count
+count-few p xs = omega (arith, total-le (λ x. 1) (λ x. bit (p x)) (λ x. bit-le (p x)) xs, total-const 1 xs)
+  where
+    bit-le : (b : Bool) → bit b ≤ 1
+    bit-le true = omega arith
+    bit-le false = omega arith
+
+standing-abs : (rs : List (List ℕ)) (st : State) (ms : List ℕ) (f : ℕ) → abs (standing rs st ms f) ≤ length rs
+unfolding standing
+standing-abs rs st [] f = omega (arith, gain-abs (st .sides) rs f, count-few (λ r. holds r f) rs)
+standing-abs rs st (m ∷ ms) f = go (eqb m f) (standing-abs rs (moved st m) ms f)
+  where
+    go : (b : Bool) → abs (standing rs (moved st m) ms f) ≤ length rs → abs (cond b (gain (st .sides) rs f) (standing rs (moved st m) ms f)) ≤ length rs
+    go true ih = omega (arith, gain-abs (st .sides) rs f, count-few (λ r. holds r f) rs)
+    go false ih = ih
+
+gains-abs : (rs : List (List ℕ)) (n : ℕ) (st : State) (ms : List ℕ) (f : ℕ) → abs (getD (gainsAfter rs n st ms) f (pos 0)) ≤ length rs
+unfolding gainsAfter
+gains-abs rs n st ms f = elim (decLt f n) [
+  | yes h ↦ rw (getD-tabled (λ f. cond (free st f) (standing rs st ms f) (pos 0)) n f (pos 0) h) (go (free st f))
+  | no z ↦
+      rw (List·getD-eq-default (map (λ f. cond (free st f) (standing rs st ms f) (pos 0)) (upTo n)) (pos 0) {n = f} (rw length-tabled (omega arith))) (omega arith)
+]
+  where
+    go : (b : Bool) → abs (cond b (standing rs st ms f) (pos 0)) ≤ length rs
+    go true = standing-abs rs st ms f
+    go false = omega arith
+
+-- a cut less a gain, where it is a cut
+pub cut-crossed : (a b : ℕ) (g : ℤ) → pos a -ℤ g ≡ pos b → a + down g ≡ b + up g
+unfolding diff
+cut-crossed a b (pos n) e = omega (arith, ap up e, ap down e, diff-key a n)
+cut-crossed a b (negsuc n) e = omega (arith, ap up e)
+
+module _ (most : Limits) (job : Job) (s : Sound most job) (k : ℕ) where
+  pub gain-near : (f : ℕ) → abs (getD (gainsNow job k) f (pos 0)) ≤ recipeCount job
+  gain-near f =
+      rw (gains-kept (recipes job) (recipes-distinct most job s) (fileCount job) (begins job) (made job k) (made-free most job s k) (s .binary))
+      (omega (arith, gains-abs (recipes job) (fileCount job) (begins job) (made job k) f, recipes-length most job s))
+
+  pub cut-few : cut (stands job k .sides) (recipes job) ≤ recipeCount job
+  unfolding cut
+  cut-few = omega (arith, count-few (isCut (stands job k .sides)) (recipes job), recipes-length most job s)
+
+  pub size-few : sizeA job (stands job k .sides) ≤ weight job
+  size-few = omega (arith, sizes-add job (stands job k .sides) (stands-binary most job s k))
+
+  pub scans-few : length (scans (recipes job) (begins job) (made job k)) ≤ 4 * recipeCount job
+  scans-few = rw (← recipes-length most job s) (all-scans (recipes job) (recipes-distinct most job s) (begins job) (made job k) (made-free most job s k) (s .binary))
+
+  pub visits-few : visits (views job) (scans (recipes job) (begins job) (made job k)) ≤ 4 * pinCount job
+  visits-few =
+      rw (← views-total most job s)
+      (all-visits (recipes job) (recipes-distinct most job s) (begins job) (made job k) (made-free most job s k) (s .binary) (views job) refl)
+
+  -- the gain listed of the next move is its gain, and takes from the cut no more than it has
+  pub gain-now : (f : ℕ) → Next job k f → getD (gainsNow job k) f (pos 0) ≡ gain (stands job k .sides) (recipes job) f
+  gain-now f n = gains-fresh most job s k f (rw (gains-long most job s k) (n .below)) (n .free)
+
+  pub cut-next : (f : ℕ) → Next job k f
+      → cut (stands job k .sides) (recipes job) + down (getD (gainsNow job k) f (pos 0)) ≡ cut (moved (stands job k) f .sides) (recipes job) + up (getD (gainsNow job k) f (pos 0))
+  cut-next f n =
+      cut-crossed (cut (stands job k .sides) (recipes job)) (cut (moved (stands job k) f .sides) (recipes job)) (getD (gainsNow job k) f (pos 0))
+      (rw (gain-now f n) (cut-moved (recipes job) (recipes-distinct most job s) (stands job k) f (n .moves)))
+
+-- ---- the lists of a pass in progress are as long as lent
+
+pub record BoardLong (job : Job) (l : Lent) (b : Board) : Type 0 where
+  pub sides : length (b .sides) ≡ fileCount job
+  pub gains : length (b .rest .scanned .gains) ≡ fileCount job
+  pub tried : length (b .tried) ≡ length (l .tried)
+  pub gained : length (b .gained) ≡ length (l .gained)
+  pub cuts : length (b .cuts) ≡ length (l .cuts)
+  pub scansSoFar : length (b .ends) ≡ length (l .ends)
+  pub scannedRecipes : length (b .rest .scanned .recipes) ≡ length (l .recipes)
+  pub scannedKinds : length (b .rest .scanned .kinds) ≡ length (l .kinds)
+  pub scratch : length (b .rest .scratch) ≡ length (l .scratch)
+
+pub board-long : (most : Limits) (job : Job) → Sound most job → {l : Lent} → fits job l ≡ true → {k : ℕ} {b : Board} → Going job l k b → BoardLong job l b
+board-long most job s {l} ok {k} {b} g =
+    let r : Roomy job l = roomy job l ok in
+    let rs : List (List ℕ) = recipes job in
+    let ms : List ℕ = made job k in
+    let few : length ms ≤ fileCount job = omega (arith, made-length job k (g .few), g .few, few-moves most job s) in
+    let some = scans-few most job s k in
+    record {
+      sides = ap length (g .sides) ∙ stands-long most job s k .sides;
+      gains = ap length (g .gains) ∙ gains-long most job s k;
+      tried = ap length (g .tried) ∙ onto-length 0 ms (l .tried) (omega arith);
+      gained = ap length (g .gained) ∙ onto-length (pos 0) (gainsWhen rs (begins job) ms) (l .gained) (rw gains-length (omega arith));
+      cuts = ap length (g .cuts) ∙ onto-length 0 (cutsAfter rs (begins job) ms) (l .cuts) (rw cuts-length (omega arith));
+      scansSoFar = ap length (g .scansSoFar) ∙ onto-length 0 (endsFrom rs 0 (begins job) ms) (l .ends) (rw ends-length (omega arith));
+      scannedRecipes = ap length (g .scannedRecipes) ∙ onto-length 0 (map (λ c. c .recipe) (scans rs (begins job) ms)) (l .recipes) (rw length-map (omega arith));
+      scannedKinds = ap length (g .scannedKinds) ∙ onto-length 0 (map (λ c. c .kind) (scans rs (begins job) ms)) (l .kinds) (rw length-map (omega arith));
+      scratch = g .long;
+    }
+
+-- ---- what a move needs
+
+-- the lists have a place for move k, the gains and the cut fit, and the scans and visits of move k will
+pub record Safe (job : Job) (k f : ℕ) (b : Board) : Type 0 where
+  pub tried : k < length (b .tried)
+  pub gained : k < length (b .gained)
+  pub cuts : k < length (b .cuts)
+  pub scansSoFar : k < length (b .ends)
+  pub scannedRecipes : 4 * recipeCount job ≤ length (b .rest .scanned .recipes)
+  pub scannedKinds : 4 * recipeCount job ≤ length (b .rest .scanned .kinds)
+  pub near : (x : ℕ) → abs (getD (b .rest .scanned .gains) x (pos 0)) ≤ 65536
+  pub size : b .rest .scanned .progress .size ≤ weight job
+  pub few : b .rest .scanned .progress .cut ≤ recipeCount job
+  pub falls : up (getD (b .rest .scanned .gains) f (pos 0)) ≤ b .rest .scanned .progress .cut
+  pub scanning : length (scans (recipes job) (begins job) (made job (suc k))) ≤ 4 * recipeCount job
+  pub visiting : visits (views job) (scans (recipes job) (begins job) (made job (suc k))) ≤ 4 * pinCount job
+
+up-le : (a b : ℕ) (g : ℤ) → a + down g ≡ b + up g → up g ≤ a
+up-le a b (pos n) e = omega arith
+up-le a b (negsuc n) e = omega arith
+
+pub safe : (most : Limits) (job : Job) → Sound most job → recipeCount job ≤ 65536 → {l : Lent} → fits job l ≡ true
+    → {k f : ℕ} {b : Board} → Going job l k b → Next job k f → Safe job k f b
+safe most job s small {l} ok {k} {f} {b} g n =
+    let r : Roomy job l = roomy job l ok in
+    let m : BoardLong job l b = board-long most job s ok g in
+    let early : k < fileCount job = n .early in
+    record {
+      tried = omega (arith, m .tried, r .tried);
+      gained = omega (arith, m .gained, r .gained);
+      cuts = omega (arith, m .cuts, r .cuts);
+      scansSoFar = omega (arith, m .scansSoFar, r .scansSoFar);
+      scannedRecipes = omega (arith, m .scannedRecipes, r .scannedRecipes);
+      scannedKinds = omega (arith, m .scannedKinds, r .scannedKinds);
+      near = λ x. rw (g .gains) (omega (arith, gain-near most job s k x));
+      size = rw (g .progress .size) (size-few most job s k);
+      few = rw (g .progress .cutNow) (cut-few most job s k);
+      falls =
+          rw (g .gains, g .progress .cutNow)
+          (up-le (cut (stands job k .sides) (recipes job)) (cut (moved (stands job k) f .sides) (recipes job)) (getD (gainsNow job k) f (pos 0)) (cut-next most job s k f n));
+      scanning = scans-few most job s (suc k);
+      visiting = visits-few most job s (suc k);
+    }

@@ -1,0 +1,42 @@
+-- A pass before its first move. Assumes nothing.
+use mathlib.Core.Path.{sym, ap, _∙_}
+use native.Mathlib.Omega.{arith}
+use Rattle.rules.specs.Lists.{total, bestUpTo, onto}
+use Rattle.rules.specs.Job.{Job, recipes, Lent}
+use Rattle.rules.specs.Move.{stepsBy, scans, endsFrom, visits}
+use Rattle.rules.specs.Pass.{gainsWhen, cutsAfter, cutAt, keeps}
+use Rattle.rules.proofs.GainKept.{keptUp}
+use Rattle.split.specs.declared.progress.Progress.{Progress}
+use Rattle.split.specs.Moving.{Board}
+use Rattle.split.specs.Going.{begins, made, Going}
+use Rattle.split.specs.Treats.{Begun}
+
+pub goes-first : {job : Job} {l : Lent} {b : Board} → Begun job l b → Going job l 0 b
+unfolding stepsBy onto keptUp gainsWhen cutsAfter endsFrom scans keeps bestUpTo cutAt visits total
+goes-first {job} g = record {
+  few = omega arith;
+  sides = g .sides;
+  locks = g .locks;
+  cells = g .cells;
+  counts = g .counts;
+  long = g .long;
+  beyond = g .beyond;
+  gains = g .gains;
+  tried = g .tried;
+  gained = g .gained;
+  cuts = g .cuts;
+  scansSoFar = g .scansSoFar;
+  scannedRecipes = g .scannedRecipes;
+  scannedKinds = g .scannedKinds;
+  progress = record {
+    size = ap (λ (p : Progress). p .size) (g .progress);
+    cutNow = ap (λ (p : Progress). p .cut) (g .progress);
+    moves = ap (λ (p : Progress). p .moves) (g .progress);
+    best = ap (λ (p : Progress). p .best) (g .progress);
+    least =
+        ap (λ (p : Progress). p .least) (g .progress)
+        ∙ sym (ap (λ (p : Progress). cutAt (recipes job) (begins job) (made job 0) (p .best)) (g .progress));
+    scanned = ap (λ (p : Progress). p .scans) (g .progress);
+    visited = ap (λ (p : Progress). p .visits) (g .progress);
+  };
+}

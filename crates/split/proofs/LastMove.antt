@@ -1,0 +1,149 @@
+-- A pass after its last move: the figures are the pass's, the sides of the best prefix come back, and with zeros filled in the lists are those it leaves. Assumes nothing.
+use mathlib.Core.Path.{_≡_, refl, sym, ap, ap₂, _∙_}
+use Prim.Native.Nat.{ℕ, zero, suc, _+_, _-_, _*_, _≤_, _<_}
+use mathlib.Core.List.{List, _++_, map}
+use native.Mathlib.Nat.{add-zero, add-suc}
+use native.Mathlib.Omega.{arith}
+use lib.IntN.{pos}
+use lib.ListN.{length, getD, take, drop, replicate, length-map}
+use lib.Seq.{take-length}
+use Rattle.rules.specs.Lists.{onto, listed, allBelow}
+use Rattle.rules.specs.Job.{Job, Limits, fileCount, recipeCount, views, recipes, Lent, scratchFor}
+use Rattle.rules.specs.Move.{State, Scan, scans, endsFrom, visits}
+use Rattle.rules.specs.Pass.{gainsWhen, cutsAfter, cutAt, keeps, gainsAfter, passOf, tries, pass, leaves}
+use Rattle.rules.specs.Theorems.{Binary, Sound}
+use Rattle.rules.proofs.Entries.{onto-in}
+use Rattle.rules.proofs.MovesEnd.{Long}
+use Rattle.rules.proofs.GainKept.{gains-kept}
+use Rattle.rules.proofs.Steps.{move-back, gains-length, cuts-length, ends-length}
+use Rattle.rules.proofs.Runs.{keeps-le}
+use Rattle.rules.proofs.SoundJob.{recipes-distinct}
+use Rattle.split.specs.Ending.{turned, backTo}
+use Rattle.split.specs.Moving.{Board}
+use Rattle.split.specs.Going.{begins, made, stands, Going}
+use Rattle.split.specs.Treats.{cleared}
+use Rattle.split.proofs.NextMove.{Next, next-at, stands-long, stands-binary, made-free, few-moves}
+use Rattle.split.proofs.Bounds.{scans-few}
+use Rattle.split.proofs.LentLists.{onto-take, listed-of, listed-none}
+
+-- the moves beyond `best` taken back
+back-to : (most : Limits) (job : Job) → Sound most job → (tried : List ℕ) (best d : ℕ) → best + d ≤ length (tries job (job .sides))
+    → ((i : ℕ) → i < best + d → getD tried i 0 ≡ getD (tries job (job .sides)) i 0)
+    → backTo tried best d (stands job (best + d) .sides) ≡ stands job best .sides
+unfolding backTo
+back-to most job s tried best zero h e = ap (λ (i : ℕ). stands job i .sides) (add-zero best)
+back-to most job s tried best (suc d) h e =
+    let k : ℕ = best + d in
+    let f : ℕ = getD (tries job (job .sides)) k 0 in
+    let n : Next job k f = next-at most job s k (omega arith) in
+    let long : Long (fileCount job) (stands job k) = stands-long most job s k in
+    ap (λ (i : ℕ). backTo tried best d (turned (stands job i .sides) (getD tried k 0))) (add-suc best d)
+    ∙ ap₂ (λ (st : State) (x : ℕ). backTo tried best d (turned (st .sides) x)) (n .then) (e k (omega arith))
+    ∙ ap (λ (x : List ℕ). backTo tried best d x) (move-back (stands job k) f (omega (arith, n .below, long .sides)) (stands-binary most job s k f))
+    ∙ back-to most job s tried best d (omega arith) (λ i l. e i (omega arith))
+
+-- z filled in where the lists of the pass end
+fill-in {ℓ} : {A : Type ℓ} (n : ℕ) (z : A) (xs ys old now : List A) (k : ℕ) → now ≡ onto xs old → k ≡ length xs → xs ≡ ys → length ys ≤ n
+    → cleared k n z now ≡ listed n z ys old
+fill-in n z xs ys old now k e i m h = rw (e, i, m) (listed-of n z ys old h)
+
+-- what the end of a pass finds
+pub record Finished (job : Job) (l : Lent) (b : Board) : Type 0 where
+  -- there is room for the zeros, and moves can be taken back
+  pub order : b .rest .scanned .progress .best ≤ b .rest .scanned .progress .moves
+  pub early : b .rest .scanned .progress .moves ≤ fileCount job
+  pub few : b .rest .scanned .progress .scans ≤ 4 * recipeCount job
+  pub files : allBelow (length (b .sides)) (take (b .rest .scanned .progress .moves) (b .tried))
+  pub binary : Binary (b .sides)
+  pub back : backTo (b .tried) (b .rest .scanned .progress .best) (b .rest .scanned .progress .moves - b .rest .scanned .progress .best) (b .sides)
+      ≡ pass job (job .sides) .sidesAfter
+  -- the figures are the pass's
+  pub best : b .rest .scanned .progress .best ≡ pass job (job .sides) .kept
+  pub least : b .rest .scanned .progress .least ≡ pass job (job .sides) .cutAfter
+  pub moves : b .rest .scanned .progress .moves ≡ length (pass job (job .sides) .tried)
+  pub scanned : b .rest .scanned .progress .scans ≡ length (pass job (job .sides) .scanned)
+  pub visited : b .rest .scanned .progress .visits ≡ pass job (job .sides) .visited
+  -- the lists end in zeros
+  pub gains : b .rest .scanned .gains ≡ leaves job l (pass job (job .sides)) .gains
+  pub tried : cleared (b .rest .scanned .progress .moves) (fileCount job) 0 (b .tried) ≡ leaves job l (pass job (job .sides)) .tried
+  pub gained : cleared (b .rest .scanned .progress .moves) (fileCount job) (pos 0) (b .gained) ≡ leaves job l (pass job (job .sides)) .gained
+  pub cuts : cleared (b .rest .scanned .progress .moves) (fileCount job) 0 (b .cuts) ≡ leaves job l (pass job (job .sides)) .cuts
+  pub scansSoFar : cleared (b .rest .scanned .progress .moves) (fileCount job) 0 (b .ends) ≡ leaves job l (pass job (job .sides)) .ends
+  pub scannedRecipes : cleared (b .rest .scanned .progress .scans) (4 * recipeCount job) 0 (b .rest .scanned .recipes) ≡ leaves job l (pass job (job .sides)) .recipes
+  pub scannedKinds : cleared (b .rest .scanned .progress .scans) (4 * recipeCount job) 0 (b .rest .scanned .kinds) ≡ leaves job l (pass job (job .sides)) .kinds
+  pub scratch : replicate (scratchFor job) 0 ++ drop (scratchFor job) (b .rest .scratch) ≡ leaves job l (pass job (job .sides)) .scratch
+
+module _ (most : Limits) (job : Job) (s : Sound most job) {l : Lent} {k : ℕ} {b : Board} (g : Going job l k b) (end : k ≡ length (tries job (job .sides))) where
+  all-made : made job k ≡ tries job (job .sides)
+  all-made = ap (λ (i : ℕ). take i (tries job (job .sides))) end ∙ take-length (tries job (job .sides))
+
+  kept : b .rest .scanned .progress .best ≡ keeps (recipes job) (begins job) (tries job (job .sides))
+  kept = g .progress .best ∙ ap (λ (ms : List ℕ). keeps (recipes job) (begins job) ms) all-made
+
+  counted : b .rest .scanned .progress .moves ≡ length (made job k)
+  counted = g .progress .moves ∙ end ∙ sym (ap length all-made)
+
+  -- every move is of a file
+  moves-files : allBelow (length (b .sides)) (take (b .rest .scanned .progress .moves) (b .tried))
+  moves-files i h =
+      let e : take (b .rest .scanned .progress .moves) (b .tried) ≡ tries job (job .sides)
+      = ap₂ (λ (n : ℕ) (x : List ℕ). take n x) counted (g .tried) ∙ onto-take (made job k) (l .tried) ∙ all-made in
+      rw (e, g .sides, stands-long most job s k .sides) (next-at most job s i (rw e at h) .below)
+
+  tried-at : (i : ℕ) → i < k → getD (b .tried) i 0 ≡ getD (tries job (job .sides)) i 0
+  tried-at i h =
+      ap (λ (x : List ℕ). getD x i 0) (g .tried ∙ ap (λ (ms : List ℕ). onto ms (l .tried)) all-made)
+      ∙ onto-in 0 (tries job (job .sides)) (l .tried) i (omega arith)
+
+  goes-back : backTo (b .tried) (b .rest .scanned .progress .best) (b .rest .scanned .progress .moves - b .rest .scanned .progress .best) (b .sides)
+      ≡ stands job (keeps (recipes job) (begins job) (tries job (job .sides))) .sides
+  goes-back =
+      let B : ℕ = keeps (recipes job) (begins job) (tries job (job .sides)) in
+      let few : B ≤ length (tries job (job .sides)) = keeps-le (recipes job) (begins job) (tries job (job .sides)) in
+      let e : B + (k - B) ≡ k = omega arith in
+      rw (kept, g .progress .moves, g .sides)
+      (ap (λ (i : ℕ). backTo (b .tried) B (k - B) (stands job i .sides)) (sym e)
+      ∙ back-to most job s (b .tried) B (k - B) (omega arith) (λ i h. tried-at i (omega arith)))
+
+  pub finished : Finished job l b
+  unfolding passOf leaves
+  finished =
+      let ms : List ℕ = tries job (job .sides) in
+      let rs : List (List ℕ) = recipes job in
+      let few : length ms ≤ fileCount job = few-moves most job s in
+      let scanned : scans rs (begins job) (made job k) ≡ scans rs (begins job) ms = ap (λ (x : List ℕ). scans rs (begins job) x) all-made in
+      let some : length (scans rs (begins job) ms) ≤ 4 * recipeCount job = rw all-made at (scans-few most job s k) in
+      record {
+        order = rw (kept, g .progress .moves) (omega (arith, keeps-le rs (begins job) ms));
+        early = omega (arith, g .progress .moves);
+        few = rw (g .progress .scanned) (scans-few most job s k);
+        files = moves-files;
+        binary = rw (g .sides) (stands-binary most job s k);
+        back = goes-back;
+        best = kept;
+        least =
+            g .progress .least
+            ∙ ap₂ (λ (x : List ℕ) (i : ℕ). cutAt rs (begins job) x i) all-made kept
+            ∙ (unfold cutAt in refl);
+        moves = g .progress .moves ∙ end;
+        scanned = g .progress .scanned ∙ ap length scanned;
+        visited = g .progress .visited ∙ ap (λ (x : List Scan). visits (views job) x) scanned;
+        gains =
+            g .gains
+            ∙ gains-kept rs (recipes-distinct most job s) (fileCount job) (begins job) (made job k) (made-free most job s k) (s .binary)
+            ∙ ap (λ (x : List ℕ). gainsAfter rs (fileCount job) (begins job) x) all-made;
+        tried = fill-in (fileCount job) 0 (made job k) ms (l .tried) (b .tried) _ (g .tried) counted all-made few;
+        gained = fill-in (fileCount job) (pos 0) (gainsWhen rs (begins job) (made job k)) (gainsWhen rs (begins job) ms) (l .gained) (b .gained) _ (g .gained)
+            (counted ∙ sym (gains-length rs (begins job) (made job k))) (ap (λ (x : List ℕ). gainsWhen rs (begins job) x) all-made) (rw (gains-length rs (begins job) ms) few);
+        cuts = fill-in (fileCount job) 0 (cutsAfter rs (begins job) (made job k)) (cutsAfter rs (begins job) ms) (l .cuts) (b .cuts) _ (g .cuts)
+            (counted ∙ sym (cuts-length rs (begins job) (made job k))) (ap (λ (x : List ℕ). cutsAfter rs (begins job) x) all-made) (rw (cuts-length rs (begins job) ms) few);
+        scansSoFar = fill-in (fileCount job) 0 (endsFrom rs 0 (begins job) (made job k)) (endsFrom rs 0 (begins job) ms) (l .ends) (b .ends) _ (g .scansSoFar)
+            (counted ∙ sym (ends-length rs 0 (begins job) (made job k))) (ap (λ (x : List ℕ). endsFrom rs 0 (begins job) x) all-made) (rw (ends-length rs 0 (begins job) ms) few);
+        scannedRecipes = fill-in (4 * recipeCount job) 0 (map (λ c. c .recipe) (scans rs (begins job) (made job k))) (map (λ c. c .recipe) (scans rs (begins job) ms)) (l .recipes) (b .rest .scanned .recipes) _ (g .scannedRecipes)
+            (g .progress .scanned ∙ sym (length-map (scans rs (begins job) (made job k)) (λ c. c .recipe))) (ap (λ (x : List Scan). map (λ c. c .recipe) x) scanned) (rw length-map some);
+        scannedKinds = fill-in (4 * recipeCount job) 0 (map (λ c. c .kind) (scans rs (begins job) (made job k))) (map (λ c. c .kind) (scans rs (begins job) ms)) (l .kinds) (b .rest .scanned .kinds) _ (g .scannedKinds)
+            (g .progress .scanned ∙ sym (length-map (scans rs (begins job) (made job k)) (λ c. c .kind))) (ap (λ (x : List Scan). map (λ c. c .kind) x) scanned) (rw length-map some);
+        scratch =
+            ap (λ (x : List ℕ). replicate (scratchFor job) 0 ++ x) (g .beyond)
+            ∙ listed-none (scratchFor job) 0 (l .scratch);
+      }

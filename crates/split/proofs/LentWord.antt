@@ -1,0 +1,27 @@
+-- The check looks at the lent lists only after 1 and 2: a word on them matters for small jobs alone. Assumes nothing.
+use mathlib.Core.Path.{_≡_, refl, ap}
+use Prim.Native.Nat.{_≤_}
+use mathlib.Core.Bool.{Bool, true, false, cond}
+use lib.Dec.{eqb}
+use borrow.Author.Tests.{eqb-true}
+use Rattle.rules.specs.declared.Verdict.{Verdict}
+use Rattle.rules.specs.Job.{Job, Limits, fileCount, recipeCount, pinCount}
+use Rattle.rules.specs.Check.{_orElse_, check1, check2, check3, check4to6, check1to6, check7to9, check}
+use Rattle.rules.proofs.SoundJob.{ok2}
+
+-- a chain goes on only where its first check lets through
+chain-same : (v w w' : Verdict) → (v .number ≡ 0 → w ≡ w') → (v orElse w) ≡ (v orElse w')
+chain-same v w w' h = go (eqb (v .number) 0) refl
+  where
+    go : (b : Bool) → eqb (v .number) 0 ≡ b → cond b w v ≡ cond b w' v
+    go true e = h (eqb-true (v .number) 0 e)
+    go false e = refl
+
+pub word-late : (most : Limits) (job : Job) (a b : Bool)
+    → (fileCount job ≤ most .files → recipeCount job ≤ most .recipes → pinCount job ≤ most .pins → a ≡ b) → check most job a ≡ check most job b
+unfolding check check1to6
+word-late most job a b h =
+    ap (λ (v : Verdict). v orElse check7to9 most job)
+    (chain-same (check1 job) (check2 most job orElse check3 job a orElse check4to6 job) (check2 most job orElse check3 job b orElse check4to6 job)
+    (λ _. chain-same (check2 most job) (check3 job a orElse check4to6 job) (check3 job b orElse check4to6 job)
+    (λ z. let r = ok2 job most z in ap (λ (x : Bool). check3 job x orElse check4to6 job) (h (r .0) (r .1) (r .2)))))

@@ -1,0 +1,251 @@
+-- The move of the chosen file: what its code may count on, and what it leaves. Assumes nothing.
+use mathlib.Core.Path.{_≡_, sym, ap, ap₂, _∙_, subst}
+use Prim.Native.Nat.{ℕ, suc, _+_, _*_, _≤_, _<_}
+use mathlib.Core.Bool.{true}
+use mathlib.Core.List.{List, [], _∷_, _++_, map, map-append, append-nil}
+use native.Mathlib.Omega.{arith}
+use lib.IntN.{pos}
+use lib.ListN.{length, getD, take, drop, set, length-set, length-append, length-map}
+use lib.Seq.{getD-set-same, getD-set-other, drop-set-add, take-set-lt, drop-set-lt, drop-drop}
+use Rattle.rules.specs.Lists.{allBelow, onto}
+use Rattle.rules.specs.Job.{Job, Limits, fileCount, recipeCount, pinCount, viewOf, view, views, recipes, Lent, scratchFor, fits}
+use Rattle.rules.specs.Split.{other, sideOf, cut}
+use Rattle.rules.specs.Move.{State, moved, Scan, scansOf, scans, visits}
+use Rattle.rules.specs.Theorems.{Sound}
+use Rattle.rules.proofs.Count.{getD-tabled, total-append}
+use Rattle.rules.proofs.Entries.{onto-length}
+use Rattle.rules.proofs.SoundJob.{bound-le, view-length, view-below, recipes-distinct, recipes-length}
+use Rattle.rules.proofs.Steps.{recipesOf, scans-append}
+use Rattle.split.specs.declared.progress.Progress.{Progress}
+use Rattle.split.specs.Zones.{locksAt, countsAt, part, stateIn, Counts}
+use Rattle.split.specs.Scanning.{Treated, treated, treatAll, Fits, Ready}
+use Rattle.split.specs.Choosing.{sizeBy}
+use Rattle.split.specs.Ending.{turned}
+use Rattle.split.specs.Moving.{Board, cellsOf, cutBy, shiftedTo, countedOn, wayTo, treatFrom, treatMove, moveOne}
+use Rattle.split.specs.Movable.{Small, Movable, Turns}
+use Rattle.split.specs.Going.{begins, made, stands, Going}
+use Rattle.split.specs.Treats.{Shifted, MoveTreated}
+use Rattle.split.proofs.Bounds.{Roomy, roomy, BoardLong, board-long, cut-few, Safe, safe}
+use Rattle.split.proofs.NextBoard.{goes-on}
+use Rattle.split.proofs.ChoiceNow.{holds-now}
+use Rattle.split.proofs.NextMove.{Next, stands-binary}
+use Rattle.split.proofs.Recount.{beside-entry, beside-part}
+use Rattle.split.proofs.Parts.{part-set-above}
+use Rattle.split.proofs.LentParts.{cells-same}
+use Rattle.split.proofs.Treating.{wayOf, TreatedMove, move-treated, move-ready}
+
+-- ---- one entry set, seen from elsewhere in the list
+
+part-set-in : (a k i : ℕ) (v : ℕ) (z : List ℕ) → i < k → part a k (set z (a + i) v) ≡ set (part a k z) i v
+part-set-in a k i v z h = ap (take k) (drop-set-add a z i v) ∙ take-set-lt k (drop a z) i v h
+
+counts-set : {rs : List (List ℕ)} {st : State} {at n : ℕ} {z : List ℕ} (i v : ℕ) → i < at → Counts rs st at n z → Counts rs st at n (set z i v)
+counts-set {rs} {st} {at} {n} {z} i v h c = record {
+  each = λ j l.
+      let o = c .each j l in
+      record {
+        onA = getD-set-other z i (at + j) v 0 (λ e. omega arith) ∙ o .onA;
+        onB = getD-set-other z i (at + n + j) v 0 (λ e. omega arith) ∙ o .onB;
+        lockedA = getD-set-other z i (at + 2 * n + j) v 0 (λ e. omega arith) ∙ o .lockedA;
+        lockedB = getD-set-other z i (at + 3 * n + j) v 0 (λ e. omega arith) ∙ o .lockedB;
+      };
+}
+
+module _ (most : Limits) (job : Job) (s : Sound most job) (small : Small job) {l : Lent} (ok : fits job l ≡ true) {k f : ℕ} {b : Board} (g : Going job l k b) (x : Next job k f) where
+  abbrev rs : List (List ℕ)
+  rs = recipes job
+
+  abbrev st : State
+  st = stands job k
+
+  abbrev c : ℕ
+  c = fileCount job
+
+  abbrev n : ℕ
+  n = recipeCount job
+
+  abbrev p : ℕ
+  p = pinCount job
+
+  abbrev z : List ℕ
+  z = b .rest .scratch
+
+  abbrev locked : List ℕ
+  locked = set z (locksAt c p + f) 1
+
+  abbrev begun : Treated
+  begun = treated locked (b .rest .scanned .gains) (b .rest .scanned .recipes) (b .rest .scanned .kinds)
+      (shiftedTo (b .rest .scanned .progress) (sizeBy (b .rest .scanned .progress .size) (sideOf (b .sides) f) (getD (job .sizes) f 0))
+      (cutBy (b .rest .scanned .progress .cut) (getD (b .rest .scanned .gains) f (pos 0))))
+
+  sees : (j : ℕ) → j < n → viewOf (job .bounds) (job .pins) j ≡ getD rs j []
+  unfolding views
+  sees j h = sym (getD-tabled (view job) n j [] h)
+
+  room : scratchFor job ≤ length z
+  room = omega (arith, roomy job l ok .scratch, board-long most job s ok g .scratch)
+
+  long : length locked ≡ length z
+  long = length-set z (locksAt c p + f) 1
+
+  counted : Counts rs st (countsAt c p) n locked
+  counted = counts-set (locksAt c p + f) 1 (omega (arith, x .below)) (g .counts)
+
+  side : sideOf (turned (b .sides) f) f ≡ other (sideOf (st .sides) f)
+  side = getD-set-same (b .sides) f (other (sideOf (b .sides) f)) 0 (omega (arith, x .below, board-long most job s ok g .sides)) ∙ ap (λ (u : List ℕ). other (sideOf u f)) (g .sides)
+
+  locks : part (locksAt c p) c locked ≡ moved st f .locks
+  unfolding moved
+  locks = part-set-in (locksAt c p) c f 1 z (x .below) ∙ ap (λ (u : List ℕ). set u f 1) (g .locks)
+
+  now : stateIn c p (turned (b .sides) f) locked ≡ moved st f
+  unfolding moved
+  now = ap₂ (λ (u v : List ℕ). record { sides = u; locks = v }) (ap (λ (u : List ℕ). turned u f) (g .sides)) locks
+
+  is : treatMove (job .sizes) (job .bounds) (job .pins) f b ≡ treatAll (moved st f) (wayOf c n p st f) (viewOf (job .bounds) (job .pins)) (recipesOf rs f) begun
+  unfolding treatFrom
+  is =
+      ap (λ (u : State). treatAll u (wayTo c n p (sideOf (turned (b .sides) f) f)) (viewOf (job .bounds) (job .pins)) (cellsOf c p z f) begun) now
+      ∙ ap (λ (u : ℕ). treatAll (moved st f) (wayTo c n p u) (viewOf (job .bounds) (job .pins)) (cellsOf c p z f) begun) side
+      ∙ ap (λ (u : List ℕ). treatAll (moved st f) (wayOf c n p st f) (viewOf (job .bounds) (job .pins)) u begun) (g .cells .hold f (x .below))
+
+  did : TreatedMove rs st (moved st f) f (countsAt c p) n begun (treatMove (job .sizes) (job .bounds) (job .pins) f b)
+  did =
+      rw is
+      (move-treated rs (recipes-distinct most job s) st f (x .moves) c n p (recipes-length most job s) (viewOf (job .bounds) (job .pins)) sees
+      (moved st f) begun (rw long (omega (arith, room))) counted)
+
+  -- the scans so far, and this move's
+  more : scans rs (begins job) (made job (suc k)) ≡ scans rs (begins job) (made job k) ++ scansOf rs st f
+  more =
+      ap (scans rs (begins job)) (x .more)
+      ∙ scans-append rs (begins job) (made job k) (f ∷ [])
+      ∙ ap (λ (u : List Scan). scans rs (begins job) (made job k) ++ u) (unfold scans in append-nil (scansOf rs st f))
+
+  map-more : (h : Scan → ℕ) → map h (scans rs (begins job) (made job k)) ++ map h (scansOf rs st f) ≡ map h (scans rs (begins job) (made job (suc k)))
+  map-more h = sym (ap (map h) more ∙ map-append h (scans rs (begins job) (made job k)) (scansOf rs st f))
+
+  below : (a m : ℕ) → a + m ≤ locksAt c p → part a m (treatMove (job .sizes) (job .bounds) (job .pins) f b .scratch) ≡ part a m z
+  below a m h = beside-part (did .beside) a m (omega arith) ∙ part-set-above a m z (locksAt c p + f) 1 (omega arith)
+
+  entry : (i : ℕ) → i < locksAt c p → getD (treatMove (job .sizes) (job .bounds) (job .pins) f b .scratch) i 0 ≡ getD z i 0
+  entry i h = beside-entry (did .beside) i (omega arith) ∙ getD-set-other z (locksAt c p + f) i 1 0 (λ e. omega arith)
+
+  visits-more : (us vs : List Scan) → visits rs (us ++ vs) ≡ visits rs us + visits rs vs
+  unfolding visits
+  visits-more us vs = total-append (λ c. length (getD rs (c .recipe) [])) us vs
+
+  shifted : Shifted job k f b (treatMove (job .sizes) (job .bounds) (job .pins) f b .scanned .progress)
+  unfolding shiftedTo
+  shifted =
+      let e = did .progress in
+      record {
+        size = ap (λ (q : Progress). q .size) e;
+        cutNow = ap (λ (q : Progress). q .cut) e;
+        moves = ap (λ (q : Progress). q .moves) e;
+        best = ap (λ (q : Progress). q .best) e;
+        least = ap (λ (q : Progress). q .least) e;
+        scanned = ap (λ (q : Progress). q .scans) e
+            ∙ omega (arith, g .progress .scanned, ap length more, length-append (scans rs (begins job) (made job k)) (scansOf rs st f));
+        visited = ap (λ (q : Progress). q .visits) e
+            ∙ omega (arith, g .progress .visited, ap (visits (views job)) more, visits-more (scans rs (begins job) (made job k)) (scansOf rs st f));
+      }
+
+  care : Safe job k f b
+  care = safe most job s (omega (arith, small .scans)) ok g x
+
+  scans-fit : b .rest .scanned .progress .scans + length (scansOf rs st f) ≤ 4 * n
+  scans-fit = omega (arith, care .scanning, g .progress .scanned, ap length more, length-append (scans rs (begins job) (made job k)) (scansOf rs st f))
+
+  -- what the code of the move leaves
+  pub move-made : MoveTreated job l k f b (treatMove (job .sizes) (job .bounds) (job .pins) f b)
+  unfolding shiftedTo
+  move-made =
+      let r : Roomy job l = roomy job l ok in
+      let y : Treated = treatMove (job .sizes) (job .bounds) (job .pins) f b in
+      record {
+        locks = beside-part (did .beside) (locksAt c p) c (omega arith) ∙ locks ∙ ap (λ (u : State). u .locks) (sym (x .then));
+        cells = cells-same entry below (g .cells);
+        counts = rw (x .then) (did .counts);
+        long = did .beside .long ∙ long;
+        beyond =
+            sym (drop-drop 16 (countsAt c p + 4 * n) (y .scratch)) ∙ ap (drop 16) (did .beside .beyond) ∙ drop-drop 16 (countsAt c p + 4 * n) locked
+            ∙ drop-set-lt (scratchFor job) z (locksAt c p + f) 1 (omega (arith, x .below));
+        gains = did .gains;
+        scannedRecipes =
+            did .recipes (map (λ u. u .recipe) (scans rs (begins job) (made job k))) (l .recipes) (g .scannedRecipes)
+            (length-map (scans rs (begins job) (made job k)) (λ u. u .recipe) ∙ sym (g .progress .scanned)) (omega (arith, scans-fit, r .scannedRecipes))
+            ∙ ap (λ (u : List ℕ). onto u (l .recipes)) (map-more (λ u. u .recipe));
+        scannedKinds =
+            did .kinds (map (λ u. u .kind) (scans rs (begins job) (made job k))) (l .kinds) (g .scannedKinds)
+            (length-map (scans rs (begins job) (made job k)) (λ u. u .kind) ∙ sym (g .progress .scanned)) (omega (arith, scans-fit, r .scannedKinds))
+            ∙ ap (λ (u : List ℕ). onto u (l .kinds)) (map-more (λ u. u .kind));
+        progress = shifted;
+      }
+
+  pins-below : (j : ℕ) → j < n → allBelow c (viewOf (job .bounds) (job .pins) j)
+  pins-below j h i q = view-below most job s j i h q
+
+  short : (j : ℕ) → j < n → length (getD rs j []) < 65535
+  short j h = rw (← sees j h) (omega (arith, view-length most job s j h, bound-le most job s (suc j) h, small .pins))
+
+  ready : Ready (wayTo c n p (sideOf (turned (b .sides) f) f)) (viewOf (job .bounds) (job .pins)) (cellsOf c p z f) locked
+  ready =
+      subst (λ (u : ℕ). Ready (wayTo c n p u) (viewOf (job .bounds) (job .pins)) (cellsOf c p z f) locked) (sym side)
+      (subst (λ (u : List ℕ). Ready (wayOf c n p st f) (viewOf (job .bounds) (job .pins)) u locked) (sym (g .cells .hold f (x .below)))
+      (move-ready rs (recipes-distinct most job s) st f (x .moves) c n p (recipes-length most job s) (viewOf (job .bounds) (job .pins)) sees
+      locked (rw long (omega (arith, room))) counted pins-below short))
+
+  -- the lists written are as long as those lent
+  as-long : (h : Scan → ℕ) (old : List ℕ) → 4 * n ≤ length old → length (onto (map h (scans rs (begins job) (made job (suc k)))) old) ≡ length old
+  as-long h old q = onto-length 0 _ old (rw (length-map (scans rs (begins job) (made job (suc k))) h) (omega (arith, care .scanning)))
+
+  fitting : Fits (treatMove (job .sizes) (job .bounds) (job .pins) f b .scanned)
+  fitting =
+      let r : Roomy job l = roomy job l ok in
+      record {
+        recipes = omega (arith, shifted .scanned, care .scanning, ap length (move-made .scannedRecipes) ∙ as-long (λ u. u .recipe) (l .recipes) (r .scannedRecipes), r .scannedRecipes);
+        kinds = omega (arith, shifted .scanned, care .scanning, ap length (move-made .scannedKinds) ∙ as-long (λ u. u .kind) (l .kinds) (r .scannedKinds), r .scannedKinds);
+        visits = omega (arith, shifted .visited, care .visiting, small .pins);
+      }
+
+  -- what it may count on
+  pub move-safe : Movable (job .sizes) (job .bounds) (job .pins) f (b .sides) (b .rest)
+  move-safe =
+      let m : BoardLong job l b = board-long most job s ok g in
+      record {
+        file = x .below;
+        sidesLong = m .sides;
+        gainsLong = m .gains;
+        scratchLong = omega (arith, room);
+        few = (small .files, small .bounds, omega (arith, small .pins));
+        binary = rw (g .sides) (stands-binary most job s k);
+        order = g .cells .order f (x .below);
+        inside = g .cells .inside f (x .below);
+        ready = ready;
+        room = record { near = λ i. omega (arith, care .near i) };
+        fits = fitting;
+        size = omega (arith, care .size, small .weight);
+        held = λ e. holds-now g f (x .below) e;
+        gain = care .falls;
+        cut = omega (arith, care .few, care .near f, small .scans);
+      }
+
+  -- so the pass goes on
+  pub move-goes : Going job l (suc k) (moveOne (job .sizes) (job .bounds) (job .pins) f b)
+  move-goes = goes-on most job s ok g x move-made
+
+  cut-now : treatMove (job .sizes) (job .bounds) (job .pins) f b .scanned .progress .cut ≡ cut (stands job (suc k) .sides) rs
+  unfolding moveOne countedOn
+  cut-now = move-goes .progress .cutNow
+
+  pub move-turns : Turns (job .sizes) (job .bounds) (job .pins) f b
+  move-turns = record {
+    tried = omega (arith, care .tried, g .progress .moves);
+    gained = omega (arith, care .gained, g .progress .moves);
+    cuts = omega (arith, care .cuts, g .progress .moves);
+    ends = omega (arith, care .scansSoFar, g .progress .moves);
+    cut = omega (arith, cut-now, cut-few most job s (suc k), small .scans);
+    scans = omega (arith, shifted .scanned, care .scanning, small .scans);
+    moves = omega (arith, shifted .moves, g .progress .moves, x .early, small .files);
+  }

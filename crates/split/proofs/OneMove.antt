@@ -1,0 +1,112 @@
+-- One move, put together from what the code's steps answer. Assumes nothing.
+use mathlib.Core.Path.{_≡_, refl, sym, ap, ap₂, subst, _∙_}
+use Prim.Native.Nat.{ℕ, suc, _+_, _-_, _≤_, _<_, _^_}
+use mathlib.Core.List.{List}
+use native.Mathlib.Omega.{arith}
+use lib.ListN.{length, getD, set, length-set}
+use lib.Seq.{getD-set-same}
+use lib.IntN.{ℤ, pos, negsuc, _-ℤ_}
+use mir.Syntax.{w32, w64}
+use mir.Val.{SFits, toZ, ofZ}
+use mir.Facts.{toZ-ofZ, toZ-pos}
+use Rattle.rules.specs.Lists.{diff}
+use Rattle.rules.specs.Job.{viewOf}
+use Rattle.rules.specs.Split.{sideOf}
+use Rattle.rules.proofs.Signed.{up, down, diff-eq, diff-pos}
+use Rattle.split.specs.declared.progress.Progress.{Progress}
+use Rattle.split.specs.declared.scan.Way.{Way}
+use Rattle.split.specs.Zones.{startAt, endAt, locksAt, part, stateOf}
+use Rattle.split.specs.Scanning.{Room, Fits, Treated, treated, treatAll, Ready}
+use Rattle.split.specs.Choosing.{sizeBy}
+use Rattle.split.specs.Ending.{turned}
+use Rattle.split.specs.Moving.{shiftedTo, countedOn, cutBy, wayTo, cellsOf, Board, board, treatFrom, treatMove, moveOne}
+use Rattle.split.specs.Movable.{Movable}
+use Rattle.split.proofs.Parts.{part-set-above}
+
+-- ---- the cut less a gain, at eight bytes
+
+less-by : (cut : ℕ) (g : ℤ) → up g ≤ cut → pos cut -ℤ g ≡ pos (cutBy cut g)
+unfolding diff
+less-by cut (pos n) h = diff-eq cut n (cut + 0 - n) 0 (omega arith) ∙ sym (diff-pos (cut + 0 - n))
+less-by cut (negsuc n) h = let e : cut + suc n ≡ cut + suc n - 0 = omega arith in ap pos e
+
+module _ (cut : ℕ) (g : ℤ) (h : up g ≤ cut) (k : cut + down g < 2 ^ 32) (f : SFits w32 g) where
+  pub gain-wide : SFits w64 (toZ w32 (ofZ w32 g))
+  gain-wide = rw (toZ-ofZ f) (record { sfits = omega (arith, f .sfits) })
+
+  less : toZ w64 cut -ℤ toZ w64 (ofZ w64 (toZ w32 (ofZ w32 g))) ≡ pos (cutBy cut g)
+  less = ap₂ _-ℤ_ (toZ-pos w64 {n = cut} (omega arith)) (toZ-ofZ gain-wide ∙ toZ-ofZ f) ∙ less-by cut g h
+
+  pub less-fits : SFits w64 (toZ w64 cut -ℤ toZ w64 (ofZ w64 (toZ w32 (ofZ w32 g))))
+  less-fits = rw less (record { sfits = omega arith })
+
+  pub less-back : toZ w64 (ofZ w64 (toZ w64 cut -ℤ toZ w64 (ofZ w64 (toZ w32 (ofZ w32 g))))) ≡ pos (cutBy cut g)
+  less-back = toZ-ofZ less-fits ∙ less
+
+-- ---- the recipes of the moved file
+
+-- what the code hands on is what the definition says
+pub record HandedOn (sizes bounds pins : List ℕ) (f : ℕ) (sides : List ℕ) (y : Treated) (sides' : List ℕ) (a e : ℕ) (way : Way) (q : Progress) : Type 0 where
+  pub turn : sides' ≡ turned sides f
+  pub first : a ≡ getD (y .scratch) (startAt (length pins) f) 0
+  pub last : e ≡ getD (y .scratch) (endAt (length sizes) (length pins) f) 0
+  pub to : way ≡ wayTo (length sizes) (length bounds - 1) (length pins) (sideOf (turned sides f) f)
+  pub shift : q
+      ≡ shiftedTo (y .scanned .progress) (sizeBy (y .scanned .progress .size) (sideOf sides f) (getD sizes f 0))
+      (cutBy (y .scanned .progress .cut) (getD (y .scanned .gains) f (pos 0)))
+
+module _ {sizes bounds pins : List ℕ} {f : ℕ} {sides : List ℕ} {y : Treated} {sides' : List ℕ} {a e : ℕ} {way : Way} {q : Progress}
+    (m : Movable sizes bounds pins f sides y) (h : HandedOn sizes bounds pins f sides y sides' a e way q) where
+  -- the scratch with the file's lock set
+  abbrev locked : List ℕ
+  locked = set (y .scratch) (locksAt (length sizes) (length pins) + f) 1
+
+  abbrev look : ℕ → List ℕ
+  look = viewOf bounds pins
+
+  -- the lock lies above the cells
+  cells : part a (e - a) locked ≡ cellsOf (length sizes) (length pins) (y .scratch) f
+  cells =
+      part-set-above a (e - a) (y .scratch) (locksAt (length sizes) (length pins) + f) 1 (omega (arith, m .order, m .inside, h .first, h .last))
+      ∙ ap₂ (λ (i j : ℕ). part i (j - i) (y .scratch)) (h .first) (h .last)
+
+  -- what the code treats
+  abbrev treats : Treated
+  treats = treatAll (stateOf sides' (part (way .locks) (way .files) locked)) way look (part a (e - a) locked) (treated locked (y .scanned .gains) (y .scanned .recipes) (y .scanned .kinds) q)
+
+  pub treats-from : treats ≡ treatFrom sizes bounds pins f sides y
+  unfolding treatFrom wayTo
+  treats-from = rw (cells, h .to, h .turn, h .shift)
+
+  zones : (way .locks ≡ locksAt (length sizes) (length pins)) × (way .files ≡ length sizes) × (way .side ≡ sideOf (turned sides f) f)
+  unfolding wayTo
+  zones = (ap (λ (w : Way). w .locks) (h .to), ap (λ (w : Way). w .files) (h .to), ap (λ (w : Way). w .side) (h .to))
+
+  -- all that the call asks
+  pub treats-safe : ((way .side ≤ 1) × (a ≤ e) × (e ≤ way .locks))
+      × (((length (y .scanned .gains) ≡ way .files) × (length sides' ≡ way .files) × (way .locks + way .files ≤ length locked))
+      × (Ready way look (part a (e - a) locked) locked × (Room (y .scanned .gains) (q .visits) × Fits (treats .scanned))))
+  treats-safe =
+      let side : sideOf (turned sides f) f ≡ 1 - sideOf sides f = getD-set-same sides f (1 - sideOf sides f) 0 (omega (arith, m .file, m .sidesLong)) in
+      let long : length (turned sides f) ≡ length sizes = length-set sides f (1 - sideOf sides f) ∙ m .sidesLong in
+      let visits : q .visits ≡ y .scanned .progress .visits = ap (λ (p : Progress). p .visits) (h .shift) ∙ (unfold shiftedTo in refl) in
+      let room : locksAt (length sizes) (length pins) + length sizes ≤ length locked = omega (arith, m .scratchLong, length-set (y .scratch) (locksAt (length sizes) (length pins) + f) 1) in (
+        (omega (arith, zones, side), omega (arith, h .first, h .last, m .order), omega (arith, h .last, zones, m .inside)),
+        (
+          (m .gainsLong ∙ sym (zones .1), ap length (h .turn) ∙ long ∙ sym (zones .1), omega (arith, zones, room)),
+          (rw (cells, h .to) (m .ready), (rw visits (m .room), subst (λ (x : Treated). Fits (x .scanned)) (sym treats-from) (m .fits))),
+        ),
+      )
+
+-- ---- the board
+
+pub move-made : (sizes bounds pins : List ℕ) (f : ℕ) (b : Board) {sides tried cuts ends : List ℕ} {gained : List ℤ} {y : Treated} {r : Progress}
+    → sides ≡ turned (b .sides) f → tried ≡ set (b .tried) (b .rest .scanned .progress .moves) f
+    → gained ≡ set (b .gained) (b .rest .scanned .progress .moves) (getD (b .rest .scanned .gains) f (pos 0))
+    → y ≡ treatMove sizes bounds pins f b
+    → cuts ≡ set (b .cuts) (b .rest .scanned .progress .moves) (y .scanned .progress .cut)
+    → ends ≡ set (b .ends) (b .rest .scanned .progress .moves) (y .scanned .progress .scans)
+    → r ≡ countedOn (y .scanned .progress)
+    → board sides tried gained cuts ends (y .scratch) (y .scanned .gains) (y .scanned .recipes) (y .scanned .kinds) r ≡ moveOne sizes bounds pins f b
+unfolding moveOne
+move-made sizes bounds pins f b d t g e u v w = rw (d, t, g, u, v, w, e)

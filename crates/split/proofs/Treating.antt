@@ -1,0 +1,231 @@
+-- The recipes of a moved file, treated in rising number: the counts after the move, the scans of document 01, and nothing unsafe on the way. Assumes nothing.
+use mathlib.Core.Path.{_≡_, refl, sym, ap, _∙_}
+use Prim.Native.Nat.{ℕ, suc, _+_, _*_, _≤_, _<_}
+use mathlib.Core.Bool.{Bool, true, false, cond}
+use mathlib.Core.List.{List, [], _∷_, map}
+use native.Mathlib.Decide.{ℕ-discrete}
+use native.Mathlib.Omega.{arith}
+use native.Mathlib.Nat.{add-zero, zero-add, suc-add, add-suc}
+use lib.ListN.{length, getD}
+use Rattle.rules.specs.Lists.{bit, total, count, allBelow}
+use Rattle.rules.specs.Split.{other, sideOf, onSide, countOn, times, holds}
+use Rattle.rules.specs.Move.{State, moved, Scan, kindsIn, scansOf, scanAll, visits}
+use Rattle.rules.specs.Theorems.{Distinct}
+use Rattle.rules.proofs.Count.{total-le, total-const, total-append, total-map, holds-yes, holds-no}
+use Rattle.rules.proofs.Locked.{locked-le}
+use Rattle.rules.proofs.OneMove.{Moves, left-count, out-count, out-locked}
+use Rattle.rules.proofs.Steps.{recipesFrom, recipesOf, scansOver, scans-cells}
+use Rattle.split.specs.declared.scan.Way.{Way}
+use Rattle.split.specs.Zones.{countsAt, CountsOf, Counts}
+use Rattle.split.specs.Scanning.{Treated, treatOne, treatAll, Treatable, Ready, none, next}
+use Rattle.split.specs.Moving.{wayTo}
+use Rattle.split.proofs.Recount.{laid, places, counts-seen, Beside, beside-self, beside-then, Recounted, recounted}
+use Rattle.split.proofs.ScanKinds.{scanOne, scansBy, scans-then, scans-map, kinds-scanned}
+use Rattle.split.proofs.ScansMade.{scansMade, withScans, Writes, gains-made, progress-made, recipes-made, kinds-made}
+
+-- the way of the move of f
+abbrev pub wayOf : ℕ → ℕ → ℕ → State → ℕ → Way
+wayOf c n p st f = wayTo c n p (other (sideOf (st .sides) f))
+
+-- a recipe has no more files on a side than files
+pub countOn-le : (sides : List ℕ) (u : ℕ) (r : List ℕ) → countOn sides u r ≤ length r
+unfolding countOn count
+countOn-le sides u r = omega (arith, total-le (λ x. 1) (λ x. bit (onSide sides u x)) (λ x. bit-le (onSide sides u x)) r, total-const 1 r)
+  where
+    bit-le : (b : Bool) → bit b ≤ 1
+    bit-le true = omega arith
+    bit-le false = omega arith
+
+-- ---- the recipes of f, one after the other
+
+-- js are the numbers from b on, below n, of the recipes that hold f, which they do once
+data Turns (rs : List (List ℕ)) (f n : ℕ) : ℕ → List ℕ → Type 0 where
+  over : {b : ℕ} → n ≤ b → Turns rs f n b []
+  without : {b : ℕ} {js : List ℕ} → b < n → times f (getD rs b []) ≡ 0 → Turns rs f n (suc b) js → Turns rs f n b js
+  within : {b : ℕ} {js : List ℕ} → b < n → times f (getD rs b []) ≡ 1 → Turns rs f n (suc b) js → Turns rs f n b (b ∷ js)
+
+turns-from : (rs : List (List ℕ)) → Distinct rs → (f n : ℕ) (rest : List (List ℕ)) (b : ℕ) → ((i : ℕ) → getD rs (b + i) [] ≡ getD rest i []) → b + length rest ≡ n
+    → Turns rs f n b (recipesFrom f b rest)
+unfolding recipesFrom
+turns-from rs dis f n [] b e long = over {b = b} (omega arith)
+turns-from rs dis f n (r ∷ rest) b e long =
+    go (holds r f) refl (turns-from rs dis f n rest (suc b) (λ i. ap (λ k. getD rs k []) (suc-add b i ∙ sym (add-suc b i)) ∙ e (suc i)) (omega arith))
+  where
+    this : getD rs b [] ≡ r
+    this = ap (λ k. getD rs k []) (sym (add-zero b)) ∙ e 0
+
+    go : (hf : Bool) → holds r f ≡ hf → Turns rs f n (suc b) (recipesFrom f (suc b) rest)
+        → Turns rs f n b (cond hf (b ∷ recipesFrom f (suc b) rest) (recipesFrom f (suc b) rest))
+    go true q ts = within {b = b} (omega arith) (holds-yes f (getD rs b []) (dis b f) (ap (λ g. holds g f) this ∙ q)) ts
+    go false q ts = without {b = b} (omega arith) (ap (times f) this ∙ holds-no f r q) ts
+
+turns : (rs : List (List ℕ)) → Distinct rs → (f n : ℕ) → length rs ≡ n → Turns rs f n 0 (recipesOf rs f)
+turns rs dis f n long = turns-from rs dis f n rs 0 (λ i. ap (λ k. getD rs k []) (zero-add i)) (omega arith)
+
+-- ---- one recipe more
+
+-- the counts of the recipes below b are those of st', the others still those of st
+record Between (rs : List (List ℕ)) (st st' : State) (at n b : ℕ) (z : List ℕ) : Type 0 where
+  done : (i : ℕ) → i < b → CountsOf rs st' at n z i
+  todo : (i : ℕ) → b ≤ i → i < n → CountsOf rs st at n z i
+
+-- recipe b is done too
+further : {rs : List (List ℕ)} {st st' : State} {at n b : ℕ} {z : List ℕ}
+    → ((i : ℕ) → i < b → CountsOf rs st' at n z i) → CountsOf rs st' at n z b → ((i : ℕ) → suc b ≤ i → i < n → CountsOf rs st at n z i)
+    → Between rs st st' at n (suc b) z
+further {rs} {st'} {at} {n} {b} {z} a k t = record {
+  done = λ i h. elim (ℕ-discrete i b) [
+    | yes e ↦ rw e k
+    | no ne ↦ a i (omega arith)
+  ];
+  todo = t;
+}
+
+module _ {rs : List (List ℕ)} {st : State} {f : ℕ} (m : Moves st (moved st f) f) (c n p : ℕ) where
+  -- a recipe that does not hold the moved file has the same counts before and after the move
+  out-counts : {at : ℕ} {z : List ℕ} {j : ℕ} → times f (getD rs j []) ≡ 0 → CountsOf rs st at n z j → CountsOf rs (moved st f) at n z j
+  out-counts {j} o k =
+      let r = getD rs j [] in
+      record {
+        onA = k .onA ∙ sym (out-count m 0 r o);
+        onB = k .onB ∙ sym (out-count m 1 r o);
+        lockedA = k .lockedA ∙ sym (out-locked m 0 r o);
+        lockedB = k .lockedB ∙ sym (out-locked m 1 r o);
+      }
+
+  passed : {b : ℕ} {z : List ℕ} → b < n → times f (getD rs b []) ≡ 0
+      → Between rs st (moved st f) (countsAt c p) n b z → Between rs st (moved st f) (countsAt c p) n (suc b) z
+  passed {b} h o w = further (w .done) (out-counts o (w .todo b (omega arith) h)) (λ i a l. w .todo i (omega arith) l)
+
+  treated-too : {b : ℕ} {z z' : List ℕ} → b < n → Recounted rs (moved st f) (countsAt c p) n b z z'
+      → Between rs st (moved st f) (countsAt c p) n b z → Between rs st (moved st f) (countsAt c p) n (suc b) z'
+  treated-too h g w =
+      further (λ i a. g .others (moved st f) i (omega arith) (omega arith) (w .done i a)) (g .own)
+      (λ i a l. g .others st i l (omega arith) (w .todo i (omega arith) l))
+
+-- the locks stand below the counts
+locks-below : (c n p t : ℕ) → wayTo c n p t .locks + wayTo c n p t .files ≤ countsAt c p
+unfolding wayTo
+locks-below c n p t = omega arith
+
+-- ---- all recipes of the moved file
+
+-- what treating recipes makes of y, cs the scans of the recipes treated
+record Treats (rs : List (List ℕ)) (st' now : State) (at n t : ℕ) (cs : List Scan) (y y' : Treated) : Type 0 where
+  counts : Counts rs st' at n (y' .scratch)
+  beside : Beside at n (y .scratch) (y' .scratch)
+  made : y' .scanned ≡ scansMade rs now t cs (y .scanned)
+
+-- the scans of the recipes js
+abbrev scansIn : List (List ℕ) → State → ℕ → List ℕ → List Scan
+scansIn rs st f js = scansOver (λ j. getD rs j []) st f js
+
+module _ (rs : List (List ℕ)) (st : State) (f : ℕ) (m : Moves st (moved st f) f) (c n p : ℕ) (look : ℕ → List ℕ)
+    (sees : (j : ℕ) → j < n → look j ≡ getD rs j []) where
+  treat-one : (now : State) (j : ℕ) → j < n → times f (getD rs j []) ≡ 1 → (y : Treated) → CountsOf rs st (countsAt c p) n (y .scratch) j
+      → treatOne now (wayOf c n p st f) j (look j) y .scanned
+      ≡ scansMade rs now (other (sideOf (st .sides) f)) (map (λ k. record { recipe = j; kind = k }) (kindsIn st f (getD rs j []))) (y .scanned)
+  unfolding treatOne wayTo
+  treat-one now j h o y k =
+      kinds-scanned m c n p (y .scratch) j o k now (look j) (y .scanned)
+      ∙ ap (λ r. scansBy (scanOne now (other (sideOf (st .sides) f)) j r) (kindsIn st f (getD rs j [])) (y .scanned)) (sees j h)
+      ∙ sym (scans-map _ (λ k. record { recipe = j; kind = k }) (kindsIn st f (getD rs j [])) (y .scanned))
+
+  treat-turns : (now : State) {b : ℕ} {js : List ℕ} → Turns rs f n b js
+      → (y : Treated) → p + 4 * c + 4 * n ≤ length (y .scratch) → Between rs st (moved st f) (countsAt c p) n b (y .scratch)
+      → Treats rs (moved st f) now (countsAt c p) n (other (sideOf (st .sides) f)) (scansIn rs st f js) y (treatAll now (wayOf c n p st f) look js y)
+  unfolding treatAll treatOne scansOver
+  treat-turns now (over e) y fits w =
+      record { counts = record { each = λ i h. w .done i (omega arith) }; beside = beside-self (countsAt c p) n (y .scratch); made = unfold scansBy in refl }
+  treat-turns now (without h o ts) y fits w = treat-turns now ts y fits (passed m c n p h o w)
+  treat-turns now (within {b} {js} h o ts) y fits w =
+      let k = w .todo b (omega arith) h in
+      let g = recounted m c n p (y .scratch) fits b h o k in
+      let i = treat-turns now ts (treatOne now (wayOf c n p st f) b (look b) y) (omega (arith, g .beside .long)) (treated-too m c n p h g w) in
+      record {
+        counts = i .counts;
+        beside = beside-then (g .beside) (i .beside);
+        made = i .made
+            ∙ ap (scansMade rs now (other (sideOf (st .sides) f)) (scansIn rs st f js)) (treat-one now b h o y k)
+            ∙ sym (scans-then _ (map (λ k. record { recipe = b; kind = k }) (kindsIn st f (getD rs b []))) (scansIn rs st f js) (y .scanned));
+      }
+
+  module _ (below : (j : ℕ) → j < n → allBelow c (look j)) (short : (j : ℕ) → j < n → length (getD rs j []) < 65535) where
+    treatable : (z : List ℕ) → p + 4 * c + 4 * n ≤ length z → (j : ℕ) → j < n → times f (getD rs j []) ≡ 1
+        → CountsOf rs st (countsAt c p) n z j → Treatable (wayOf c n p st f) look z j
+    treatable z fits j h o k =
+        let s = sideOf (st .sides) f in
+        let r = getD rs j [] in
+        let a = counts-seen c n p s (m .binary f) k in
+        let q = places (laid c n p (other s) (omega arith)) j h in
+        let l = locks-below c n p (other s) in
+        record {
+          some = omega (arith, a .left, left-count m r o);
+          there = omega (arith, a .there, countOn-le (st .sides) (other s) r, short j h);
+          locked = omega (arith, a .locked, locked-le st (other s) r, countOn-le (st .sides) (other s) r, short j h);
+          inside = omega arith;
+          above = omega arith;
+          below = unfold wayTo in below j h;
+        }
+
+    ready-turns : {b : ℕ} {js : List ℕ} → Turns rs f n b js → (z : List ℕ) → p + 4 * c + 4 * n ≤ length z
+        → Between rs st (moved st f) (countsAt c p) n b z → Ready (wayOf c n p st f) look js z
+    ready-turns (over e) z fits w = none
+    ready-turns (without h o ts) z fits w = ready-turns ts z fits (passed m c n p h o w)
+    ready-turns (within {b} h o ts) z fits w =
+        let k = w .todo b (omega arith) h in
+        let g = recounted m c n p z fits b h o k in
+        next (treatable z fits b h o k) (ready-turns ts _ (omega (arith, g .beside .long)) (treated-too m c n p h g w))
+
+-- what treating all recipes of f, which moves from the state st, makes of y; now is the state that the scans see
+pub record TreatedMove (rs : List (List ℕ)) (st now : State) (f at n : ℕ) (y y' : Treated) : Type 0 where
+  pub counts : Counts rs (moved st f) at n (y' .scratch)
+  pub beside : Beside at n (y .scratch) (y' .scratch)
+  pub gains : y' .scanned .gains ≡ scanAll rs now (other (sideOf (st .sides) f)) (scansOf rs st f) (y .scanned .gains)
+  pub progress : y' .scanned .progress
+      ≡ withScans (y .scanned .progress) (y .scanned .progress .scans + length (scansOf rs st f)) (y .scanned .progress .visits + visits rs (scansOf rs st f))
+  pub recipes : Writes (λ s. s .recipe) (scansOf rs st f) (y .scanned .progress .scans) (y .scanned .recipes) (y' .scanned .recipes)
+  pub kinds : Writes (λ s. s .kind) (scansOf rs st f) (y .scanned .progress .scans) (y .scanned .kinds) (y' .scanned .kinds)
+
+module _ (rs : List (List ℕ)) (dis : Distinct rs) (st : State) (f : ℕ) (m : Moves st (moved st f) f) (c n p : ℕ) (long : length rs ≡ n)
+    (look : ℕ → List ℕ) (sees : (j : ℕ) → j < n → look j ≡ getD rs j []) where
+  -- no recipe is treated yet
+  start-between : {z : List ℕ} → Counts rs st (countsAt c p) n z → Between rs st (moved st f) (countsAt c p) n 0 z
+  start-between k = record { done = λ i h. absurd (omega arith); todo = λ i a h. k .each i h }
+
+  pub move-treated : (now : State) (y : Treated) → p + 4 * c + 4 * n ≤ length (y .scratch) → Counts rs st (countsAt c p) n (y .scratch)
+      → TreatedMove rs st now f (countsAt c p) n y (treatAll now (wayOf c n p st f) look (recipesOf rs f) y)
+  move-treated now y fits k =
+      let t = other (sideOf (st .sides) f) in
+      let cs = scansOf rs st f in
+      let a = treat-turns rs st f m c n p look sees now (turns rs dis f n long) y fits (start-between k) in
+      let made : treatAll now (wayOf c n p st f) look (recipesOf rs f) y .scanned ≡ scansMade rs now t cs (y .scanned)
+      = a .made ∙ ap (λ l. scansMade rs now t l (y .scanned)) (sym (scans-cells rs st f)) in
+      record {
+        counts = a .counts;
+        beside = a .beside;
+        gains = rw made (gains-made rs now t cs (y .scanned));
+        progress = rw made (progress-made rs now t cs (y .scanned));
+        recipes = rw made (recipes-made rs now t cs (y .scanned));
+        kinds = rw made (kinds-made rs now t cs (y .scanned));
+      }
+
+  pub move-ready : (z : List ℕ) → p + 4 * c + 4 * n ≤ length z → Counts rs st (countsAt c p) n z
+      → ((j : ℕ) → j < n → allBelow c (look j)) → ((j : ℕ) → j < n → length (getD rs j []) < 65535)
+      → Ready (wayOf c n p st f) look (recipesOf rs f) z
+  move-ready z fits k below short = ready-turns rs st f m c n p look sees below short (turns rs dis f n long) z fits (start-between k)
+
+-- ---- the visits, by the recipes that look finds
+
+module _ (rs : List (List ℕ)) (dis : Distinct rs) (st : State) (f n : ℕ) (long : length rs ≡ n) (look : ℕ → List ℕ)
+    (sees : (j : ℕ) → j < n → look j ≡ getD rs j []) where
+  looked-turns : {b : ℕ} {js : List ℕ} → Turns rs f n b js
+      → total (λ s. length (look (s .recipe))) (scansIn rs st f js) ≡ total (λ s. length (getD rs (s .recipe) [])) (scansIn rs st f js)
+  unfolding scansOver
+  looked-turns (over e) = unfold total in refl
+  looked-turns (without h o ts) = looked-turns ts
+  looked-turns (within {b} h o ts) = simp (total-append, total-map, sees b h, looked-turns ts)
+
+  pub visits-looked : total (λ s. length (look (s .recipe))) (scansOf rs st f) ≡ visits rs (scansOf rs st f)
+  unfolding visits
+  visits-looked = rw (scans-cells rs st f) (looked-turns (turns rs dis f n long))

@@ -1,0 +1,149 @@
+-- The recipes of a move treated one after the other, as a loop over their cells has them. Assumes nothing.
+use mathlib.Core.Path.{_≡_, refl, sym, ap, subst, _∙_}
+use Prim.Native.Nat.{ℕ, zero, suc, _+_, _-_, _≤_, _<_}
+use mathlib.Core.List.{List, [], _∷_}
+use native.Mathlib.Numerals.{add-one}
+use native.Mathlib.Omega.{arith}
+use lib.ListN.{length, getD, take, drop}
+use lib.Seq.{drop-cons}
+use Rattle.rules.specs.Lists.{allBelow}
+use Rattle.rules.specs.Move.{State}
+use Rattle.split.specs.declared.scan.Way.{Way}
+use Rattle.split.specs.Zones.{part}
+use Rattle.split.specs.Scanning.{Fits, Treated, recount, treatOne, treatAll, Treatable, Ready, next}
+use Rattle.split.proofs.Lasting.{Later, later-same, later-then, fits-earlier, Near, recount-length, recount-part, later-one, near-one}
+
+-- the cells from i up to e: the first, and those after it
+part-cons : (i e : ℕ) (z : List ℕ) → i < e → e ≤ length z → part i (e - i) z ≡ getD z i 0 ∷ part (i + 1) (e - (i + 1)) z
+part-cons i e z h k =
+    let n : e - i ≡ suc (e - (i + 1)) = omega arith in
+    let l : i < length z = omega arith in
+    ap (λ (m : ℕ). take m (drop i z)) n
+    ∙ ap (take (suc (e - (i + 1)))) (drop-cons z i 0 l)
+    ∙ ap (λ (m : ℕ). getD z i 0 ∷ take (e - (i + 1)) (drop m z)) (sym (add-one i))
+
+part-none : (i e : ℕ) (z : List ℕ) → e ≤ i → part i (e - i) z ≡ []
+part-none i e z h =
+    let n : e - i ≡ zero = omega arith in
+    ap (λ (m : ℕ). take m (drop i z)) n
+
+ready-now : {way : Way} {look : ℕ → List ℕ} {j : ℕ} {js z : List ℕ} → Ready way look (j ∷ js) z → Treatable way look z j
+ready-now (next t r) = t
+
+ready-then : {way : Way} {look : ℕ → List ℕ} {j : ℕ} {js z : List ℕ} → Ready way look (j ∷ js) z → Ready way look js (recount way j z)
+ready-then (next t r) = r
+
+-- the files of the recipe, as the code has them
+pub treatable-own : {way : Way} {look : ℕ → List ℕ} {z : List ℕ} {j : ℕ} (r : List ℕ) → r ≡ look j → Treatable way look z j → Treatable way (λ (_ : ℕ). r) z j
+treatable-own {way} r e t = record {
+  some = t .some;
+  there = t .there;
+  locked = t .locked;
+  inside = t .inside;
+  above = t .above;
+  below = subst (allBelow (way .files)) (sym e) (t .below);
+}
+
+module _ (st : State) (way : Way) where
+  pub treat-scratch : (j : ℕ) (r : List ℕ) (y : Treated) → treatOne st way j r y .scratch ≡ recount way j (y .scratch)
+  unfolding treatOne
+  treat-scratch j r y = refl
+
+  pub later-all : (look : ℕ → List ℕ) (js : List ℕ) (y : Treated) → Later (y .scanned) (treatAll st way look js y .scanned)
+  unfolding treatAll
+  later-all look [] y = later-same (y .scanned)
+  later-all look (j ∷ js) y = later-then (later-one st way j (look j) (y .scratch) (y .scanned)) (later-all look js (treatOne st way j (look j) y))
+
+  -- the gains stay within the visits made and some more
+  pub near-all : (look : ℕ → List ℕ) (js : List ℕ) (y : Treated) → Near (y .scanned) → Near (treatAll st way look js y .scanned)
+  unfolding treatAll
+  near-all look [] y h = h
+  near-all look (j ∷ js) y h = near-all look js (treatOne st way j (look j) y) (near-one st way j (look j) (y .scratch) (y .scanned) h)
+
+  pub length-all : (look : ℕ → List ℕ) (js : List ℕ) (y : Treated) → length (treatAll st way look js y .scratch) ≡ length (y .scratch)
+  unfolding treatAll
+  length-all look [] y = refl
+  length-all look (j ∷ js) y =
+      length-all look js (treatOne st way j (look j) y) ∙ ap length (treat-scratch j (look j) y) ∙ recount-length way j (y .scratch)
+
+  -- what lies below the counts stays, the locks among it
+  pub part-all : (look : ℕ → List ℕ) (at n : ℕ) → at + n ≤ way .locks + way .files → (js : List ℕ) (y : Treated) → Ready way look js (y .scratch)
+      → part at n (treatAll st way look js y .scratch) ≡ part at n (y .scratch)
+  unfolding treatAll
+  part-all look at n h [] y r = refl
+  part-all look at n h (j ∷ js) y r =
+      part-all look at n h js (treatOne st way j (look j) y) (subst (Ready way look js) (sym (treat-scratch j (look j) y)) (ready-then r))
+      ∙ ap (part at n) (treat-scratch j (look j) y)
+      ∙ recount-part way j (y .scratch) at n h (ready-now r)
+
+-- before the turn at i: the rest of the recipes leads to the same end
+pub record Turn (st : State) (way : Way) (look : ℕ → List ℕ) (a e : ℕ) (y₀ : Treated) (i : ℕ) (y : Treated) : Type 0 where
+  pub high : i ≤ e
+  pub scratch : length (y .scratch) ≡ length (y₀ .scratch)
+  pub locks : part (way .locks) (way .files) (y .scratch) ≡ st .locks
+  pub ready : Ready way look (part i (e - i) (y .scratch)) (y .scratch)
+  pub rest : treatAll st way look (part i (e - i) (y .scratch)) y ≡ treatAll st way look (part a (e - a) (y₀ .scratch)) y₀
+  pub later : Later (y₀ .scanned) (y .scanned)
+  pub near : Near (y .scanned)
+
+module _ (st : State) (way : Way) (look : ℕ → List ℕ) (a e : ℕ) (y₀ : Treated) where
+  pub turn-first : a ≤ e → part (way .locks) (way .files) (y₀ .scratch) ≡ st .locks → Ready way look (part a (e - a) (y₀ .scratch)) (y₀ .scratch) → Near (y₀ .scanned)
+      → Turn st way look a e y₀ a y₀
+  turn-first h l r n = record {
+    high = h;
+    scratch = refl;
+    locks = l;
+    ready = r;
+    rest = refl;
+    later = later-same (y₀ .scanned);
+    near = n;
+  }
+
+  pub turn-last : {i : ℕ} {y : Treated} → Turn st way look a e y₀ i y → e ≤ i → y ≡ treatAll st way look (part a (e - a) (y₀ .scratch)) y₀
+  turn-last {i} {y} t h = sym (none-left (part i (e - i) (y .scratch)) (part-none i e (y .scratch) h)) ∙ t .rest
+    where
+      none-left : (js : List ℕ) → js ≡ [] → treatAll st way look js y ≡ y
+      none-left js q = ap (λ (l : List ℕ). treatAll st way look l y) q ∙ (unfold treatAll in refl)
+
+  module _ (i : ℕ) (y : Treated) (t : Turn st way look a e y₀ i y) (h : i < e) (inside : e ≤ way .locks) (long : way .locks + way .files ≤ length (y₀ .scratch)) where
+    abbrev j : ℕ
+    j = getD (y .scratch) i 0
+
+    abbrev js : List ℕ
+    js = part (i + 1) (e - (i + 1)) (y .scratch)
+
+    cells : part i (e - i) (y .scratch) ≡ j ∷ js
+    cells = part-cons i e (y .scratch) h (omega (arith, t .scratch))
+
+    ready : Ready way look (j ∷ js) (y .scratch)
+    ready = subst (λ (l : List ℕ). Ready way look l (y .scratch)) cells (t .ready)
+
+    pub turn-treatable : Treatable way look (y .scratch) j
+    turn-treatable = ready-now ready
+
+    then : treatAll st way look js (treatOne st way j (look j) y) ≡ treatAll st way look (part a (e - a) (y₀ .scratch)) y₀
+    unfolding treatAll
+    then = ap (λ (l : List ℕ). treatAll st way look l y) (sym cells) ∙ t .rest
+
+    pub turn-fits : Fits (treatAll st way look (part a (e - a) (y₀ .scratch)) y₀ .scanned) → Fits (treatOne st way j (look j) y .scanned)
+    turn-fits f =
+        fits-earlier (later-all st way look js (treatOne st way j (look j) y)) (subst (λ (x : Treated). Fits (x .scanned)) (sym then) f)
+
+    treated-one : Turn st way look a e y₀ (i + 1) (treatOne st way j (look j) y)
+    treated-one =
+        let z = y .scratch in
+        let s : treatOne st way j (look j) y .scratch ≡ recount way j z = treat-scratch st way j (look j) y in
+        let same : part (i + 1) (e - (i + 1)) (recount way j z) ≡ js = recount-part way j z (i + 1) (e - (i + 1)) (omega arith) turn-treatable in
+        let left : part (i + 1) (e - (i + 1)) (treatOne st way j (look j) y .scratch) ≡ js = ap (part (i + 1) (e - (i + 1))) s ∙ same in
+        record {
+          high = omega arith;
+          scratch = ap length s ∙ recount-length way j z ∙ t .scratch;
+          locks = ap (part (way .locks) (way .files)) s ∙ recount-part way j z (way .locks) (way .files) (omega arith) turn-treatable ∙ t .locks;
+          ready = subst (λ (l : List ℕ). Ready way look l (treatOne st way j (look j) y .scratch)) (sym left) (subst (Ready way look js) (sym s) (ready-then ready));
+          rest = ap (λ (l : List ℕ). treatAll st way look l (treatOne st way j (look j) y)) left ∙ then;
+          later = later-then (t .later) (later-one st way j (look j) z (y .scanned));
+          near = near-one st way j (look j) z (y .scanned) (t .near);
+        }
+
+    pub turn-more : {y' : Treated} → y' ≡ treatOne st way j (look j) y → Turn st way look a e y₀ (i + 1) y'
+    turn-more q = subst (Turn st way look a e y₀ (i + 1)) (sym q) treated-one

@@ -1,0 +1,19 @@
+-- `Progress::scanned` meets its contract. Assumes nothing.
+use mathlib.Core.Path.{refl}
+use borrow.Author.Needs.{needs}
+use Rattle.split.specs.Scanning.{scannedBy}
+use Rattle.split.proofs.progress.Progress.scanned.Statement.{statement}
+use Rattle.split.proofs.progress.Progress.scanned.Tie as tie
+
+add-self : tie.Need-add-self
+add-self c = search needs
+
+add-self-2 : tie.Need-add-self-2
+add-self-2 c = search needs
+
+returns : tie.Need-returns
+unfolding scannedBy
+returns c = refl
+
+pub scanned-spec : {M : Type 1} → statement M
+scanned-spec = tie.close (tie.spec add-self add-self-2 returns)

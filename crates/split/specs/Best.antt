@@ -1,0 +1,28 @@
+-- The best legal move so far, as the code of the choice keeps it. Assumes nothing.
+use Prim.Native.Nat.{ℕ, _*_}
+use mathlib.Core.Bool.{Bool, not, cond, _&&_, _||_}
+use mathlib.Core.Option.{Option, none, some}
+use lib.Dec.{leb, ltb, eqb}
+use lib.IntN.{ℤ, pos}
+use lib.Signed.{ltZ}
+use Rattle.rules.specs.Move.{distance}
+use Rattle.split.specs.declared.choice.Window.{Window}
+use Rattle.split.specs.declared.choice.Best.{Best}
+
+-- there is none yet, or a file of this gain and distance goes before it, which is of lower number; n is the number of files
+abbrev pub goesFirst : ℤ → ℕ → Best → ℕ → Bool
+goesFirst gain dist b n = eqb (b .file) n || (ltZ (b .gain) gain || (not (ltZ gain (b .gain)) && ltb dist (b .dist)))
+
+abbrev pub bestIs : ℕ → ℤ → ℕ → Best
+bestIs f gain dist = record { file = f; gain = gain; dist = dist }
+
+-- the best so far, against f of this gain and lock, with |A| after its move
+unfoldable pub challenged : Window → Best → ℕ → ℤ → ℕ → ℕ → ℕ → Best
+challenged w b f gain lock after n =
+    let dist = distance (w .den * after) (w .aim) in
+    cond (eqb lock 0 && leb dist (w .span) && goesFirst gain dist b n) (bestIs f gain dist) b
+
+-- what is kept of the best so far, by the gains and distances of the files
+abbrev pub bestOf : (ℕ → ℤ) → (ℕ → ℕ) → ℕ → Option ℕ → Best
+bestOf gains dists n none = bestIs n (pos 0) 0
+bestOf gains dists n (some f) = bestIs f (gains f) (dists f)

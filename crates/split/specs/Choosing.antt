@@ -1,0 +1,37 @@
+-- What the code of the choice does, on lists. Assumes nothing.
+use mathlib.Core.Path.{_≡_}
+use Prim.Native.Nat.{ℕ, _+_, _-_, _*_, _≤_, _<_}
+use mathlib.Core.Bool.{Bool, cond, _&&_}
+use mathlib.Core.List.{List}
+use mathlib.Core.Option.{Option, none, some}
+use lib.ListN.{length, getD}
+use lib.Dec.{leb, eqb}
+use lib.IntN.{ℤ, pos}
+use Rattle.rules.specs.Split.{sideOf}
+use Rattle.rules.specs.Move.{distance, better, firstBelow}
+use Rattle.split.specs.declared.choice.Window.{Window}
+
+-- |A| after the move of a file of this size from this side
+abbrev pub sizeBy : ℕ → ℕ → ℕ → ℕ
+sizeBy size side own = cond (eqb side 0) (size - own) (size + own)
+
+-- between den·|A| after the move of f and num·W
+abbrev pub distIn : Window → ℕ → List ℕ → List ℕ → ℕ → ℕ
+distIn w size sizes sides f = distance (w .den * sizeBy size (sideOf sides f) (getD sizes f 0)) (w .aim)
+
+-- f is free, and the distance after its move is within den·smax
+abbrev pub legalIn : Window → ℕ → List ℕ → List ℕ → List ℕ → ℕ → Bool
+legalIn w size sizes sides locks f = eqb (getD locks f 0) 0 && leb (distIn w size sizes sides f) (w .span)
+
+-- |A| holds each of its files
+abbrev pub Holds : ℕ → List ℕ → List ℕ → Type 0
+Holds size sizes sides = (f : ℕ) → f < length sizes → sideOf sides f ≡ 0 → getD sizes f 0 ≤ size
+
+-- the file chosen; n where there is none
+abbrev pub fileOr : ℕ → Option ℕ → ℕ
+fileOr n none = n
+fileOr n (some f) = f
+
+unfoldable pub chosenIn : Window → ℕ → List ℕ → List ℕ → List ℕ → List ℤ → ℕ → Option ℕ
+chosenIn w size sizes sides locks gains n =
+    firstBelow (legalIn w size sizes sides locks) (better (λ f. getD gains f (pos 0)) (distIn w size sizes sides)) n

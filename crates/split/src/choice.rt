@@ -1,0 +1,116 @@
+// The choice: the legal move of greatest gain, then of least distance, then of lowest number, by one walk over the files.
+ghost use mathlib.Core.Path.{_≡_};
+ghost use Prim.Native.Nat.{_*_, _≤_, _<_, _^_};
+ghost use lib.ListN.{length};
+ghost use Rattle.rules.specs.Move.{distance};
+ghost use Rattle.split.specs.Choosing.{sizeBy, Holds, fileOr, chosenIn};
+ghost use Rattle.split.specs.Best.{goesFirst, challenged};
+
+// The balance window: den, and num·W and den·smax, within which den·|A| must stay.
+pub struct Window {
+    pub den: u64,
+    pub aim: u64,
+    pub span: u64,
+}
+
+// The best legal move so far: none where the file is the number of files.
+pub struct Best {
+    pub file: usize,
+    pub gain: i32,
+    pub dist: u64,
+}
+
+// |A| after the move of a file of this size from this side.
+pub fn size_after(size: u64, side: u16, own: u16) -> u64
+    requires { ⌜ (size < 2 ^ 40) × (side ≡ 0 → own ≤ size) ⌝ }
+    ensures { λ r. ⌜ r ≡ sizeBy size side own ⌝ }
+{
+    if side == 0 {
+        return size - (own as u64);
+    }
+    size + (own as u64)
+}
+
+fn apart(x: u64, y: u64) -> u64
+    ensures { λ r. ⌜ r ≡ distance x y ⌝ }
+{
+    if x < y {
+        return y - x;
+    }
+    x - y
+}
+
+// Whether a file of this gain and distance goes before the best so far, of lower number, or there is none yet.
+fn is_better(gain: i32, dist: u64, best: Best, none: usize) -> bool
+    ensures { λ r. ⌜ r ≡ goesFirst gain dist best none ⌝ }
+{
+    if best.file == none {
+        return true;
+    }
+    if best.gain < gain {
+        return true;
+    }
+    if gain < best.gain {
+        return false;
+    }
+    dist < best.dist
+}
+
+// The best so far, against file f.
+fn challenge(
+    window: Window,
+    best: Best,
+    f: usize,
+    gain: i32,
+    lock: u16,
+    after: u64,
+    none: usize,
+) -> Best
+    requires { ⌜ window .den * after < 2 ^ 64 ⌝ }
+    ensures { λ r. ⌜ r ≡ challenged window best f gain lock after none ⌝ }
+{
+    if lock != 0 {
+        return best;
+    }
+    let dist = apart(window.den * after, window.aim);
+    if window.span < dist {
+        return best;
+    }
+    if is_better(gain, dist, best, none) {
+        return Best {
+            file: f,
+            gain,
+            dist,
+        };
+    }
+    best
+}
+
+// The file chosen; the number of files where no move is legal.
+pub fn choose(
+    window: Window,
+    size: u64,
+    sizes: &[u16],
+    sides: &[u16],
+    locks: &[u16],
+    gains: &[i32],
+) -> usize
+    requires { ⌜ (length (now sides) ≡ length (now sizes)) × (length (now locks) ≡ length (now sizes)) × (length (now gains) ≡ length (now sizes)) ⌝ }
+    requires { ⌜ (window .den < 65536) × (size < 2 ^ 40) ⌝ }
+    requires { ⌜ Holds size (now sizes) (now sides) ⌝ }
+    ensures { λ r. ⌜ r ≡ fileOr (length (now (sizes .entry))) (chosenIn window size (now (sizes .entry)) (now (sides .entry)) (now (locks .entry)) (now (gains .entry)) (length (now (sizes .entry)))) ⌝ }
+{
+    let none = sizes.len();
+    let mut best = Best {
+        file: none,
+        gain: 0,
+        dist: 0,
+    };
+    let mut f = 0;
+    while f < sizes.len() {
+        let after = size_after(size, sides[f], sizes[f]);
+        best = challenge(window, best, f, gains[f], locks[f], after, none);
+        f += 1;
+    }
+    best.file
+}

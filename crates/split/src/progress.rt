@@ -1,0 +1,64 @@
+// A pass in progress: a small record of numbers, handed in and handed back with each move.
+ghost use mathlib.Core.Path.{_≡_};
+ghost use Prim.Native.Nat.{_+_, _≤_, _<_, _^_};
+ghost use Rattle.split.specs.Scanning.{scannedBy};
+ghost use Rattle.split.specs.Moving.{begun, shiftedTo, countedOn};
+
+pub struct Progress {
+    pub size: u64,
+    pub cut: usize,
+    pub moves: usize,
+    pub best: usize,
+    pub least: usize,
+    pub scans: usize,
+    pub visits: u64,
+}
+
+impl Progress {
+    pub fn new(size: u64, cut: usize) -> Self
+        ensures { λ r. ⌜ r ≡ begun size cut ⌝ }
+    {
+        Self {
+            size,
+            cut,
+            moves: 0,
+            best: 0,
+            least: cut,
+            scans: 0,
+            visits: 0,
+        }
+    }
+
+    // |A| and the cut after a move.
+    pub fn shifted(mut self, size: u64, cut: usize) -> Self
+        ensures { λ r. ⌜ r ≡ shiftedTo self size cut ⌝ }
+    {
+        self.size = size;
+        self.cut = cut;
+        self
+    }
+
+    // One scan more.
+    pub fn scanned(mut self, len: usize) -> Self
+        requires { ⌜ (self .scans < 2 ^ 63) × (self .visits + len < 2 ^ 63) ⌝ }
+        ensures { λ r. ⌜ r ≡ scannedBy self len ⌝ }
+    {
+        self.scans += 1;
+        self.visits += len as u64;
+        self
+    }
+
+    // One move more: the best prefix so far is the shortest of least cut.
+    pub fn counted(mut self) -> Self
+        requires { ⌜ self .moves < 2 ^ 32 ⌝ }
+        ensures { λ r. ⌜ r ≡ countedOn self ⌝ }
+    {
+        self.moves += 1;
+        if self.cut < self.least {
+            self.best = self.moves;
+            self.least = self.cut;
+            return self;
+        }
+        self
+    }
+}
