@@ -1,0 +1,85 @@
+-- Lists as they are filled from blocks and copied out. Assumes nothing.
+use mathlib.Core.Path.{_≡_, refl, sym, ap, ap₂, _∙_}
+use Prim.Native.Nat.{ℕ, suc, _+_, _-_, _*_, _/_, _%_, _<_, _≤_, min}
+use native.Mathlib.Decide.{ℕ-discrete, decLt}
+use native.Mathlib.Nat.{add-zero, mul-one, mul-add, mul-add-div, div-eq-of-lt, mul-add-mod-self-left, mod-eq-of-lt}
+use native.Mathlib.Numerals.{add-one}
+use native.Mathlib.Omega.{arith}
+use mathlib.Core.List.{List, map}
+use lib.ListN.{length, getD, take, drop, set, length-set}
+use lib.Seq.{getD-set-same, getD-set-other, ext-getD, getD-take, set-at, drop-cons, append-snoc, take-suc, take-all, length-take-le}
+use Rattle.rules.specs.Lists.{upTo, onto}
+use Rattle.rules.proofs.Count.{getD-tabled, length-tabled}
+use Rattle.stored.specs.Steps.{Put, Taken, heldIn}
+
+-- ---- one block's values
+
+pub put-none : (f : ℕ → ℕ) (a : ℕ) (xs : List ℕ) → Put f a 0 xs xs
+put-none f a xs = record { long = refl; put = λ v h. absurd (omega arith); before = λ i h. refl }
+
+pub put-more : {f : ℕ → ℕ} {a n : ℕ} {old new : List ℕ} (x : ℕ) → Put f a n old new → a + n < length new → x ≡ f n → Put f a (n + 1) old (set new (a + n) x)
+put-more {f} {a} {n} {old} {new} x p h e = record {
+  long = length-set new (a + n) x ∙ p .long;
+  put = λ v l. elim (ℕ-discrete v n) [
+    | yes q ↦ rw q (getD-set-same new (a + n) x 0 h ∙ e)
+    | no z ↦ getD-set-other new (a + n) (a + v) x 0 (λ q. z (omega arith)) ∙ p .put v (omega arith)
+  ];
+  before = λ i l. getD-set-other new (a + n) i x 0 (λ q. omega arith) ∙ p .before i l;
+}
+
+-- ---- the blocks of a kind
+
+pub taken-none : (g : ℕ → ℕ) (xs : List ℕ) → Taken g 0 xs xs
+taken-none g xs = record { long = refl; taken = λ i h. absurd (omega arith) }
+
+-- n entries more, those of g from a on
+pub taken-more : {f g : ℕ → ℕ} {a n m : ℕ} {old mid new : List ℕ} → Taken g a old mid → Put f a n mid new → m ≤ a + n → ((v : ℕ) → v < n → f v ≡ g (a + v)) → Taken g m old new
+taken-more {f} {g} {a} {n} {m} {old} {mid} {new} t p h e = record {
+  long = p .long ∙ t .long;
+  taken = λ i l. elim (decLt i a) [
+    | yes q ↦ p .before i q ∙ t .taken i q
+    | no q ↦
+        let v : ℕ = i - a in
+        let w : a + v ≡ i = omega arith in
+        rw (← w) (p .put v (omega arith) ∙ e v (omega arith))
+  ];
+}
+
+-- entry v of block k of a kind, m to a block
+pub spread : (F : ℕ → ℕ → ℕ) (m k v : ℕ) → v < m → F k v ≡ F ((m * k + v) / m) ((m * k + v) % m)
+spread F m k v h =
+    let q : (m * k + v) / m ≡ k = mul-add-div (omega arith) k v ∙ ap (λ (i : ℕ). k + i) (div-eq-of-lt h) ∙ add-zero k in
+    let r : (m * k + v) % m ≡ v = mul-add-mod-self-left m k v ∙ mod-eq-of-lt h in
+    sym (ap₂ F q r)
+
+-- block k is taken too
+pub taken-block : {f g : ℕ → ℕ} {n : ℕ} {old mid new : List ℕ} (m k x : ℕ) → m * k ≤ x → n ≡ heldIn m x k → Taken g (min (m * k) x) old mid → Put f (m * k) n mid new
+    → ((v : ℕ) → v < m → f v ≡ g (m * k + v)) → Taken g (min (m * (k + 1)) x) old new
+taken-block {f} {g} {n} m k x h e t p s =
+    let q : m * (k + 1) ≡ m * k + m = mul-add m k 1 ∙ ap (λ (i : ℕ). m * k + i) (mul-one m) in
+    let w : min (m * k) x ≡ m * k = omega arith in
+    taken-more (rw w at t) p (rw q (omega arith)) (λ v l. s v (omega arith))
+
+-- the entries taken are the list that is given by its entries
+pub taken-all : {g : ℕ → ℕ} {n : ℕ} {old new : List ℕ} → Taken g n old new → n ≤ length old → take n new ≡ map g (upTo n)
+taken-all {g} {n} {old} {new} t h =
+    let l : length (take n new) ≡ n = length-take-le n new (omega (arith, t .long)) in
+    ext-getD 0 (take n new) (map g (upTo n)) (l ∙ sym (length-tabled g n))
+    (λ i k. getD-take n new i 0 (omega arith) ∙ t .taken i (omega arith) ∙ sym (getD-tabled g n i 0 (omega arith)))
+
+-- ---- copied out
+
+pub onto-none : (xs old : List ℕ) → onto (take 0 xs) old ≡ old
+unfolding onto
+onto-none xs old = refl
+
+pub onto-more : (xs old : List ℕ) (i : ℕ) → i < length xs → length xs ≤ length old → set (onto (take i xs) old) i (getD xs i 0) ≡ onto (take (i + 1) xs) old
+unfolding onto
+onto-more xs old i h k =
+    let l : length (take i xs) ≡ i = length-take-le i xs (omega arith) in
+    let m : length (take (suc i) xs) ≡ suc i = length-take-le (suc i) xs (omega arith) in
+    let q : i < length old = omega arith in
+    rw (add-one, l, m, drop-cons old i 0, set-at (take i xs) (getD old i 0) (drop (suc i) old) (getD xs i 0) i l, take-suc xs i 0, append-snoc)
+
+pub onto-all : (xs old : List ℕ) (i : ℕ) → length xs ≤ i → onto (take i xs) old ≡ onto xs old
+onto-all xs old i h = ap (λ (l : List ℕ). onto l old) (take-all i xs h)
