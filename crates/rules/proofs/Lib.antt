@@ -1,5 +1,6 @@
 pub mod Tests
 pub mod Searches
+pub mod Fits
 pub mod Verdicts
 pub mod Count
 pub mod Signed
@@ -16,4 +17,6 @@ pub mod Runs
 pub mod SoundJob
 pub mod Steps
 pub mod Reading
+pub mod CutOff
 pub mod Proved
+pub mod Told

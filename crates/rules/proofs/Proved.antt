@@ -30,6 +30,7 @@ use Rattle.rules.proofs.Sizes.{sizes-kept, gain-range}
 use Rattle.rules.proofs.SoundJob.{sound, recipes-distinct, recipes-length, views-total}
 use Rattle.rules.proofs.Choice.{chosen-one}
 use Rattle.rules.proofs.MovesEnd.{Long, after-long, pass-free, pass-each, pass-end, frees-once, frees-few}
+use Rattle.rules.proofs.Fits.{roomy}
 use Rattle.rules.proofs.Steps.{after-snoc, cuts-at, gains-take, gains-length, cuts-length, ends-length}
 use Rattle.rules.proofs.Runs.{keeps-le, keeps-least, keeps-shortest, one, pass-falls, pass-to, pass-size, Passes, passes-come, come-first, come-next, come-less, come-few, come-turns, come-settled, come-full, come-each, come-last, come-some, turns-none, turns-cap}
 
@@ -108,22 +109,16 @@ module _ (most : Limits) (job : Job) (s : Sound most job) where
   pub left : (sides ms : List ℕ) (l : Lent) → fits job l ≡ true → MovesHold job sides ms → Left job l (passOf job sides ms)
   unfolding leaves passOf
   left sides ms l ok m =
-      let t8 = and-yes _ (leb (scratchFor job) (length (l .scratch))) ok in
-      let t7 = and-yes _ (leb (4 * recipeCount job) (length (l .kinds))) (t8 .0) in
-      let t6 = and-yes _ (leb (4 * recipeCount job) (length (l .recipes))) (t7 .0) in
-      let t5 = and-yes _ (leb (fileCount job) (length (l .ends))) (t6 .0) in
-      let t4 = and-yes _ (leb (fileCount job) (length (l .cuts))) (t5 .0) in
-      let t3 = and-yes _ (leb (fileCount job) (length (l .gained))) (t4 .0) in
-      let t2 = and-yes (eqb (length (l .gains)) (fileCount job)) (leb (fileCount job) (length (l .tried))) (t3 .0) in
+      let r = roomy job l ok in
       record {
         gains = refl;
-        tried = listed-holds (fileCount job) 0 ms (l .tried) (m .few) (leb-true (fileCount job) (length (l .tried)) (t2 .1));
-        gained = listed-holds (fileCount job) (pos 0) _ (l .gained) (rw (gains-length (recipes job) (start job sides) ms) (m .few)) (leb-true (fileCount job) (length (l .gained)) (t3 .1));
-        cuts = listed-holds (fileCount job) 0 _ (l .cuts) (rw (cuts-length (recipes job) (start job sides) ms) (m .few)) (leb-true (fileCount job) (length (l .cuts)) (t4 .1));
-        ends = listed-holds (fileCount job) 0 _ (l .ends) (rw (ends-length (recipes job) 0 (start job sides) ms) (m .few)) (leb-true (fileCount job) (length (l .ends)) (t5 .1));
-        recipes = listed-holds (4 * recipeCount job) 0 _ (l .recipes) (rw length-map (m .scans)) (leb-true (4 * recipeCount job) (length (l .recipes)) (t6 .1));
-        kinds = listed-holds (4 * recipeCount job) 0 _ (l .kinds) (rw length-map (m .scans)) (leb-true (4 * recipeCount job) (length (l .kinds)) (t7 .1));
-        scratch = listed-holds (scratchFor job) 0 [] (l .scratch) (omega arith) (leb-true (scratchFor job) (length (l .scratch)) (t8 .1));
+        tried = listed-holds (fileCount job) 0 ms (l .tried) (m .few) (r .tried);
+        gained = listed-holds (fileCount job) (pos 0) _ (l .gained) (rw (gains-length (recipes job) (start job sides) ms) (m .few)) (r .gained);
+        cuts = listed-holds (fileCount job) 0 _ (l .cuts) (rw (cuts-length (recipes job) (start job sides) ms) (m .few)) (r .cuts);
+        ends = listed-holds (fileCount job) 0 _ (l .ends) (rw (ends-length (recipes job) 0 (start job sides) ms) (m .few)) (r .scansSoFar);
+        recipes = listed-holds (4 * recipeCount job) 0 _ (l .recipes) (rw length-map (m .scans)) (r .scannedRecipes);
+        kinds = listed-holds (4 * recipeCount job) 0 _ (l .kinds) (rw length-map (m .scans)) (r .scannedKinds);
+        scratch = listed-holds (scratchFor job) 0 [] (l .scratch) (omega arith) (r .scratch);
       }
 
   -- ---- one pass

@@ -7,5 +7,6 @@ pub mod Pass
 pub mod Run
 pub mod Stored
 pub mod Report
+pub mod Trace
 pub mod Marked
 pub mod Theorems

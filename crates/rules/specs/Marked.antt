@@ -14,7 +14,7 @@ use Rattle.rules.specs.Move.{State, start, moved, stepsBy, after, sizeAf
 use Rattle.rules.specs.Pass.{gainsWhen, cutsAfter, cutAt, keeps, standing, gainsAfter, Pass, passOf, pass}
 use Rattle.rules.specs.Run.{passesBy, mostPasses, passes, run, lastOf, figuresOf, runFiguresOf}
 use Rattle.rules.specs.Stored.{weigh, blockCheck, headerOf, laidOut, blockVerdict, blocksVerdict, jobOf, Room, layoutVerdict, readVerdict}
-use Rattle.rules.specs.Report.{text, digitsIn, spaced, line, refusal, figureLines, report, reportOf, prints}
+use Rattle.rules.specs.Report.{text, digitsIn, spaced, line, refusal, sizeLine, sidesLine, figureLines, report, reportOf, prints}
 
 -- files of size 1, ratio 1/2, none pinned, cap 0
 abbrev pub small : List ℕ → List ℕ → List ℕ → Job
@@ -82,7 +82,7 @@ pub record Marked : Type 0 where
   pub m9·prints : (most : Limits) → prints most (replicate 512 0) ≡ text "refused 21 0\n"
 
 pub marked : Marked
-unfolding total count largest upTo lowest bestUpTo diff viewOf files views countOn isCut cut times alone together gain weight smax sizeOn balanced check1 check2 check3 check4 badPin check5 check6 check7 check8 check9 check4to6 check7to9 check1to6 check moved stepsBy sizeAfter legal distAfter challenge firstBelow choose movesBy moves fileOn kindsIn kindsOf scansFrom scans endsFrom visits gainsWhen cutsAfter cutAt keeps standing gainsAfter passOf passesBy mostPasses passes lastOf figuresOf runFiguresOf weigh blockCheck headerOf laidOut blockVerdict blocksVerdict jobOf layoutVerdict readVerdict text digitsIn spaced line refusal figureLines report prints
+unfolding total count largest upTo lowest bestUpTo diff viewOf files views countOn isCut cut times alone together gain weight smax sizeOn balanced check1 check2 check3 check4 badPin check5 check6 check7 check8 check9 check4to6 check7to9 check1to6 check moved stepsBy sizeAfter legal distAfter challenge firstBelow choose movesBy moves fileOn kindsIn kindsOf scansFrom scans endsFrom visits gainsWhen cutsAfter cutAt keeps standing gainsAfter passOf passesBy mostPasses passes lastOf figuresOf runFiguresOf weigh blockCheck headerOf laidOut blockVerdict blocksVerdict jobOf layoutVerdict readVerdict text digitsIn spaced line refusal sizeLine sidesLine figureLines report prints
 marked = record {
   m1·check = λ m f r p d. rw (le-ltb (m .files) 4 f, le-ltb (m .recipes) 3 r, le-ltb (m .pins) 6 p, le-ltb (m .den) 2 d) refl;
   m1·passes = refl;

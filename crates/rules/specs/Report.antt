@@ -2,16 +2,18 @@
 use Prim.Native.Nat.{ℕ, zero, suc, _+_, _*_, _/_, _%_}
 use Prim.Native.Char.{code}
 use Prim.Native.String.{String, [] as nil, _∷_ as cons}
-use mathlib.Core.Bool.{true, false, cond}
+use mathlib.Core.Bool.{Bool, true, false, not, cond, _&&_}
 use mathlib.Core.List.{List, [], _∷_, _++_, map}
-use lib.ListN.{replicate}
-use lib.Dec.{ltb}
-use lib.IntN.{pos}
+use lib.ListN.{length, getD, replicate}
+use lib.Dec.{leb, ltb, eqb}
+use lib.IntN.{ℤ, pos}
 use Rattle.rules.specs.declared.Verdict.{Verdict}
 use Rattle.rules.specs.declared.RunFigures.{RunFigures}
-use Rattle.rules.specs.Job.{Job, Limits, fileCount, Lent}
+use Rattle.rules.specs.declared.Printed.{Printed}
+use Rattle.rules.specs.Lists.{onto}
+use Rattle.rules.specs.Job.{Job, asJob, Limits, fileCount, Lent}
 use Rattle.rules.specs.Split.{sizeOn}
-use Rattle.rules.specs.Check.{done, isDone}
+use Rattle.rules.specs.Check.{done, isDone, refuseIf, refuseAt, _orElse_}
 use Rattle.rules.specs.Pass.{pass}
 use Rattle.rules.specs.Run.{run, lastOf, runFiguresOf, runEnds}
 use Rattle.rules.specs.Stored.{Room, jobOf, readVerdict}
@@ -42,17 +44,28 @@ line word ns = text word ++ spaced ns ++ (10 ∷ [])
 unfoldable pub refusal : Verdict → List ℕ
 refusal v = line "refused" (v .number ∷ v .place ∷ [])
 
+-- the sizes of A and B
+unfoldable pub sizeLine : Job → ℕ → List ℕ → List ℕ
+sizeLine job a sides = line "size" (a ∷ sizeOn job 1 sides ∷ [])
+
+abbrev pub letter : ℕ → ℕ
+letter side = cond (eqb side 0) 65 66
+
+-- one letter for each file
+unfoldable pub sidesLine : List ℕ → List ℕ
+sidesLine sides = text "sides " ++ map letter sides ++ (10 ∷ [])
+
 -- cut before and after, then the sizes of A and B after, the other figures as sums over the run, and one letter for each file
 unfoldable pub figureLines : Job → RunFigures → List ℕ → List ℕ
 figureLines job r sides =
     line "done" []
     ++ line "cut" (r .figures .before ∷ r .figures .cut ∷ [])
-    ++ line "size" (r .figures .size ∷ sizeOn job 1 sides ∷ [])
+    ++ sizeLine job (r .figures .size) sides
     ++ line "passes" (r .passes ∷ [])
     ++ line (cond (r .settled) "settled yes" "settled no") []
     ++ line "kept" (r .figures .kept ∷ [])
     ++ line "visits" (r .figures .visits ∷ [])
-    ++ text "sides " ++ map (λ s. 65 + s) sides ++ (10 ∷ [])
+    ++ sidesLine sides
 
 -- the report of a run's answer, refused or not
 unfoldable pub report : Job → RunFigures → List ℕ → List ℕ
@@ -63,6 +76,47 @@ abbrev pub reportOf : Job → List ℕ
 reportOf job =
     let first = pass job (job .sides) in
     report job (runFiguresOf done first (run job)) (lastOf first (run job) .sidesAfter)
+
+-- ---- the call that makes a report's bytes: it knows no more of the job than its sizes, and is lent room for the bytes
+
+abbrev pub ofSizes : List ℕ → Job
+ofSizes sizes = asJob sizes [] [] [] [] 0 0 0
+
+-- the numbers are a job's: C over its most; sides not C long, or the lent room too short for the text; a side over 1
+abbrev pub splitVerdict : Limits → List ℕ → List ℕ → Bool → Verdict
+splitVerdict most sizes sides lent =
+    refuseIf (ltb (most .files) (length sizes)) 2 0
+    orElse refuseIf (not (eqb (length sides) (length sizes) && lent)) 3 0
+    orElse refuseAt 6 (λ f. ltb 1 (getD sides f 0)) (length sides)
+
+-- `held` says that the other lists hold what is told; the text of a refusal needs room alone, since it tells of no split
+abbrev pub printVerdict : Limits → List ℕ → List ℕ → Verdict → Bool → Bool → Verdict
+printVerdict most sizes sides answered held roomy =
+    cond (isDone answered) (splitVerdict most sizes sides (held && roomy)) (refuseIf (not roomy) 3 0)
+
+-- how many bytes there are, and what the room then holds
+pub record Printing : Type 0 where
+  pub answer : Printed
+  pub room : List ℕ
+
+abbrev pub printed : Printed → List ℕ → Printing
+printed a room = record { answer = a; room = room }
+
+unfoldable pub printing : Verdict → List ℕ → List ℕ → Printing
+printing v bytes room =
+    elim (isDone v) [
+      | true ↦ record { answer = record { verdict = v; bytes = length bytes }; room = onto bytes room }
+      | false ↦ record { answer = record { verdict = v; bytes = 0 }; room = room }
+    ]
+
+-- the bytes alone: room too short for them is refused as 3
+abbrev pub intoRoom : List ℕ → List ℕ → Printing
+intoRoom bytes room = printing (refuseIf (not (leb (length bytes) (length room))) 3 0) bytes room
+
+unfoldable pub reporting : Limits → List ℕ → RunFigures → List ℕ → List ℕ → Printing
+reporting most sizes r sides room =
+    let bytes = report (ofSizes sizes) r sides in
+    printing (printVerdict most sizes sides (r .figures .verdict) true (leb (length bytes) (length room))) bytes room
 
 -- ---- the program: it reads a stored job from standard input and runs it
 
@@ -76,9 +130,10 @@ allRoom most = record {
   pins = replicate (most .pins) 0;
 }
 
-abbrev pub allLent : Limits → Job → Lent
-allLent most job = record {
-  gains = replicate (fileCount job) (pos 0);
+-- the gain list is a part of its own
+abbrev pub ownLent : Limits → List ℤ → Lent
+ownLent most gains = record {
+  gains = gains;
   tried = replicate (most .files) 0;
   gained = replicate (most .files) (pos 0);
   cuts = replicate (most .files) 0;
@@ -87,6 +142,9 @@ allLent most job = record {
   kinds = replicate (4 * most .recipes) 0;
   scratch = replicate (most .pins + 4 * most .files + 4 * most .recipes + 16) 0;
 }
+
+abbrev pub allLent : Limits → Job → Lent
+allLent most job = ownLent most (replicate (fileCount job) (pos 0))
 
 -- reading gives its refusal or a job, and the run of the job gives its answer, 7 to 9 among them
 unfoldable pub prints : Limits → List ℕ → List ℕ

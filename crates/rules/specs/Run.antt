@@ -86,6 +86,10 @@ pub record Ended (A : Type 0) : Type 0 where
   pub sides : List ℕ
   pub lent : Lent
 
+-- of the answer and the lists of a call, for contracts
+abbrev pub endedOf : {A : Type 0} → A → List ℕ → Lent → Ended A
+endedOf a sides l = record { answer = a; sides = sides; lent = l }
+
 -- the lists are the last pass's
 abbrev pub leftBy : {A : Type 0} → Job → Lent → A → Pass → Ended A
 leftBy job l a p = record { answer = a; sides = p .sidesAfter; lent = leaves job l p }

@@ -15,7 +15,9 @@ use Rattle.rules.specs.Check.{done, refuseAt, check1to6, check7to9, chec
 use Rattle.rules.specs.Move.{State, start, lockOf, after, legal, distAfter, replay}
 use Rattle.rules.specs.Pass.{cutAt, startGains, Pass, passOf, tries, pass, leaves}
 use Rattle.rules.specs.Run.{settles, run, lastOf, noFigures, noRunFigures, leftBy, unchanged, figuresOf, runFiguresOf, passEnds, runEnds}
-use Rattle.rules.specs.Stored.{headerOf, jobOf, Room, roomy, readVerdict, written, noHeader, reading}
+use Rattle.rules.specs.Report.{prints}
+use Rattle.rules.specs.Trace.{traces}
+use Rattle.rules.specs.Stored.{blocksFor, headerOf, jobOf, Room, roomy, readVerdict, written, noHeader, reading}
 
 -- ---- an accepted job has what the theorems ask
 
@@ -219,3 +221,14 @@ pub record Written (xs old : List ℕ) : Type 0 where
   pub long : length xs ≤ length old → length (onto xs old) ≡ length old
   pub holds : (i : ℕ) → i < length xs → getD (onto xs old) i 0 ≡ getD xs i 0
   pub stays : (i : ℕ) → length xs ≤ i → getD (onto xs old) i 0 ≡ getD old i 0
+
+-- ---- the programs (CutOff `longer-same`, of any input)
+
+-- how many bytes the largest job has
+abbrev pub mostBytes : Limits → ℕ
+mostBytes most = 512 * (1 + blocksFor 126 (most .files) + blocksFor 253 (most .recipes + 1) + blocksFor 253 (most .pins))
+
+-- a program that takes up more bytes than those of the largest job need read no further: what it prints is the same
+pub record Longer (most : Limits) (k : ℕ) (input : List ℕ) : Type 0 where
+  pub same : mostBytes most < k → prints most (take k input) ≡ prints most input
+  pub traced : mostBytes most < k → traces most (take k input) ≡ traces most input

@@ -48,3 +48,9 @@ pub struct ReadFigures {
     pub verdict: Verdict,
     pub header: Header,
 }
+
+// The answer of making a report: how many bytes it has.
+pub struct Printed {
+    pub verdict: Verdict,
+    pub bytes: usize,
+}

@@ -1,4 +1,4 @@
--- What the survey of a pass or run tells: a job that it lets through may be played, of one that it refuses nothing changes.
+-- What the survey of a pass tells: a job that it lets through may be played, of one that it refuses nothing changes.
 -- Assumes nothing.
 use mathlib.Core.Path.{_≡_, sym, ap, _∙_}
 use mathlib.Core.Logic.{_≢_}
@@ -7,16 +7,14 @@ use mathlib.Core.Bool.{Bool}
 use native.Mathlib.Omega.{arith}
 use native.Mathlib.Decide.{ℕ-discrete}
 use native.Mathlib.Nat.{max-le}
-use lib.ListN.{length}
 use borrow.Author.Tests.{eq-eqb, ne-eqb}
 use Rattle.rules.specs.declared.Verdict.{Verdict}
 use Rattle.rules.specs.declared.Figures.{Figures}
-use Rattle.rules.specs.declared.RunFigures.{RunFigures}
 use Rattle.rules.specs.Lists.{total, largest, upTo}
 use Rattle.rules.specs.Job.{Job, Limits, fileCount, recipeCount, pinCount, files, recipes, Lent, fits}
 use Rattle.rules.specs.Split.{sizeOf, weight, smax, cut, sizeA}
 use Rattle.rules.specs.Check.{check}
-use Rattle.rules.specs.Run.{Ended, noFigures, noRunFigures, passEnds, runEnds}
+use Rattle.rules.specs.Run.{endedOf, Ended, noFigures, passEnds}
 use Rattle.rules.specs.Theorems.{Accepted}
 use Rattle.rules.proofs.Count.{total-upTo}
 use Rattle.rules.proofs.Verdicts.{zero-of}
@@ -25,9 +23,8 @@ use Rattle.job.specs.declared.figures.Survey.{Survey}
 use Rattle.job.specs.Survey.{surveyOf}
 use Rattle.job.proofs.AddingUp.{largest-upTo}
 use Rattle.split.specs.declared.choice.Window.{Window}
-use Rattle.split.specs.Playing.{Playable, endedOf, sizeAtStart, cutAtStart, passLeft}
-use Rattle.split.specs.Running.{runLeft}
-use Rattle.split.specs.LentFits.{fitsOf, WordOn, windowOf}
+use Rattle.split.specs.Playing.{Playable, sizeAtStart, cutAtStart, passLeft}
+use Rattle.split.specs.LentFits.{WordOn, windowOf}
 use Rattle.split.proofs.LentWord.{word-late}
 
 -- limits within which entries are two-byte numbers
@@ -80,13 +77,9 @@ pub record Surveyed (most : Limits) (job : Job) (l : Lent) (s : Survey) : Type 0
   pub answered : s ≡ surveyOf most job word
 
 -- from what the steps before it promise
-pub surveyed : {s : Survey} (most : Limits) (job : Job) (l : Lent) (n : ℕ) (word : Bool)
-    → Narrow most → ((i : ℕ) → sizeOf job i < 65536) → n ≡ recipeCount job
-    → WordOn (most .files) (most .recipes) (most .pins) (fileCount job) n (pinCount job) word
-    (fitsOf (fileCount job) n (pinCount job) (length (l .gains)) (length (l .tried)) (length (l .gained)) (length (l .cuts)) (length (l .ends))
-    (length (l .recipes)) (length (l .kinds)) (length (l .scratch)))
-    → s ≡ surveyOf most job word → Surveyed most job l s
-surveyed most job l n word narrow sizes count on e = record { narrow = narrow; sizes = sizes; word = word; worded = rw count at on; answered = e }
+pub surveyed : {s : Survey} (most : Limits) (job : Job) (l : Lent) (word : Bool) → Narrow most → ((i : ℕ) → sizeOf job i < 65536)
+    → WordOn (most .files) (most .recipes) (most .pins) (fileCount job) (recipeCount job) (pinCount job) word (fits job l) → s ≡ surveyOf most job word → Surveyed most job l s
+surveyed most job l word narrow sizes on e = record { narrow = narrow; sizes = sizes; word = word; worded = on; answered = e }
 
 module _ {most : Limits} {job : Job} {l : Lent} {s : Survey} (a : Surveyed most job l s) where
   same-check : check most job (a .word) ≡ check most job (fits job l)
@@ -106,11 +99,6 @@ module _ {most : Limits} {job : Job} {l : Lent} {s : Survey} (a : Surveyed most 
         ap (λ (f : Figures). endedOf f (job .sides) l) (e ∙ ap (λ (v : Verdict). noFigures v) told)
         ∙ sym (answers most job l .passRefused refuses)
 
-    pub run-refused : {r : RunFigures} → r ≡ noRunFigures (s .verdict) → endedOf r (job .sides) l ≡ runEnds most job l
-    run-refused {r} e =
-        ap (λ (f : RunFigures). endedOf f (job .sides) l) (e ∙ ap (λ (v : Verdict). noRunFigures v) told)
-        ∙ sym (answers most job l .runRefused refuses)
-
   -- ---- let through
 
   module _ (z : s .verdict .number ≡ 0) where
@@ -128,9 +116,6 @@ module _ {most : Limits} {job : Job} {l : Lent} {s : Survey} (a : Surveyed most 
 
     pub pass-done : {x : Ended Figures} → x ≡ passLeft job l → x ≡ passEnds most job l
     pass-done e = e ∙ sym (answers most job l .passDone done)
-
-    pub run-done : {x : Ended RunFigures} → x ≡ runLeft job l → x ≡ runEnds most job l
-    run-done e = e ∙ sym (answers most job l .runDone done)
 
     job-is : Accepted most job
     job-is = accepted most job (fits job l) done

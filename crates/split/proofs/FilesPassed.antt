@@ -1,5 +1,5 @@
 -- The walk of the choice over the files: what is kept is the best of the files passed. Assumes nothing.
-use mathlib.Core.Path.{_≡_, refl}
+use mathlib.Core.Path.{_≡_, refl, sym, ap, _∙_}
 use Prim.Native.Nat.{ℕ, _+_, _-_, _*_, _≤_, _<_, _^_}
 use native.Mathlib.Nat.{mul-le-mul}
 use native.Mathlib.Numerals.{add-one}
@@ -8,16 +8,16 @@ use mathlib.Core.Bool.{Bool, true, false, cond, _&&_}
 use mathlib.Core.List.{List}
 use mathlib.Core.Option.{Option, none, some}
 use lib.ListN.{length, getD}
-use lib.Dec.{eqb}
+use lib.Dec.{leb, eqb}
 use lib.IntN.{ℤ, pos}
 use borrow.Author.Tests.{eq-eqb, ne-eqb}
 use Rattle.rules.specs.Split.{sideOf}
-use Rattle.rules.specs.Move.{better, challenge, firstBelow}
+use Rattle.rules.specs.Move.{distance, better, challenge, firstBelow}
 use Rattle.rules.proofs.First.{first-ok}
 use Rattle.split.specs.declared.choice.Window.{Window}
 use Rattle.split.specs.declared.choice.Best.{Best}
-use Rattle.split.specs.Choosing.{sizeBy, distIn, legalIn, fileOr, chosenIn}
-use Rattle.split.specs.Best.{bestIs, bestOf, challenged}
+use Rattle.split.specs.Choosing.{sizeBy, distIn, legalIn, chosenIn}
+use Rattle.split.specs.Best.{goesFirst, bestIs, bestOf, challenged, bestIn}
 
 -- ---- den·|A| after a move fits 64 bits
 
@@ -30,6 +30,22 @@ product-fits den size side own h k l =
     let s : sizeBy size side own ≤ 2 ^ 41 = omega (arith, either-most (eqb side 0) size own) in
     let d : den ≤ 65536 = omega arith in
     omega (arith, mul-le-mul d s)
+
+-- ---- one file against the best so far, by the tests of the definition, with the distance that the code works out
+
+module _ (w : Window) (b : Best) (f : ℕ) (gain : ℤ) (lock after n d : ℕ) (e : d ≡ distance (w .den * after) (w .aim)) where
+  abbrev tests : Bool
+  tests = eqb lock 0 && leb d (w .span) && goesFirst gain d b n
+
+  is : challenged w b f gain lock after n ≡ cond tests (bestIs f gain d) b
+  unfolding challenged
+  is = ap (λ (x : ℕ). cond (eqb lock 0 && leb x (w .span) && goesFirst gain x b n) (bestIs f gain x) b) (sym e)
+
+  pub challenge-won : tests ≡ true → bestIs f gain d ≡ challenged w b f gain lock after n
+  challenge-won p = sym (is ∙ ap (λ (t : Bool). cond t (bestIs f gain d) b) p)
+
+  pub challenge-lost : tests ≡ false → b ≡ challenged w b f gain lock after n
+  challenge-lost p = sym (is ∙ ap (λ (t : Bool). cond t (bestIs f gain d) b) p)
 
 -- ---- the walk
 
@@ -70,10 +86,6 @@ module _ (w : Window) (size : ℕ) (sizes sides locks : List ℕ) (gains : List 
       go true = refl
       go false = refl
 
-  kept-file : (o : Option ℕ) → kept o .file ≡ fileOr (length sizes) o
-  kept-file none = refl
-  kept-file (some g) = refl
-
 module _ {w : Window} {size : ℕ} {sizes sides locks : List ℕ} {gains : List ℤ} where
   pub passed-none : Passed w size sizes sides locks gains 0 (bestIs (length sizes) (pos 0) 0)
   unfolding chosenIn firstBelow
@@ -90,8 +102,7 @@ module _ {w : Window} {size : ℕ} {sizes sides locks : List ℕ} {gains : List 
         best = rw (add-one f, p .best) (against w size sizes sides locks gains (firstBelow fits first f) f (λ g e. omega (arith, first-ok fits first f g e .0)));
       }
 
-  pub passed-all : {f : ℕ} {b : Best} → length sizes ≤ f → Passed w size sizes sides locks gains f b
-      → b .file ≡ fileOr (length sizes) (chosenIn w size sizes sides locks gains (length sizes))
+  pub passed-all : {f : ℕ} {b : Best} → length sizes ≤ f → Passed w size sizes sides locks gains f b → b ≡ bestIn w size sizes sides locks gains
   passed-all {f} {b} h p =
-      let e : f ≡ length sizes = omega arith in
-      rw (p .best, kept-file w size sizes sides locks gains (chosenIn w size sizes sides locks gains f), e)
+      let e : f ≡ length sizes = omega (arith, p .few) in
+      rw (p .best, e)

@@ -1,42 +1,75 @@
--- Loops that store from the front on, one value or the entries of a list, over any kind of entry. Assumes nothing.
-use mathlib.Core.Path.{_≡_, refl, ap, _∙_}
+-- Loops that store from one entry on, one value or the entries of a list, over any kind of entry. Assumes nothing.
+use mathlib.Core.Path.{_≡_, refl, sym, ap, ap₂, _∙_}
 use mathlib.Core.List.{List, [], _∷_, _++_, append-nil}
-use Prim.Native.Nat.{ℕ, zero, suc, _+_, _≤_, _<_}
+use Prim.Native.Nat.{ℕ, zero, suc, _+_, _-_, _≤_, _<_}
 use native.Mathlib.Numerals.{add-one}
 use native.Mathlib.Omega.{arith}
-use lib.ListN.{length, getD, set, drop, replicate, length-set, drop-of-length-le}
+use lib.ListN.{length, getD, set, take, drop, replicate, length-set, take-append-drop, drop-of-length-le}
 use lib.Seq.{getD-set-same, getD-set-other, ext-getD}
 use borrow.Author.Count.{below-more}
+use Rattle.split.specs.Treats.{cleared}
 
--- the first k entries hold v, the rest is old
-pub record Filled {A : Type 0} (v : A) (old : List A) (k : ℕ) (xs : List A) : Type 0 where
-  pub few : k ≤ length old
+-- the entries from a up to k are made v, the rest is old
+pub record Clearing {A : Type 0} (v : A) (a : ℕ) (old : List A) (k : ℕ) (xs : List A) : Type 0 where
+  pub from : a ≤ k
   pub long : length xs ≡ length old
-  pub holds : xs ≡ replicate k v ++ drop k old
+  pub holds : xs ≡ cleared a k v old
 
-module _ {A : Type 0} {v : A} where
-  pub filled-none : {old : List A} → Filled v old 0 old
-  filled-none = record { few = omega arith; long = refl; holds = refl }
-
-  store : (old : List A) (k : ℕ) → k < length old → set (replicate k v ++ drop k old) k v ≡ replicate (suc k) v ++ drop (suc k) old
-  store [] k h = absurd (omega arith)
-  store (x ∷ old) zero h = refl
-  store (x ∷ old) (suc k) h = ap (λ (t : List A). v ∷ t) (store old k (omega arith))
-
-  pub filled-more : {old : List A} {k : ℕ} {xs : List A} → k < length xs → Filled v old k xs → Filled v old (k + 1) (set xs k v)
-  filled-more {old} {k} {xs} h f =
-      let l : k < length old = omega arith in
+module _ {A : Type 0} where
+  pub clearing-none : {v : A} {a : ℕ} {old : List A} → Clearing v a old a old
+  clearing-none {v} {a} {old} =
+      let e : zero ≡ a - a = omega arith in
       record {
-        few = omega arith;
-        long = length-set xs k v ∙ f .long;
-        holds = rw (add-one k, f .holds) (store old k l);
+        from = omega arith;
+        long = refl;
+        holds = sym (take-append-drop a old) ∙ ap (λ (m : ℕ). take a old ++ (replicate m v ++ drop a old)) e;
       }
 
-  pub filled-all : {old : List A} {k : ℕ} {xs : List A} → length xs ≤ k → Filled v old k xs → xs ≡ replicate (length old) v
-  filled-all {old} {k} {xs} h f =
-      let e : k ≡ length old = omega arith in
-      let l : length old ≤ k = omega arith in
-      f .holds ∙ rw (drop-of-length-le old l, append-nil, e)
+  store-front : (v : A) (old : List A) (k : ℕ) → k < length old → set (replicate k v ++ drop k old) k v ≡ replicate (suc k) v ++ drop (suc k) old
+  store-front v [] k h = absurd (omega arith)
+  store-front v (x ∷ old) zero h = refl
+  store-front v (x ∷ old) (suc k) h = ap (λ (t : List A). v ∷ t) (store-front v old k (omega arith))
+
+  store : (v : A) (a m : ℕ) (old : List A) → a + m < length old → set (take a old ++ (replicate m v ++ drop (a + m) old)) (a + m) v ≡ take a old ++ (replicate (suc m) v ++ drop (suc (a + m)) old)
+  store v a m [] h = absurd (omega arith)
+  store v zero m (x ∷ old) h =
+      let e : zero + m ≡ m = omega arith in
+      ap (λ (i : ℕ). set (replicate m v ++ drop i (x ∷ old)) i v) e ∙ store-front v (x ∷ old) m (omega arith)
+      ∙ ap (λ (i : ℕ). replicate (suc m) v ++ drop (suc i) (x ∷ old)) (sym e)
+  store v (suc a) m (x ∷ old) h =
+      let e : suc a + m ≡ suc (a + m) = omega arith in
+      ap (λ (i : ℕ). set (x ∷ (take a old ++ (replicate m v ++ drop i (x ∷ old)))) i v) e ∙ ap (λ (t : List A). x ∷ t) (store v a m old (omega arith))
+      ∙ ap (λ (i : ℕ). x ∷ (take a old ++ (replicate (suc m) v ++ drop i old))) (sym e)
+
+  pub clearing-more : {v : A} {a : ℕ} {old : List A} {k : ℕ} {xs : List A} → k < length xs → Clearing v a old k xs → Clearing v a old (k + 1) (set xs k v)
+  clearing-more {v} {a} {old} {k} {xs} h f =
+      let m : ℕ = k - a in
+      let e : a + m ≡ k = omega (arith, f .from) in
+      let n : suc m ≡ k + 1 - a = omega (arith, f .from) in
+      record {
+        from = omega (arith, f .from);
+        long = length-set xs k v ∙ f .long;
+        holds =
+            ap (λ (l : List A). set l k v) (f .holds)
+            ∙ ap (λ (i : ℕ). set (take a old ++ (replicate m v ++ drop i old)) i v) (sym e)
+            ∙ store v a m old (omega (arith, f .long))
+            ∙ ap₂ (λ (i j : ℕ). take a old ++ (replicate i v ++ drop j old)) n (ap suc e ∙ sym (add-one k));
+      }
+
+  pub clearing-all : {v : A} {a : ℕ} {old : List A} {k to : ℕ} {xs : List A} → k ≡ to → Clearing v a old k xs → xs ≡ cleared a to v old
+  clearing-all {v} {a} {old} e f = f .holds ∙ ap (λ (k : ℕ). cleared a k v old) e
+
+  -- a list cleared whole, and up to n
+  pub cleared-all : (v : A) (old : List A) → cleared 0 (length old) v old ≡ replicate (length old) v
+  cleared-all v old =
+      let e : length old - 0 ≡ length old = omega arith in
+      let l : length old ≤ length old = omega arith in
+      ap₂ (λ (m : ℕ) (t : List A). replicate m v ++ t) e (drop-of-length-le old l) ∙ append-nil (replicate (length old) v)
+
+  pub cleared-front : (v : A) (n : ℕ) (old : List A) → cleared 0 n v old ≡ replicate n v ++ drop n old
+  cleared-front v n old =
+      let e : n - 0 ≡ n = omega arith in
+      ap (λ (m : ℕ). replicate m v ++ drop n old) e
 
 -- ---- a list stored entry by entry
 

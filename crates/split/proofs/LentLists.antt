@@ -48,11 +48,3 @@ module _ {ℓ} {A : Type ℓ} where
   listed-none n z old =
       let e : n ≡ n - 0 = omega arith in
       ap (λ (i : ℕ). replicate i z ++ drop n old) e ∙ listed-of n z [] old (omega arith)
-
-  -- the second of two lists, each with z up to n, is all that stays
-  pub listed-again : (n : ℕ) (z : A) (xs ys old : List A) → length xs ≤ n → length ys ≤ n → listed n z ys (listed n z xs old) ≡ listed n z ys old
-  listed-again n z xs ys old h k =
-      unfold onto in
-      ap (λ (t : List A). padded n z ys ++ t)
-      (onto-drop (padded n z xs) old (length (padded n z ys))
-      (omega (arith, padded-length n z xs h, padded-length n z ys k)))

@@ -3,12 +3,11 @@ use mathlib.Core.Path.{_≡_, sym, ap, ap₂, _∙_}
 use Prim.Native.Nat.{ℕ, _+_, _-_, _*_, _≤_, _<_}
 use mathlib.Core.List.{List, _++_}
 use native.Mathlib.Omega.{arith}
-use lib.ListN.{length, getD, take, drop, replicate, length-drop}
+use lib.ListN.{length, getD, take, drop}
 use lib.Seq.{length-take-le, take-take, take-at, drop-at, drop-drop, take-all, getD-take, getD-drop}
 use borrow.Rule.Slice.PartMut.{putMid, same-len-mid, take-put, drop-put}
 use Rattle.rules.specs.Move.{State}
 use Rattle.split.specs.Zones.{startAt, endAt, locksAt, countsAt, part, Cells, Counts}
-use Rattle.split.specs.Treats.{cleared}
 use Rattle.split.proofs.Parts.{part-length, front-entry, front-part}
 
 -- ---- `putMid a (e - a) xs ys`: the entries of xs from a up to e were lent and came back as ys
@@ -33,21 +32,6 @@ module _ {A : Type 0} where
         ∙ ap (drop (m - e)) (drop-put a e xs ys h fits l)
         ∙ drop-drop (m - e) e xs
         ∙ ap (λ (j : ℕ). drop j xs) s
-
-  -- lent, and made z throughout
-  pub put-cleared : (a e : ℕ) (z : A) (xs ys : List A) → a ≤ e → e ≤ length xs → ys ≡ replicate (length (take (e - a) (drop a xs))) z
-      → putMid a (e - a) xs ys ≡ cleared a e z xs
-  put-cleared a e z xs ys h l q =
-      let n : length (take (e - a) (drop a xs)) ≡ e - a = length-take-le (e - a) (drop a xs) (omega (arith, length-drop a xs)) in
-      let m : a + (e - a) ≡ e = omega arith in
-      ap₂ (λ (us vs : List A). take a xs ++ (us ++ vs)) (q ∙ ap (λ (k : ℕ). replicate k z) n) (drop-drop (e - a) a xs ∙ ap (λ (k : ℕ). drop k xs) m)
-
-  -- the same from the front on
-  pub put-cleared-front : (e : ℕ) (z : A) (xs ys : List A) → e ≤ length xs → ys ≡ replicate (length (take (e - 0) (drop 0 xs))) z
-      → putMid 0 (e - 0) xs ys ≡ replicate e z ++ drop e xs
-  put-cleared-front e z xs ys l q =
-      let k : e - 0 ≡ e = omega arith in
-      put-cleared 0 e z xs ys (omega arith) l q ∙ ap (λ (j : ℕ). replicate j z ++ drop e xs) k
 
 -- ---- cells and counts, carried from their zone to the scratch
 
@@ -113,6 +97,16 @@ pub record ThreeZones (c p n : ℕ) (z z₁ z₂ z₃ : List ℕ) : Type 0 where
   pub before : TwoZones c p n z z₁ z₂
   pub third : length z₃ ≡ length (part (from c p) (to c p n - from c p) (two c p z z₁ z₂))
 
+-- the zones that are lent for the cells and for the locks
+module _ (c p n : ℕ) (z : List ℕ) (fits : countsAt c p + 4 * n ≤ length z) where
+  pub cells-room : length (part 0 (locksAt c p - 0) z) ≡ p + 2 * c
+  cells-room = part-length 0 (locksAt c p - 0) z (omega arith) ∙ omega arith
+
+  pub locks-room : (z₁ : List ℕ) → length z₁ ≡ length (part 0 (locksAt c p - 0) z) → length (part (locksAt c p) (roomAt c p - locksAt c p) (one c p z z₁)) ≡ c
+  locks-room z₁ first =
+      let e = same-len-mid 0 (locksAt c p - 0) z z₁ first in
+      part-length (locksAt c p) (roomAt c p - locksAt c p) (one c p z z₁) (omega (arith, e)) ∙ omega arith
+
 module _ {c p n : ℕ} {z z₁ z₂ : List ℕ} (l : TwoZones c p n z z₁ z₂) where
   one-long : length (one c p z z₁) ≡ length z
   one-long = same-len-mid 0 (locksAt c p - 0) z z₁ (l .first)
@@ -154,6 +148,9 @@ module _ {c p n : ℕ} {z z₁ z₂ z₃ : List ℕ} (l : ThreeZones c p n z z�
 
   pub zones-long : length all ≡ length z
   zones-long = same-len-mid (from c p) (to c p n - from c p) was z₃ (l .third) ∙ two-long (l .before)
+
+  pub zones-fit : countsAt c p + 4 * n ≤ length all
+  zones-fit = omega (arith, l .before .fits, zones-long)
 
   pub zones-beyond : drop (countsAt c p + 4 * n) all ≡ drop (countsAt c p + 4 * n) z
   zones-beyond =

@@ -6,7 +6,6 @@ pub mod Bounds
 pub mod FirstMove
 pub mod NextBoard
 pub mod LastMove
-pub mod PassAfterPass
 pub mod Recount
 pub mod ScanKinds
 pub mod ScansMade
@@ -14,8 +13,6 @@ pub mod Treating
 pub mod MoveNow
 pub mod WholePass
 pub mod PassOnce
-pub mod RunNow
-pub mod RunOn
 pub mod LentWord
 pub mod Shifts
 pub mod ScanLaws

@@ -25,7 +25,8 @@ use Rattle.split.specs.Moving.{Board, cellsOf, cutBy, shiftedTo, counted
 use Rattle.split.specs.Movable.{Small, Movable, Turns}
 use Rattle.split.specs.Going.{begins, made, stands, Going}
 use Rattle.split.specs.Treats.{Shifted, MoveTreated}
-use Rattle.split.proofs.Bounds.{Roomy, roomy, BoardLong, board-long, cut-few, Safe, safe}
+use Rattle.rules.proofs.Fits.{Roomy, roomy}
+use Rattle.split.proofs.Bounds.{BoardLong, board-long, cut-few, Safe, safe}
 use Rattle.split.proofs.NextBoard.{goes-on}
 use Rattle.split.proofs.ChoiceNow.{holds-now}
 use Rattle.split.proofs.NextMove.{Next, stands-binary}
@@ -225,10 +226,13 @@ module _ (most : Limits) (job : Job) (s : Sound most job) (small : Small job) {l
         ready = ready;
         room = record { near = λ i. omega (arith, care .near i) };
         fits = fitting;
-        size = omega (arith, care .size, small .weight);
-        held = λ e. holds-now g f (x .below) e;
-        gain = care .falls;
-        cut = omega (arith, care .few, care .near f, small .scans);
+        shift = record {
+          file = (x .below, omega (arith, x .below, m .sides), omega (arith, x .below, m .gains));
+          size = omega (arith, care .size, small .weight);
+          held = λ e. holds-now g f (x .below) e;
+          gain = care .falls;
+          cut = omega (arith, care .few, care .near f, small .scans);
+        };
       }
 
   -- so the pass goes on

@@ -24,7 +24,8 @@ use Rattle.split.specs.Treats.{Shifted, MoveTreated}
 use Rattle.split.proofs.NextMove.{Next}
 use Rattle.split.proofs.ChoiceNow.{gainsNow, size-moved-by}
 use Rattle.split.proofs.BestSoFar.{costs, cost-now, made-length, keeps-made, least-made, counted-best, counted-least}
-use Rattle.split.proofs.Bounds.{Roomy, roomy, gain-now, cut-next}
+use Rattle.rules.proofs.Fits.{Roomy, roomy}
+use Rattle.split.proofs.Bounds.{gain-now, cut-next}
 use Rattle.split.proofs.LentLists.{onto-set}
 
 -- one entry more in a list that holds one for each move made

@@ -15,11 +15,10 @@ use Rattle.rules.specs.Split.{sideOf}
 use Rattle.rules.proofs.Signed.{up, down, diff-eq, diff-pos}
 use Rattle.split.specs.declared.progress.Progress.{Progress}
 use Rattle.split.specs.declared.scan.Way.{Way}
-use Rattle.split.specs.Zones.{startAt, endAt, locksAt, part, stateOf}
+use Rattle.split.specs.Zones.{locksAt, part, stateOf}
 use Rattle.split.specs.Scanning.{Room, Fits, Treated, treated, treatAll, Ready}
-use Rattle.split.specs.Choosing.{sizeBy}
 use Rattle.split.specs.Ending.{turned}
-use Rattle.split.specs.Moving.{shiftedTo, countedOn, cutBy, wayTo, cellsOf, Board, board, treatFrom, treatMove, moveOne}
+use Rattle.split.specs.Moving.{shiftedTo, shiftOf, countedOn, cutBy, wayTo, cellsOf, Locked, Board, board, treatFrom, treatMove, moveOne}
 use Rattle.split.specs.Movable.{Movable}
 use Rattle.split.proofs.Parts.{part-set-above}
 
@@ -46,17 +45,14 @@ module _ (cut : ℕ) (g : ℤ) (h : up g ≤ cut) (k : cut + down g < 2 ^ 32) (f
 -- ---- the recipes of the moved file
 
 -- what the code hands on is what the definition says
-pub record HandedOn (sizes bounds pins : List ℕ) (f : ℕ) (sides : List ℕ) (y : Treated) (sides' : List ℕ) (a e : ℕ) (way : Way) (q : Progress) : Type 0 where
+pub record HandedOn (sizes bounds pins : List ℕ) (f : ℕ) (sides : List ℕ) (y : Treated) (sides' z : List ℕ) (a e : ℕ) (way : Way) (q : Progress) : Type 0 where
   pub turn : sides' ≡ turned sides f
-  pub first : a ≡ getD (y .scratch) (startAt (length pins) f) 0
-  pub last : e ≡ getD (y .scratch) (endAt (length sizes) (length pins) f) 0
-  pub to : way ≡ wayTo (length sizes) (length bounds - 1) (length pins) (sideOf (turned sides f) f)
-  pub shift : q
-      ≡ shiftedTo (y .scanned .progress) (sizeBy (y .scanned .progress .size) (sideOf sides f) (getD sizes f 0))
-      (cutBy (y .scanned .progress .cut) (getD (y .scanned .gains) f (pos 0)))
+  pub cells : Locked (length sizes) (length pins) f (y .scratch) z a e
+  pub to : way ≡ wayTo (length sizes) (length bounds - 1) (length pins) (1 - sideOf sides f)
+  pub shift : q ≡ shiftOf sizes sides (y .scanned .gains) f (y .scanned .progress)
 
-module _ {sizes bounds pins : List ℕ} {f : ℕ} {sides : List ℕ} {y : Treated} {sides' : List ℕ} {a e : ℕ} {way : Way} {q : Progress}
-    (m : Movable sizes bounds pins f sides y) (h : HandedOn sizes bounds pins f sides y sides' a e way q) where
+module _ {sizes bounds pins : List ℕ} {f : ℕ} {sides : List ℕ} {y : Treated} {sides' z : List ℕ} {a e : ℕ} {way : Way} {q : Progress}
+    (m : Movable sizes bounds pins f sides y) (h : HandedOn sizes bounds pins f sides y sides' z a e way q) where
   -- the scratch with the file's lock set
   abbrev locked : List ℕ
   locked = set (y .scratch) (locksAt (length sizes) (length pins) + f) 1
@@ -64,37 +60,47 @@ module _ {sizes bounds pins : List ℕ} {f : ℕ} {sides : List ℕ} {y : Treate
   abbrev look : ℕ → List ℕ
   look = viewOf bounds pins
 
+  -- the side moved to
+  side : sideOf (turned sides f) f ≡ 1 - sideOf sides f
+  side = getD-set-same sides f (1 - sideOf sides f) 0 (omega (arith, m .file, m .sidesLong))
+
+  to : way ≡ wayTo (length sizes) (length bounds - 1) (length pins) (sideOf (turned sides f) f)
+  to = h .to ∙ ap (wayTo (length sizes) (length bounds - 1) (length pins)) (sym side)
+
   -- the lock lies above the cells
   cells : part a (e - a) locked ≡ cellsOf (length sizes) (length pins) (y .scratch) f
   cells =
-      part-set-above a (e - a) (y .scratch) (locksAt (length sizes) (length pins) + f) 1 (omega (arith, m .order, m .inside, h .first, h .last))
-      ∙ ap₂ (λ (i j : ℕ). part i (j - i) (y .scratch)) (h .first) (h .last)
+      part-set-above a (e - a) (y .scratch) (locksAt (length sizes) (length pins) + f) 1 (omega (arith, m .order, m .inside, h .cells .first, h .cells .last))
+      ∙ ap₂ (λ (i j : ℕ). part i (j - i) (y .scratch)) (h .cells .first) (h .cells .last)
 
-  -- what the code treats
-  abbrev treats : Treated
-  treats = treatAll (stateOf sides' (part (way .locks) (way .files) locked)) way look (part a (e - a) locked) (treated locked (y .scanned .gains) (y .scanned .recipes) (y .scanned .kinds) q)
+  -- what the code treats, of the scratch as it is then
+  abbrev treats : List ℕ → Treated
+  treats z = treatAll (stateOf sides' (part (way .locks) (way .files) z)) way look (part a (e - a) z) (treated z (y .scanned .gains) (y .scanned .recipes) (y .scanned .kinds) q)
 
-  pub treats-from : treats ≡ treatFrom sizes bounds pins f sides y
+  pub treats-from : treats z ≡ treatFrom sizes bounds pins f sides y
   unfolding treatFrom wayTo
-  treats-from = rw (cells, h .to, h .turn, h .shift)
+  treats-from = ap treats (h .cells .held) ∙ rw (cells, to, h .turn, h .shift)
 
-  zones : (way .locks ≡ locksAt (length sizes) (length pins)) × (way .files ≡ length sizes) × (way .side ≡ sideOf (turned sides f) f)
+  zones : (way .locks ≡ locksAt (length sizes) (length pins)) × (way .files ≡ length sizes) × (way .side ≡ 1 - sideOf sides f)
   unfolding wayTo
   zones = (ap (λ (w : Way). w .locks) (h .to), ap (λ (w : Way). w .files) (h .to), ap (λ (w : Way). w .side) (h .to))
 
   -- all that the call asks
   pub treats-safe : ((way .side ≤ 1) × (a ≤ e) × (e ≤ way .locks))
-      × (((length (y .scanned .gains) ≡ way .files) × (length sides' ≡ way .files) × (way .locks + way .files ≤ length locked))
-      × (Ready way look (part a (e - a) locked) locked × (Room (y .scanned .gains) (q .visits) × Fits (treats .scanned))))
+      × (((length (y .scanned .gains) ≡ way .files) × (length sides' ≡ way .files) × (way .locks + way .files ≤ length z))
+      × (Ready way look (part a (e - a) z) z × (Room (y .scanned .gains) (q .visits) × Fits (treats z .scanned))))
   treats-safe =
-      let side : sideOf (turned sides f) f ≡ 1 - sideOf sides f = getD-set-same sides f (1 - sideOf sides f) 0 (omega (arith, m .file, m .sidesLong)) in
       let long : length (turned sides f) ≡ length sizes = length-set sides f (1 - sideOf sides f) ∙ m .sidesLong in
       let visits : q .visits ≡ y .scanned .progress .visits = ap (λ (p : Progress). p .visits) (h .shift) ∙ (unfold shiftedTo in refl) in
-      let room : locksAt (length sizes) (length pins) + length sizes ≤ length locked = omega (arith, m .scratchLong, length-set (y .scratch) (locksAt (length sizes) (length pins) + f) 1) in (
-        (omega (arith, zones, side), omega (arith, h .first, h .last, m .order), omega (arith, h .last, zones, m .inside)),
+      let same : length z ≡ length (y .scratch) = ap length (h .cells .held) ∙ length-set (y .scratch) (locksAt (length sizes) (length pins) + f) 1 in
+      let ready : Ready way look (part a (e - a) locked) locked = rw (cells, to) (m .ready) in (
+        (omega (arith, zones), omega (arith, h .cells .first, h .cells .last, m .order), omega (arith, h .cells .last, zones, m .inside)),
         (
-          (m .gainsLong ∙ sym (zones .1), ap length (h .turn) ∙ long ∙ sym (zones .1), omega (arith, zones, room)),
-          (rw (cells, h .to) (m .ready), (rw visits (m .room), subst (λ (x : Treated). Fits (x .scanned)) (sym treats-from) (m .fits))),
+          (m .gainsLong ∙ sym (zones .1), ap length (h .turn) ∙ long ∙ sym (zones .1), omega (arith, zones, m .scratchLong, same)),
+          (
+            subst (λ (u : List ℕ). Ready way look (part a (e - a) u) u) (sym (h .cells .held)) ready,
+            (rw visits (m .room), subst (λ (x : Treated). Fits (x .scanned)) (sym treats-from) (m .fits)),
+          ),
         ),
       )
 

@@ -1,6 +1,6 @@
 -- The starting gains from cells and counts: a file's recipes walked by their numbers. Assumes nothing.
 use mathlib.Core.Path.{_≡_, refl, sym, ap, ap₂, _∙_}
-use Prim.Native.Nat.{ℕ, zero, suc, _+_, _-_, _≤_, _<_}
+use Prim.Native.Nat.{ℕ, zero, suc, _+_, _-_, _*_, _≤_, _<_}
 use mathlib.Core.Bool.{Bool, true, false, cond, _&&_}
 use mathlib.Core.List.{List, [], _∷_}
 use native.Mathlib.Omega.{arith}
@@ -140,3 +140,14 @@ side-within at n u = go (eqb u 0)
     go : (b : Bool) → cond b at (at + n) ≤ at + n
     go true = omega arith
     go false = omega arith
+
+-- what the gain of a file asks: its cells, and the counts of both sides, stand in the scratch
+pub gain-asks : {rs : List (List ℕ)} {c p : ℕ} {z : List ℕ} (n f side : ℕ) {s e own other : ℕ} → Cells rs c p z → f < c → p < 65535 → countsAt c p + 4 * n ≤ length z
+    → s ≡ getD z (startAt p f) 0 → e ≡ getD z (endAt c p f) 0 → own ≡ sideAt (countsAt c p) n side → other ≡ sideAt (countsAt c p) n (1 - side)
+    → ((s ≤ e) × (e ≤ length z) × (e - s < 65536)) × ((own + n ≤ length z) × (other + n ≤ length z))
+gain-asks {c = c} {p = p} n f side d h few fits x y u v =
+    let a = d .order f h in
+    let b = d .inside f h in
+    let i = side-within (countsAt c p) n side in
+    let j = side-within (countsAt c p) n (1 - side) in
+    ((omega arith, omega arith, omega arith), (omega arith, omega arith))

@@ -160,10 +160,12 @@ module _ (rs : List (List ℕ)) (st : State) (f : ℕ) (m : Moves st (moved st f
         let q = places (laid c n p (other s) (omega arith)) j h in
         let l = locks-below c n p (other s) in
         record {
-          some = omega (arith, a .left, left-count m r o);
-          there = omega (arith, a .there, countOn-le (st .sides) (other s) r, short j h);
-          locked = omega (arith, a .locked, locked-le st (other s) r, countOn-le (st .sides) (other s) r, short j h);
-          inside = omega arith;
+          counts = record {
+            some = omega (arith, a .left, left-count m r o);
+            there = omega (arith, a .there, countOn-le (st .sides) (other s) r, short j h);
+            locked = omega (arith, a .locked, locked-le st (other s) r, countOn-le (st .sides) (other s) r, short j h);
+            inside = omega arith;
+          };
           above = omega arith;
           below = unfold wayTo in below j h;
         }

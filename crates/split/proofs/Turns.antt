@@ -36,10 +36,7 @@ ready-then (next t r) = r
 -- the files of the recipe, as the code has them
 pub treatable-own : {way : Way} {look : ℕ → List ℕ} {z : List ℕ} {j : ℕ} (r : List ℕ) → r ≡ look j → Treatable way look z j → Treatable way (λ (_ : ℕ). r) z j
 treatable-own {way} r e t = record {
-  some = t .some;
-  there = t .there;
-  locked = t .locked;
-  inside = t .inside;
+  counts = t .counts;
   above = t .above;
   below = subst (allBelow (way .files)) (sym e) (t .below);
 }

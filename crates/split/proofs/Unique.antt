@@ -8,13 +8,10 @@ use denote.Ref.{now}
 use denote.Triple.Clauses.{AtExit}
 use borrow.Fn.Kinds.{PK, RK, Out, Dens, resT, endedOf}
 use Rattle.rules.specs.declared.Figures.{Figures}
-use Rattle.rules.specs.declared.RunFigures.{RunFigures}
 use Rattle.rules.specs.Job.{lentOf}
 use Rattle.rules.specs.Run.{Ended}
 use Rattle.split.proofs.pass_once.Kinds as pass-kinds
 use Rattle.split.proofs.pass_once.Reads as pass
-use Rattle.split.proofs.run.Kinds as run-kinds
-use Rattle.split.proofs.run.Reads as run
 
 -- two results that meet the promise, with what the lent lists hold at their exits, read the same
 abbrev Settles : (n : ℕ) (ps : List (PK n)) (r : RK n) (A : Type 0) → ((κs : Lfts n) → resT r κs .Denot → AtExit (endedOf n ps r) κs → A) → Out n ps r → Type 0
@@ -37,16 +34,3 @@ pass-leaves κs x e = record {
 
 pub pass-settled : Settles 13 pass-kinds.ps pass-kinds.r (Ended Figures) pass-leaves pass.Post
 pass-settled κs a x y e f p q = both p q
-
--- the answer, the sides and the other lent lists
-abbrev run-leaves : (κs : Lfts 13) → resT run-kinds.r κs .Denot → AtExit (endedOf 13 run-kinds.ps run-kinds.r) κs → Ended RunFigures
-run-leaves κs x e = record {
-  answer = x;
-  sides = now (e .1 .1 .0);
-  lent =
-      lentOf (now (e .1 .1 .1 .1 .1 .1 .0)) (now (e .1 .1 .1 .1 .1 .1 .1 .0)) (now (e .1 .1 .1 .1 .1 .1 .1 .1 .0)) (now (e .1 .1 .1 .1 .1 .1 .1 .1 .1 .0)) (now (e .1 .1 .1 .1 .1 .1 .1 .1 .1 .1 .0))
-      (now (e .1 .1 .1 .1 .1 .1 .1 .1 .1 .1 .1 .0)) (now (e .1 .1 .1 .1 .1 .1 .1 .1 .1 .1 .1 .1 .0)) (now (e .1 .1 .1 .1 .1 .1 .1 .1 .1 .1 .1 .1 .1 .0));
-}
-
-pub run-settled : Settles 13 run-kinds.ps run-kinds.r (Ended RunFigures) run-leaves run.Post
-run-settled κs a x y e f p q = both p q

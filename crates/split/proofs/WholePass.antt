@@ -1,10 +1,10 @@
 -- One pass from its lists to its lists: before the first move, and after the last. Assumes nothing.
 use mathlib.Core.Path.{_≡_, refl, sym, ap, _∙_}
 use Prim.Native.Nat.{ℕ, _+_, _-_, _*_}
-use mathlib.Core.List.{List, _++_}
+use mathlib.Core.List.{List}
 use native.Mathlib.Omega.{arith}
 use native.Mathlib.Nat.{add-zero}
-use lib.ListN.{length, drop, replicate}
+use lib.ListN.{length, drop}
 use lib.Seq.{drop-drop}
 use lib.IntN.{ℤ, pos}
 use Rattle.rules.specs.Lists.{total}
@@ -12,7 +12,7 @@ use Rattle.rules.specs.Job.{Job, Limits, fileCount, recipeCount, pinCount, view
 use Rattle.rules.specs.Split.{cut, sizeA}
 use Rattle.rules.specs.Check.{done}
 use Rattle.rules.specs.Pass.{tries, Pass, pass}
-use Rattle.rules.specs.Run.{lastOf, figuresOf}
+use Rattle.rules.specs.Run.{endedOf, lastOf, figuresOf}
 use Rattle.rules.specs.Theorems.{Sound}
 use Rattle.rules.proofs.Runs.{pass-from, pass-size}
 use Rattle.rules.proofs.SoundJob.{recipes-distinct}
@@ -21,9 +21,9 @@ use Rattle.split.specs.Building.{Laid}
 use Rattle.split.specs.Ending.{backTo}
 use Rattle.split.specs.Moving.{Board, begun, board}
 use Rattle.split.specs.Movable.{Small}
-use Rattle.split.specs.Going.{Going}
 use Rattle.split.specs.Treats.{Begun, cleared}
-use Rattle.split.specs.Playing.{Prepared, endedOf, passLeft, figuresFrom}
+use Rattle.split.specs.Playing.{Prepared, passLeft, figuresFrom}
+use Rattle.split.proofs.Filled.{cleared-front}
 use Rattle.split.proofs.LastMove.{Finished}
 
 -- what a sound job has for the builders
@@ -68,29 +68,6 @@ begins-here most job s l z g d =
       progress = refl;
     }
 
--- where the scratch lent is another of the same length and the same beyond, a pass goes on as it did
-pub lent-otherwise : {job : Job} {l l' : Lent} {k : ℕ} {b : Board} → Going job l' k b
-    → length (l' .scratch) ≡ length (l .scratch) → drop (scratchFor job) (l' .scratch) ≡ drop (scratchFor job) (l .scratch)
-    → l' .tried ≡ l .tried → l' .gained ≡ l .gained → l' .cuts ≡ l .cuts → l' .ends ≡ l .ends → l' .recipes ≡ l .recipes → l' .kinds ≡ l .kinds
-    → Going job l k b
-lent-otherwise g e d t u c n r k = record {
-  few = g .few;
-  sides = g .sides;
-  locks = g .locks;
-  cells = g .cells;
-  counts = g .counts;
-  long = g .long ∙ e;
-  beyond = g .beyond ∙ d;
-  gains = g .gains;
-  tried = rw (← t) (g .tried);
-  gained = rw (← u) (g .gained);
-  cuts = rw (← c) (g .cuts);
-  scansSoFar = rw (← n) (g .scansSoFar);
-  scannedRecipes = rw (← r) (g .scannedRecipes);
-  scannedKinds = rw (← k) (g .scannedKinds);
-  progress = g .progress;
-}
-
 -- the lists and the record of a pass that has ended, once moves are taken back and zeros are filled in
 pub pass-left : {job : Job} {l : Lent} {b : Board} → Finished job l b → (before size : ℕ) (sides tried : List ℕ) (gained : List ℤ) (cuts ends rs kinds scratch : List ℕ)
     → before ≡ cut (job .sides) (recipes job)
@@ -102,7 +79,7 @@ pub pass-left : {job : Job} {l : Lent} {b : Board} → Finished job l b → (bef
     → ends ≡ cleared (b .rest .scanned .progress .moves) (fileCount job) 0 (b .ends)
     → rs ≡ cleared (b .rest .scanned .progress .scans) (4 * recipeCount job) 0 (b .rest .scanned .recipes)
     → kinds ≡ cleared (b .rest .scanned .progress .scans) (4 * recipeCount job) 0 (b .rest .scanned .kinds)
-    → scratch ≡ replicate (scratchFor job) 0 ++ drop (scratchFor job) (b .rest .scratch)
+    → scratch ≡ cleared 0 (scratchFor job) 0 (b .rest .scratch)
     → endedOf (figuresFrom before size (b .rest .scanned .progress)) sides (lentOf (b .rest .scanned .gains) tried gained cuts ends rs kinds scratch) ≡ passLeft job l
 unfolding figuresOf lastOf total
 pass-left {job} {l} {b} d before size sides tried gained cuts ends rs kinds scratch be si sz ti ga cu en re ki sc =
@@ -128,6 +105,6 @@ pass-left {job} {l} {b} d before size sides tried gained cuts ends rs kinds scra
         ends = (en ∙ d .scansSoFar) i;
         recipes = (re ∙ d .scannedRecipes) i;
         kinds = (ki ∙ d .scannedKinds) i;
-        scratch = (sc ∙ d .scratch) i;
+        scratch = (sc ∙ cleared-front 0 (scratchFor job) (b .rest .scratch) ∙ d .scratch) i;
       };
     }

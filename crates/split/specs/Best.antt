@@ -2,12 +2,15 @@
 use Prim.Native.Nat.{ℕ, _*_}
 use mathlib.Core.Bool.{Bool, not, cond, _&&_, _||_}
 use mathlib.Core.Option.{Option, none, some}
+use mathlib.Core.List.{List}
+use lib.ListN.{length, getD}
 use lib.Dec.{leb, ltb, eqb}
 use lib.IntN.{ℤ, pos}
 use lib.Signed.{ltZ}
 use Rattle.rules.specs.Move.{distance}
 use Rattle.split.specs.declared.choice.Window.{Window}
 use Rattle.split.specs.declared.choice.Best.{Best}
+use Rattle.split.specs.Choosing.{distIn, chosenIn}
 
 -- there is none yet, or a file of this gain and distance goes before it, which is of lower number; n is the number of files
 abbrev pub goesFirst : ℤ → ℕ → Best → ℕ → Bool
@@ -26,3 +29,8 @@ challenged w b f gain lock after n =
 abbrev pub bestOf : (ℕ → ℤ) → (ℕ → ℕ) → ℕ → Option ℕ → Best
 bestOf gains dists n none = bestIs n (pos 0) 0
 bestOf gains dists n (some f) = bestIs f (gains f) (dists f)
+
+-- what is kept once every file has been looked at
+abbrev pub bestIn : Window → ℕ → List ℕ → List ℕ → List ℕ → List ℤ → Best
+bestIn w size sizes sides locks gains =
+    bestOf (λ f. getD gains f (pos 0)) (distIn w size sizes sides) (length sizes) (chosenIn w size sizes sides locks gains (length sizes))

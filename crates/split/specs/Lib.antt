@@ -11,5 +11,4 @@ pub mod Playing
 pub mod Best
 pub mod Counting
 pub mod Filling
-pub mod Running
 pub mod LentFits

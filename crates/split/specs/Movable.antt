@@ -3,11 +3,12 @@ use mathlib.Core.Path.{_≡_}
 use Prim.Native.Nat.{ℕ, _+_, _-_, _*_, _≤_, _<_, _^_}
 use mathlib.Core.List.{List}
 use lib.ListN.{length, getD, set}
-use lib.IntN.{pos}
+use lib.IntN.{ℤ, pos}
 use Rattle.rules.specs.Job.{Job, fileCount, recipeCount, pinCount, viewOf}
 use Rattle.rules.specs.Split.{sideOf, weight}
 use Rattle.rules.specs.Theorems.{Binary}
 use Rattle.rules.proofs.Signed.{up, down}
+use Rattle.split.specs.declared.progress.Progress.{Progress}
 use Rattle.split.specs.Zones.{startAt, endAt, locksAt, countsAt}
 use Rattle.split.specs.Scanning.{Treated, Room, Fits, Ready}
 use Rattle.split.specs.Ending.{turned}
@@ -20,6 +21,14 @@ pub record Small (job : Job) : Type 0 where
   pub pins : pinCount job < 65535
   pub scans : 4 * recipeCount job < 65536
   pub weight : weight job < 2 ^ 40
+
+-- |A| and the cut after the move of f are small enough
+pub record Shiftable (sizes sides : List ℕ) (gains : List ℤ) (f : ℕ) (p : Progress) : Type 0 where
+  pub file : (f < length sizes) × (f < length sides) × (f < length gains)
+  pub size : p .size < 2 ^ 40
+  pub held : sideOf sides f ≡ 0 → getD sizes f 0 ≤ p .size
+  pub gain : up (getD gains f (pos 0)) ≤ p .cut
+  pub cut : p .cut + down (getD gains f (pos 0)) < 2 ^ 32
 
 pub record Movable (sizes bounds pins : List ℕ) (f : ℕ) (sides : List ℕ) (y : Treated) : Type 0 where
   -- the lists are as long as the job says, and the job is small
@@ -38,10 +47,7 @@ pub record Movable (sizes bounds pins : List ℕ) (f : ℕ) (sides : List ℕ) (
   pub room : Room (y .scanned .gains) (y .scanned .progress .visits)
   pub fits : Fits (treatFrom sizes bounds pins f sides y .scanned)
   -- |A| and the cut after it
-  pub size : y .scanned .progress .size < 2 ^ 40
-  pub held : sideOf sides f ≡ 0 → getD sizes f 0 ≤ y .scanned .progress .size
-  pub gain : up (getD (y .scanned .gains) f (pos 0)) ≤ y .scanned .progress .cut
-  pub cut : y .scanned .progress .cut + down (getD (y .scanned .gains) f (pos 0)) < 2 ^ 32
+  pub shift : Shiftable sizes sides (y .scanned .gains) f (y .scanned .progress)
 
 -- room for its entries, which are two-byte numbers
 pub record Turns (sizes bounds pins : List ℕ) (f : ℕ) (b : Board) : Type 0 where

@@ -1,4 +1,5 @@
 -- What the code of a move does, on lists. Assumes nothing.
+use mathlib.Core.Path.{_≡_}
 use Prim.Native.Nat.{ℕ, _+_, _-_, _*_}
 use mathlib.Core.Bool.{cond}
 use mathlib.Core.List.{List}
@@ -88,6 +89,16 @@ board sides tried gained cuts ends scratch gains recipes kinds p = record {
 abbrev pub cellsOf : ℕ → ℕ → List ℕ → ℕ → List ℕ
 cellsOf c p z f = part (getD z (startAt p f) 0) (getD z (endAt c p f) 0 - getD z (startAt p f) 0) z
 
+-- the file is locked, and its cells are told
+pub record Locked (c p f : ℕ) (z z' : List ℕ) (from to : ℕ) : Type 0 where
+  pub first : from ≡ getD z (startAt p f) 0
+  pub last : to ≡ getD z (endAt c p f) 0
+  pub held : z' ≡ set z (locksAt c p + f) 1
+
+-- |A| and the cut after the move of f
+abbrev pub shiftOf : List ℕ → List ℕ → List ℤ → ℕ → Progress → Progress
+shiftOf sizes sides gains f p = shiftedTo p (sizeBy (p .size) (sideOf sides f) (getD sizes f 0)) (cutBy (p .cut) (getD gains f (pos 0)))
+
 -- the file is turned over and locked, and its recipes are treated
 unfoldable pub treatFrom : List ℕ → List ℕ → List ℕ → ℕ → List ℕ → Treated → Treated
 treatFrom sizes bounds pins f sides y =
@@ -98,8 +109,7 @@ treatFrom sizes bounds pins f sides y =
     let q = y .scanned .progress in
     let locked = set z (locksAt c p + f) 1 in
     treatAll (stateIn c p (turned sides f) locked) (wayTo c n p (sideOf (turned sides f) f)) (viewOf bounds pins) (cellsOf c p z f)
-    (treated locked (y .scanned .gains) (y .scanned .recipes) (y .scanned .kinds)
-    (shiftedTo q (sizeBy (q .size) (sideOf sides f) (getD sizes f 0)) (cutBy (q .cut) (getD (y .scanned .gains) f (pos 0)))))
+    (treated locked (y .scanned .gains) (y .scanned .recipes) (y .scanned .kinds) (shiftOf sizes sides (y .scanned .gains) f q))
 
 abbrev pub treatMove : List ℕ → List ℕ → List ℕ → ℕ → Board → Treated
 treatMove sizes bounds pins f b = treatFrom sizes bounds pins f (b .sides) (b .rest)

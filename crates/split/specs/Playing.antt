@@ -1,13 +1,14 @@
 -- The moves of a pass from its first to its last, one pass whole, and what they ask. Assumes nothing.
 use mathlib.Core.Path.{_≡_}
-use Prim.Native.Nat.{ℕ, _+_, _*_, _<_}
+use Prim.Native.Nat.{ℕ, _+_, _-_, _*_, _<_}
 use mathlib.Core.Bool.{true}
 use mathlib.Core.List.{List, [], _∷_}
-use lib.ListN.{length, drop}
+use lib.ListN.{length, getD, drop}
 use lib.IntN.{ℤ}
 use Rattle.rules.specs.declared.Figures.{Figures}
-use Rattle.rules.specs.Job.{Job, Limits, recipes, Lent, fits}
-use Rattle.rules.specs.Split.{weight, smax, cut, sizeA}
+use Rattle.rules.specs.Lists.{bit, total, upTo}
+use Rattle.rules.specs.Job.{Job, Limits, asJob, recipes, Lent, fits}
+use Rattle.rules.specs.Split.{onSide, weight, smax, cut, sizeA}
 use Rattle.rules.specs.Check.{done}
 use Rattle.rules.specs.Pass.{startGains, tries, pass}
 use Rattle.rules.specs.Run.{Ended, figuresOf, leftBy}
@@ -16,6 +17,7 @@ use Rattle.split.specs.declared.choice.Window.{Window}
 use Rattle.split.specs.declared.progress.Progress.{Progress}
 use Rattle.split.specs.Zones.{locksAt, countsAt, part, stateOf, Cells, Counts}
 use Rattle.split.specs.Building.{viewsOf}
+use Rattle.split.specs.Ending.{backTo}
 use Rattle.split.specs.Moving.{Board}
 use Rattle.split.specs.Movable.{Small}
 use Rattle.split.specs.Going.{Going}
@@ -35,13 +37,22 @@ pub record Playable (job : Job) (l : Lent) (w : Window) : Type 0 where
   pub fitting : fits job l ≡ true
   pub measured : Measured job w
 
--- before the first move, and after the last
-pub record Underway (job : Job) (l : Lent) (w : Window) (b : Board) : Type 0 where
-  pub playable : Playable job l w
-  pub going : Going job l 0 b
+-- what a pass started from, besides the lists that stay
+pub record Origin : Type 0 where
+  pub sides : List ℕ
+  pub marks : List ℕ
+  pub num : ℕ
+  pub den : ℕ
+  pub cap : ℕ
+  pub lent : Lent
 
-pub record Played (job : Job) (l : Lent) (b : Board) : Type 0 where
-  pub going : Going job l (length (tries job (job .sides))) b
+abbrev pub jobFrom : List ℕ → List ℕ → List ℕ → Origin → Job
+jobFrom sizes bounds pins o = asJob sizes (o .sides) (o .marks) bounds pins (o .num) (o .den) (o .cap)
+
+-- between two moves
+pub record Underway (sizes bounds pins : List ℕ) (w : Window) (o : Origin) (b : Board) : Type 0 where
+  pub playable : Playable (jobFrom sizes bounds pins o) (o .lent) w
+  pub going : Going (jobFrom sizes bounds pins o) (o .lent) (b .rest .scanned .progress .moves) b
 
 -- what is built before the first move, in the scratch z that was z₀
 pub record Prepared (bounds pins sides marks z₀ z : List ℕ) (gains : List ℤ) (n : ℕ) : Type 0 where
@@ -51,10 +62,6 @@ pub record Prepared (bounds pins sides marks z₀ z : List ℕ) (gains : List �
   pub long : length z ≡ length z₀
   pub beyond : drop (countsAt (length sides) (length pins) + 4 * n) z ≡ drop (countsAt (length sides) (length pins) + 4 * n) z₀
   pub starting : gains ≡ startGains (viewsOf bounds pins) (length sides) (stateOf sides marks)
-
--- the answer and the lists of a call, for contracts
-abbrev pub endedOf : {A : Type 0} → A → List ℕ → Lent → Ended A
-endedOf a sides l = record { answer = a; sides = sides; lent = l }
 
 -- |A| and the cut that a pass starts from, for contracts
 abbrev pub sizeAtStart : Job → ℕ
@@ -79,3 +86,10 @@ figuresFrom before size q = record {
   scans = q .scans;
   visits = q .visits;
 }
+
+-- the moves beyond the best prefix are taken back, and the figures told
+pub record KeptBest (sizes tried : List ℕ) (before : ℕ) (p : Progress) (sides sides' : List ℕ) (r : Figures) : Type 0 where
+  pub back : sides' ≡ backTo tried (p .best) (p .moves - p .best) sides
+  pub size : ℕ
+  pub added : size ≡ total (λ f. bit (onSide sides' 0 f) * getD sizes f 0) (upTo (length sizes))
+  pub told : r ≡ figuresFrom before size p

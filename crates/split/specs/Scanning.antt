@@ -10,6 +10,7 @@ use Rattle.rules.specs.Move.{State, reaches, change, scanPins}
 use Rattle.rules.proofs.Signed.{abs}
 use Rattle.split.specs.declared.progress.Progress.{Progress}
 use Rattle.split.specs.declared.scan.Way.{Way}
+use Rattle.split.specs.declared.scan.Kinds.{Kinds}
 
 -- ---- one pin, one scan
 
@@ -95,6 +96,10 @@ unfoldable pub recount : Way → ℕ → List ℕ → List ℕ
 recount way j z =
     set (set (set z (way .left + j) (countF way j z)) (way .there + j) (countT way j z + 1)) (way .locked + j) (lockedT way j z + 1)
 
+-- the kinds of its scans
+abbrev pub kindsBy : Way → ℕ → List ℕ → Kinds
+kindsBy way j z = record { first = kindThere (countT way j z) (lockedT way j z); second = kindLeft (countF way j z) (lockedF way j z) }
+
 -- r the files of recipe j
 unfoldable pub treatOne : State → Way → ℕ → List ℕ → Treated → Treated
 treatOne st way j r y =
@@ -113,12 +118,16 @@ treatAll st way look (j ∷ js) y = treatAll st way look js (treatOne st way j (
 
 -- ---- what makes it safe
 
--- recipe j stands in the scratch with a file on the side left and room for one more on the other; its counts lie above the locks; its pins are files
-pub record Treatable (way : Way) (look : ℕ → List ℕ) (z : List ℕ) (j : ℕ) : Type 0 where
+-- recipe j stands in the scratch with a file on the side left and room for one more on the other
+pub record Countable (way : Way) (z : List ℕ) (j : ℕ) : Type 0 where
   pub some : 1 ≤ getD z (way .left + j) 0
   pub there : getD z (way .there + j) 0 < 65535
   pub locked : getD z (way .locked + j) 0 < 65535
   pub inside : (way .left + j < length z) × (way .there + j < length z) × (way .locked + j < length z) × (way .staying + j < length z)
+
+-- and its counts lie above the locks; its pins are files
+pub record Treatable (way : Way) (look : ℕ → List ℕ) (z : List ℕ) (j : ℕ) : Type 0 where
+  pub counts : Countable way z j
   pub above : (way .locks + way .files ≤ way .left + j) × (way .locks + way .files ≤ way .there + j) × (way .locks + way .files ≤ way .locked + j)
   pub below : allBelow (way .files) (look j)
 

@@ -59,7 +59,3 @@ pub record MoveTreated (job : Job) (l : Lent) (k f : ℕ) (b : Board) (y : Treat
 -- the entries from a up to b made z
 abbrev pub cleared {ℓ} : {A : Type ℓ} → ℕ → ℕ → A → List A → List A
 cleared a b z xs = take a xs ++ (replicate (b - a) z ++ drop b xs)
-
--- the same job, started from other sides
-abbrev pub withSides : Job → List ℕ → Job
-withSides job sides = asJob (job .sizes) sides (job .marks) (job .bounds) (job .pins) (job .num) (job .den) (job .cap)

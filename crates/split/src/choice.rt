@@ -1,10 +1,11 @@
 // The choice: the legal move of greatest gain, then of least distance, then of lowest number, by one walk over the files.
 ghost use mathlib.Core.Path.{_≡_};
-ghost use Prim.Native.Nat.{_*_, _≤_, _<_, _^_};
+ghost use Prim.Native.Nat.{_+_, _*_, _≤_, _<_, _^_};
 ghost use lib.ListN.{length};
 ghost use Rattle.rules.specs.Move.{distance};
-ghost use Rattle.split.specs.Choosing.{sizeBy, Holds, fileOr, chosenIn};
-ghost use Rattle.split.specs.Best.{goesFirst, challenged};
+ghost use Rattle.split.specs.Zones.{locksAt, part};
+ghost use Rattle.split.specs.Choosing.{sizeBy, Holds};
+ghost use Rattle.split.specs.Best.{challenged, bestIn};
 
 // The balance window: den, and num·W and den·smax, within which den·|A| must stay.
 pub struct Window {
@@ -40,23 +41,7 @@ fn apart(x: u64, y: u64) -> u64
     x - y
 }
 
-// Whether a file of this gain and distance goes before the best so far, of lower number, or there is none yet.
-fn is_better(gain: i32, dist: u64, best: Best, none: usize) -> bool
-    ensures { λ r. ⌜ r ≡ goesFirst gain dist best none ⌝ }
-{
-    if best.file == none {
-        return true;
-    }
-    if best.gain < gain {
-        return true;
-    }
-    if gain < best.gain {
-        return false;
-    }
-    dist < best.dist
-}
-
-// The best so far, against file f.
+// The best so far, against file f, which goes before it if it is legal, and of greater gain, or as great and nearer, or the first.
 fn challenge(
     window: Window,
     best: Best,
@@ -69,14 +54,10 @@ fn challenge(
     requires { ⌜ window .den * after < 2 ^ 64 ⌝ }
     ensures { λ r. ⌜ r ≡ challenged window best f gain lock after none ⌝ }
 {
-    if lock != 0 {
-        return best;
-    }
     let dist = apart(window.den * after, window.aim);
-    if window.span < dist {
-        return best;
-    }
-    if is_better(gain, dist, best, none) {
+    let nearer = !(gain < best.gain) & (dist < best.dist);
+    let first = (best.file == none) | ((best.gain < gain) | nearer);
+    if (lock == 0) & (dist <= window.span) & first {
         return Best {
             file: f,
             gain,
@@ -86,31 +67,33 @@ fn challenge(
     best
 }
 
-// The file chosen; the number of files where no move is legal.
+// The best legal move, none where no move is legal; the locks of the files stand in the scratch, after the cells of this many pins.
 pub fn choose(
     window: Window,
     size: u64,
     sizes: &[u16],
     sides: &[u16],
-    locks: &[u16],
+    scratch: &[u16],
     gains: &[i32],
-) -> usize
-    requires { ⌜ (length (now sides) ≡ length (now sizes)) × (length (now locks) ≡ length (now sizes)) × (length (now gains) ≡ length (now sizes)) ⌝ }
+    pins: usize,
+) -> Best
+    requires { ⌜ (length (now sides) ≡ length (now sizes)) × (length (now gains) ≡ length (now sizes)) × (locksAt (length (now sizes)) pins + length (now sizes) ≤ length (now scratch)) ⌝ }
     requires { ⌜ (window .den < 65536) × (size < 2 ^ 40) ⌝ }
     requires { ⌜ Holds size (now sizes) (now sides) ⌝ }
-    ensures { λ r. ⌜ r ≡ fileOr (length (now (sizes .entry))) (chosenIn window size (now (sizes .entry)) (now (sides .entry)) (now (locks .entry)) (now (gains .entry)) (length (now (sizes .entry)))) ⌝ }
+    ensures { λ r. ⌜ r ≡ bestIn window size (now (sizes .entry)) (now (sides .entry)) (part (locksAt (length (now (sizes .entry))) pins) (length (now (sizes .entry))) (now (scratch .entry))) (now (gains .entry)) ⌝ }
 {
     let none = sizes.len();
+    let locks = pins + 2 * none;
     let mut best = Best {
         file: none,
         gain: 0,
         dist: 0,
     };
     let mut f = 0;
-    while f < sizes.len() {
+    while f < none {
         let after = size_after(size, sides[f], sizes[f]);
-        best = challenge(window, best, f, gains[f], locks[f], after, none);
+        best = challenge(window, best, f, gains[f], scratch[locks + f], after, none);
         f += 1;
     }
-    best.file
+    best
 }

@@ -142,15 +142,15 @@ pub(crate) fn start_gains(
     pins: &[u16],
     n: usize,
 )
-    requires { ⌜ Laid (now bounds) (now pins) (length (now gains)) ⌝ }
-    requires { ⌜ (length (now sides) ≡ length (now gains)) × (length (now marks) ≡ length (now gains)) × (n ≡ length (now bounds) - 1) ⌝ }
-    requires { ⌜ countsAt (length (now gains)) (length (now pins)) + 4 * n ≤ length (now scratch) ⌝ }
+    requires { ⌜ Laid (now bounds) (now pins) (length (now sides)) ⌝ }
+    requires { ⌜ (length (now gains) ≡ length (now sides)) × (length (now marks) ≡ length (now sides)) × (n ≡ length (now bounds) - 1) ⌝ }
+    requires { ⌜ countsAt (length (now sides)) (length (now pins)) + 4 * n ≤ length (now scratch) ⌝ }
     requires { ⌜ Binary (now sides) ⌝ }
-    requires { ⌜ Cells (viewsOf (now bounds) (now pins)) (length (now gains)) (length (now pins)) (now scratch) ⌝ }
-    requires { ⌜ Counts (viewsOf (now bounds) (now pins)) (stateOf (now sides) (now marks)) (countsAt (length (now gains)) (length (now pins))) n (now scratch) ⌝ }
-    ensures { λ _. ⌜ now (gains .exit) ≡ startGains (viewsOf (now (bounds .entry)) (now (pins .entry))) (length (now (gains .entry))) (stateOf (now (sides .entry)) (now (marks .entry))) ⌝ }
+    requires { ⌜ Cells (viewsOf (now bounds) (now pins)) (length (now sides)) (length (now pins)) (now scratch) ⌝ }
+    requires { ⌜ Counts (viewsOf (now bounds) (now pins)) (stateOf (now sides) (now marks)) (countsAt (length (now sides)) (length (now pins))) n (now scratch) ⌝ }
+    ensures { λ _. ⌜ now (gains .exit) ≡ startGains (viewsOf (now (bounds .entry)) (now (pins .entry))) (length (now (sides .entry))) (stateOf (now (sides .entry)) (now (marks .entry))) ⌝ }
 {
-    let c = gains.len();
+    let c = sides.len();
     let p = pins.len();
     let counts = p + 4 * c;
     let mut f = 0;

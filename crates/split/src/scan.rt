@@ -1,14 +1,13 @@
 // The scans of a move: its recipes are treated in rising number, and only a listed scan walks a recipe.
 ghost use mathlib.Core.Path.{_≡_};
 ghost use Prim.Native.Nat.{_+_, _-_, _≤_, _<_, _^_};
-ghost use lib.ListN.{length, getD, set, take, drop};
-ghost use lib.IntN.{pos};
+ghost use lib.ListN.{length};
 ghost use Rattle.rules.specs.Lists.{allBelow};
 ghost use Rattle.rules.specs.Job.{viewOf};
 ghost use Rattle.rules.specs.Move.{scanPins};
 ghost use Rattle.rules.proofs.Signed.{abs};
 ghost use Rattle.split.specs.Zones.{part, stateOf};
-ghost use Rattle.split.specs.Scanning.{shiftedBy, RoomFor, Room, Fits, scanned, scanIf, kindThere, kindLeft, countT, lockedT, countF, lockedF, recount, treated, treatOne, treatAll, Treatable, Ready};
+ghost use Rattle.split.specs.Scanning.{shiftedBy, RoomFor, Room, Fits, scanned, scanIf, kindThere, kindLeft, kindsBy, recount, treated, treatOne, treatAll, Countable, Treatable, Ready};
 use super::progress::Progress;
 
 // The way of a move: the side moved to, and where the locks and the counts of recipe 0 stand in the scratch:
@@ -23,6 +22,12 @@ pub struct Way {
     pub staying: usize,
 }
 
+// The kinds of a recipe's scans at a move: 1 or 2, and 3 or 4; 0 is none.
+pub struct Kinds {
+    pub first: u16,
+    pub second: u16,
+}
+
 pub fn wide(x: u16) -> usize
     ensures { λ r. ⌜ r ≡ x ⌝ }
 {
@@ -34,43 +39,34 @@ fn shifted(g: i32, lock: u16, side: u16, there: u16, left: u16, kind: u16) -> i3
     requires { ⌜ abs g < 2 ^ 31 - 1 ⌝ }
     ensures { λ r. ⌜ r ≡ shiftedBy g lock side there left kind ⌝ }
 {
-    if lock != 0 {
-        return g;
-    }
-    if kind == 1 {
-        return g + 1;
-    }
-    if kind == 3 {
-        return g - 1;
-    }
-    if kind == 2 {
-        if side == there {
-            return g - 1;
-        }
-        return g;
-    }
-    if kind == 4 {
-        if side == left {
+    let reached = (kind == 1)
+        | (kind == 3)
+        | ((kind == 2) & (side == there))
+        | ((kind == 4) & (side == left));
+    if (lock == 0) & reached {
+        if (kind == 1) | (kind == 4) {
             return g + 1;
         }
-        return g;
+        return g - 1;
     }
     g
 }
 
-// One scan over the pins of its recipe.
-fn scan_pins(gains: &mut [i32], sides: &[u16], locks: &[u16], pins: &[u16], there: u16, kind: u16)
-    requires { ⌜ there ≤ 1 ⌝ }
-    requires { ⌜ allBelow (length (now gains)) (now pins) ⌝ }
-    requires { ⌜ (length (now sides) ≡ length (now gains)) × (length (now locks) ≡ length (now gains)) ⌝ }
+// One scan over the pins of its recipe; the locks of the files stand in the scratch.
+fn scan_pins(gains: &mut [i32], sides: &[u16], scratch: &[u16], pins: &[u16], way: Way, kind: u16)
+    requires { ⌜ way .side ≤ 1 ⌝ }
+    requires { ⌜ allBelow (way .files) (now pins) ⌝ }
+    requires { ⌜ (length (now gains) ≡ way .files) × (length (now sides) ≡ way .files) × (way .locks + way .files ≤ length (now scratch)) ⌝ }
     requires { ⌜ RoomFor (now gains) (length (now pins)) ⌝ }
-    ensures { λ _. ⌜ now (gains .exit) ≡ scanPins (stateOf (now (sides .entry)) (now (locks .entry))) there kind (now (pins .entry)) (now (gains .entry)) ⌝ }
+    ensures { λ _. ⌜ now (gains .exit) ≡ scanPins (stateOf (now (sides .entry)) (part (way .locks) (way .files) (now (scratch .entry)))) (way .side) kind (now (pins .entry)) (now (gains .entry)) ⌝ }
 {
+    let there = way.side;
     let left = 1 - there;
+    let locks = way.locks;
     let mut k = 0;
     while k < pins.len() {
         let f = wide(pins[k]);
-        gains[f] = shifted(gains[f], locks[f], sides[f], there, left, kind);
+        gains[f] = shifted(gains[f], scratch[locks + f], sides[f], there, left, kind);
         k += 1;
     }
 }
@@ -81,19 +77,19 @@ fn scan_if(
     recipes: &mut [u16],
     kinds: &mut [u16],
     sides: &[u16],
-    locks: &[u16],
+    scratch: &[u16],
     pins: &[u16],
     j: u16,
-    there: u16,
+    way: Way,
     kind: u16,
     p: Progress,
 ) -> Progress
-    requires { ⌜ there ≤ 1 ⌝ }
-    requires { ⌜ allBelow (length (now gains)) (now pins) ⌝ }
-    requires { ⌜ (length (now sides) ≡ length (now gains)) × (length (now locks) ≡ length (now gains)) ⌝ }
+    requires { ⌜ way .side ≤ 1 ⌝ }
+    requires { ⌜ allBelow (way .files) (now pins) ⌝ }
+    requires { ⌜ (length (now gains) ≡ way .files) × (length (now sides) ≡ way .files) × (way .locks + way .files ≤ length (now scratch)) ⌝ }
     requires { ⌜ Room (now gains) (p .visits) ⌝ }
-    requires { ⌜ Fits (scanIf (stateOf (now sides) (now locks)) there j (now pins) kind (scanned (now gains) (now recipes) (now kinds) p)) ⌝ }
-    ensures { λ r. ⌜ scanned (now (gains .exit)) (now (recipes .exit)) (now (kinds .exit)) r ≡ scanIf (stateOf (now (sides .entry)) (now (locks .entry))) there j (now (pins .entry)) kind (scanned (now (gains .entry)) (now (recipes .entry)) (now (kinds .entry)) p) ⌝ }
+    requires { ⌜ Fits (scanIf (stateOf (now sides) (part (way .locks) (way .files) (now scratch))) (way .side) j (now pins) kind (scanned (now gains) (now recipes) (now kinds) p)) ⌝ }
+    ensures { λ r. ⌜ scanned (now (gains .exit)) (now (recipes .exit)) (now (kinds .exit)) r ≡ scanIf (stateOf (now (sides .entry)) (part (way .locks) (way .files) (now (scratch .entry)))) (way .side) j (now (pins .entry)) kind (scanned (now (gains .entry)) (now (recipes .entry)) (now (kinds .entry)) p) ⌝ }
 {
     if kind == 0 {
         return p;
@@ -101,7 +97,7 @@ fn scan_if(
     let at = p.scans;
     recipes[at] = j;
     kinds[at] = kind;
-    scan_pins(gains, sides, locks, pins, there, kind);
+    scan_pins(gains, sides, scratch, pins, way, kind);
     p.scanned(pins.len())
 }
 
@@ -137,18 +133,25 @@ fn kind_left(f: u16, held: u16) -> u16
     4
 }
 
-// The moved file leaves one side of recipe j and joins the other, locked.
-fn recount_one(scratch: &mut [u16], left: usize, there: usize, locked: usize)
-    requires { ⌜ (left < length (now scratch)) × (there < length (now scratch)) × (locked < length (now scratch)) ⌝ }
-    requires { ⌜ (1 ≤ getD (now scratch) left 0) × (getD (now scratch) there 0 < 65535) × (getD (now scratch) locked 0 < 65535) ⌝ }
-    ensures { λ _. ⌜ now (scratch .exit) ≡ set (set (set (now (scratch .entry)) left (getD (now (scratch .entry)) left 0 - 1)) there (getD (now (scratch .entry)) there 0 + 1)) locked (getD (now (scratch .entry)) locked 0 + 1) ⌝ }
+// The kinds of recipe j's scans by its counts; then the moved file leaves one side and joins the other, locked.
+fn recount_one(scratch: &mut [u16], j: u16, way: Way) -> Kinds
+    requires { ⌜ Countable way (now scratch) j ⌝ }
+    ensures { λ r. ⌜ (r ≡ kindsBy way j (now (scratch .entry))) × (now (scratch .exit) ≡ recount way j (now (scratch .entry))) ⌝ }
 {
-    let f = scratch[left];
+    let k = j as usize;
+    let left = way.left + k;
+    let there = way.there + k;
+    let locked = way.locked + k;
+    let staying = way.staying + k;
+    let f = scratch[left] - 1;
     let t = scratch[there];
     let l = scratch[locked];
-    scratch[left] = f - 1;
+    let first = kind_there(t, l);
+    let second = kind_left(f, scratch[staying]);
+    scratch[left] = f;
     scratch[there] = t + 1;
     scratch[locked] = l + 1;
+    Kinds { first, second }
 }
 
 // Recipe j of the moved file: its counts, then its scans, kinds 1 or 2 before 3 or 4.
@@ -170,27 +173,17 @@ fn treat(
     requires { ⌜ Fits (treatOne (stateOf (now sides) (part (way .locks) (way .files) (now scratch))) way j (now pins) (treated (now scratch) (now gains) (now recipes) (now kinds) p) .scanned) ⌝ }
     ensures { λ r. ⌜ treated (now (scratch .exit)) (now (gains .exit)) (now (recipes .exit)) (now (kinds .exit)) r ≡ treatOne (stateOf (now (sides .entry)) (part (way .locks) (way .files) (now (scratch .entry)))) way j (now (pins .entry)) (treated (now (scratch .entry)) (now (gains .entry)) (now (recipes .entry)) (now (kinds .entry)) p) ⌝ }
 {
-    let k = wide(j);
-    let left = way.left + k;
-    let there = way.there + k;
-    let locked = way.locked + k;
-    let staying = way.staying + k;
-    let first = kind_there(scratch[there], scratch[locked]);
-    let second = kind_left(scratch[left] - 1, scratch[staying]);
-    recount_one(scratch, left, there, locked);
-    let a = way.locks;
-    let e = a + way.files;
-    let side = way.side;
+    let its = recount_one(scratch, j, way);
     let q = scan_if(
         gains,
         recipes,
         kinds,
         sides,
-        &scratch[a..e],
+        scratch,
         pins,
         j,
-        side,
-        first,
+        way,
+        its.first,
         p,
     );
     scan_if(
@@ -198,11 +191,11 @@ fn treat(
         recipes,
         kinds,
         sides,
-        &scratch[a..e],
+        scratch,
         pins,
         j,
-        side,
-        second,
+        way,
+        its.second,
         q,
     )
 }

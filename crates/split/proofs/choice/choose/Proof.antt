@@ -1,20 +1,29 @@
 -- The best so far is the best of the files passed. Assumes nothing.
+use mathlib.Core.Path.{sym}
 use Prim.Native.Nat.{_-_}
 use native.Mathlib.Omega.{arith}
 use lib.ListN.{length, getD}
 use lib.IntN.{pos}
 use mir.Syntax.{w32}
 use mir.Facts.{toZ-ofZ}
+use Rattle.split.specs.Zones.{locksAt, part}
+use Rattle.split.proofs.Parts.{part-entry}
 use Rattle.split.proofs.FilesPassed.{product-fits, Passed, passed-none, passed-more, passed-all}
 use borrow.Author.Needs.{needs, sfits-of}
 use Rattle.split.proofs.choice.choose.Statement.{statement}
 use Rattle.split.proofs.choice.choose.Tie as tie
 
 abbrev Inv-loop : tie.InvT-loop
-Inv-loop window size sizes sides locks gains none best₀ f₀ best f = Passed window size sizes sides locks gains f best
+Inv-loop window size sizes sides scratch gains pins none locks best₀ f₀ best f = Passed window size sizes sides (part (locksAt (length sizes) pins) (length sizes) scratch) gains f best
 
 abbrev μ-loop : tie.MeasureT-loop
-μ-loop window size sizes sides locks gains none best₀ f₀ best f = length sizes - f
+μ-loop window size sizes sides scratch gains pins none locks best₀ f₀ best f = length sizes - f
+
+mul-locks : tie.Need-mul-locks Inv-loop μ-loop
+mul-locks c = search needs
+
+add-locks : tie.Need-add-locks Inv-loop μ-loop
+add-locks c = search needs
 
 loop-holds : tie.Need-loop-holds Inv-loop μ-loop
 loop-holds c = passed-none
@@ -42,6 +51,9 @@ mul-challenge c = search needs
 shared-slice-copy-out-challenge : tie.Need-shared-slice-copy-out-challenge Inv-loop μ-loop
 shared-slice-copy-out-challenge c = search needs
 
+add-challenge : tie.Need-add-challenge Inv-loop μ-loop
+add-challenge c = search needs
+
 mul-challenge-2 : tie.Need-mul-challenge-2 Inv-loop μ-loop
 mul-challenge-2 c = search needs
 
@@ -65,8 +77,12 @@ loop-again : tie.Need-loop-again Inv-loop μ-loop
 loop-again c =
     let l = c .before .before .before .before .before .before .before .loop in
     let g = c .before .before .before .before .before .before .before .before .before .before .before .args .gains .now in
+    let s = c .before .before .before .before .before .before .before .before .before .before .before in
+    let n = length (s .args .sizes .now) in
+    let h = c .before .before .before .before .before .before .loop-test .taken in
     rw (
       c .challenge .ensures,
+      sym (part-entry (locksAt n (s .args .pins)) n (s .args .scratch .now) (l .f) h),
       toZ-ofZ {w = w32} {z = getD g (l .f) (pos 0)} (sfits-of (c .before .before .challenge-arg .given)),
       c .before .before .before .size-after .ensures,
     )
@@ -81,6 +97,8 @@ choose-spec =
     (tie.spec
     Inv-loop
     μ-loop
+    mul-locks
+    add-locks
     loop-holds
     mul-size-after
     shared-slice-read-size-after
@@ -89,6 +107,7 @@ choose-spec =
     size-after-requires
     mul-challenge
     shared-slice-copy-out-challenge
+    add-challenge
     mul-challenge-2
     shared-slice-read-challenge
     challenge-requires

@@ -12,13 +12,13 @@ use Rattle.split.specs.Zones.{countsAt, stateOf}
 use Rattle.split.specs.Building.{viewsOf}
 use Rattle.split.specs.Counting.{startGain}
 use Rattle.split.proofs.Laying.{recipes-long}
-use Rattle.split.proofs.Starting.{cells-below, start-gain-is, start-gains-long, side-within}
+use Rattle.split.proofs.Starting.{cells-below, start-gain-is, start-gains-long, gain-asks}
 use Rattle.split.proofs.Filled.{Stored, stored-none, stored-more, stored-end}
 use Rattle.split.proofs.counts.start_gains.Statement.{statement}
 use Rattle.split.proofs.counts.start_gains.Tie as tie
 
 abbrev Inv-loop : tie.InvT-loop
-Inv-loop gains₀ sides marks scratch bounds pins n c p counts f₀ gains f = (f ≤ length gains₀) × Stored (pos 0) (startGains (viewsOf bounds pins) (length gains₀) (stateOf sides marks)) f gains
+Inv-loop gains₀ sides marks scratch bounds pins n c p counts f₀ gains f = (f ≤ length sides) × Stored (pos 0) (startGains (viewsOf bounds pins) (length sides) (stateOf sides marks)) f gains
 
 abbrev μ-loop : tie.MeasureT-loop
 μ-loop gains₀ sides marks scratch bounds pins n c p counts f₀ gains f = c - f
@@ -42,22 +42,26 @@ abbrev file : Turn → ℕ
 file c = head c .loop .f
 
 long : (c : Turn) → length (head c .loop .gains) ≡ length (start c .args .gains .now)
-long c = head c .loop .inv .1 .long ∙ start-gains-long _ _ _ _
+long c = head c .loop .inv .1 .long ∙ start-gains-long _ _ _ _ ∙ sym (start c .pre .1 .0 .0)
+
+-- the file is one of the job's
+inside : (c : Turn) → file c < length (start c .args .sides .now)
+inside c = c .before .before .before .before .before .before .before .before .loop-test .taken
 
 -- what the turn works out
 value : (c : Turn)
     → startGain (start c .args .scratch .now) (getD (start c .args .marks .now) (file c) 0) (c .before .before .before .before .before .before .wide .result)
     (c .before .before .before .before .wide2 .result) (c .before .before .side-at .result) (c .side-at2 .result) (start c .args .n)
-    ≡ getD (startGains (viewsOf (start c .args .bounds .now) (start c .args .pins .now)) (length (start c .args .gains .now)) (stateOf (start c .args .sides .now) (start c .args .marks .now))) (file c) (pos 0)
+    ≡ getD (startGains (viewsOf (start c .args .bounds .now) (start c .args .pins .now)) (length (start c .args .sides .now)) (stateOf (start c .args .sides .now) (start c .args .marks .now))) (file c) (pos 0)
 value c =
     let s = start c in
     let x = s .args in
-    start-gain-is (x .sides .now) (x .marks .now) (viewsOf (x .bounds .now) (x .pins .now)) (length (x .gains .now)) (length (x .pins .now)) (x .n) (x .scratch .now)
-    (recipes-long (x .bounds .now) (x .pins .now) _ (s .pre .0) ∙ omega arith) (s .pre .1 .1 .1 .0) (s .pre .1 .1 .1 .1 .0) (s .pre .1 .1 .1 .1 .1) (file c) _ _ (omega arith)
+    start-gain-is (x .sides .now) (x .marks .now) (viewsOf (x .bounds .now) (x .pins .now)) (length (x .sides .now)) (length (x .pins .now)) (x .n) (x .scratch .now)
+    (recipes-long (x .bounds .now) (x .pins .now) _ (s .pre .0) ∙ sym (s .pre .1 .0 .2)) (s .pre .1 .1 .1 .0) (s .pre .1 .1 .1 .1 .0) (s .pre .1 .1 .1 .1 .1) (file c) _ _ (inside c)
     (c .before .before .before .before .before .before .wide .ensures) (c .before .before .before .before .wide2 .ensures) _ _ (c .before .before .side-at .ensures) (c .side-at2 .ensures)
 
 loop-holds : tie.Need-loop-holds Inv-loop μ-loop
-loop-holds c = (omega arith, stored-none _ _ (sym (start-gains-long _ _ _ _)))
+loop-holds c = (omega arith, stored-none _ _ (c .before .before .before .before .before .pre .1 .0 .0 ∙ sym (start-gains-long _ _ _ _)))
 
 add-wide : tie.Need-add-wide Inv-loop μ-loop
 add-wide c = search needs
@@ -118,17 +122,16 @@ start-gain-requires c κs =
     let w = c .before in
     let s = start w in
     let x = s .args in
-    let h : file w < length (x .gains .now) = omega arith in
+    let h = inside w in
     let cells = s .pre .1 .1 .1 .1 .0 in
-    let a = cells .order (file w) h in
-    let b = cells .inside (file w) h in
-    let d = side-within (countsAt (length (x .gains .now)) (length (x .pins .now))) (x .n) (getD (x .sides .now) (file w) 0) in
-    let e = side-within (countsAt (length (x .gains .now)) (length (x .pins .now))) (x .n) (1 - getD (x .sides .now) (file w) 0) in (
-      (omega arith, omega arith, omega (arith, s .pre .0 .fewPins)),
+    let asks =
+    gain-asks (x .n) (file w) (getD (x .sides .now) (file w) 0) cells h (s .pre .0 .fewPins) (s .pre .1 .1 .0)
+    (w .before .before .before .before .before .before .wide .ensures) (w .before .before .before .before .wide2 .ensures) (w .before .before .side-at .ensures) (w .side-at2 .ensures) in (
+      asks .0,
       (
-        (omega arith, omega arith),
-        cells-below (x .sides .now) (x .marks .now) (viewsOf (x .bounds .now) (x .pins .now)) (length (x .gains .now)) (length (x .pins .now)) (x .n) (x .scratch .now)
-            (recipes-long (x .bounds .now) (x .pins .now) _ (s .pre .0) ∙ omega arith) (s .pre .1 .1 .1 .0) cells (s .pre .1 .1 .1 .1 .1) (file w) _ _ h
+        asks .1,
+        cells-below (x .sides .now) (x .marks .now) (viewsOf (x .bounds .now) (x .pins .now)) (length (x .sides .now)) (length (x .pins .now)) (x .n) (x .scratch .now)
+            (recipes-long (x .bounds .now) (x .pins .now) _ (s .pre .0) ∙ sym (s .pre .1 .0 .2)) (s .pre .1 .1 .1 .0) cells (s .pre .1 .1 .1 .1 .1) (file w) _ _ h
             (w .before .before .before .before .before .before .wide .ensures) (w .before .before .before .before .wide2 .ensures),
       ),
     )
@@ -149,10 +152,10 @@ loop-again : tie.Need-loop-again Inv-loop μ-loop
 loop-again c =
     let w = c .before .before in
     let back : toZ w32 (ofZ w32 (c .start-gain .result)) ≡ c .start-gain .result = search needs in
-    (omega arith, stored-more _ _ (file w) _ (head w .loop .inv .1) (omega (arith, long w)) (back ∙ c .start-gain .ensures ∙ value w))
+    (omega arith, stored-more _ _ (file w) _ (head w .loop .inv .1) (omega (arith, long w, head w .loop .inv .1 .long, start w .pre .1 .0 .0)) (back ∙ c .start-gain .ensures ∙ value w))
 
 same-length : tie.Need-same-length Inv-loop μ-loop
-same-length c = c .before .loop .inv .1 .long ∙ start-gains-long _ _ _ _
+same-length c = c .before .loop .inv .1 .long ∙ start-gains-long _ _ _ _ ∙ sym (c .before .before .before .before .before .before .before .pre .1 .0 .0)
 
 returns : tie.Need-returns Inv-loop μ-loop
 returns c = stored-end _ _ (c .before .loop .f) (c .before .loop .inv .1) (rw start-gains-long (c .loop-test .left))

@@ -41,7 +41,7 @@ loop-less c = search needs
 loop-again : tie.Need-loop-again Inv-loop μ-loop
 loop-again c =
     let l = c .before .before .before .before .before .before .before .loop in
-    rw (c .before .before .turn .ensures, c .before .before .before .wide .ensures)
+    rw (c .before .before .turn .ensures .1, c .before .before .before .wide .ensures)
     (taken-more (c .before .before .before .before .before .before .loop-test .taken) (l .inv))
 
 same-length : tie.Need-same-length Inv-loop μ-loop

@@ -4,17 +4,17 @@ use borrow.Author.Needs.{needs}
 use Rattle.split.proofs.ending.turn.Statement.{statement}
 use Rattle.split.proofs.ending.turn.Tie as tie
 
+mul-side : tie.Need-mul-side
+mul-side c = search needs
+
+slice-read-side : tie.Need-slice-read-side
+slice-read-side c = search needs
+
+sub-side : tie.Need-sub-side
+sub-side c = omega (arith, c .before .pre .1 (c .before .args .f))
+
 mul-sides : tie.Need-mul-sides
 mul-sides c = search needs
-
-slice-read-sides : tie.Need-slice-read-sides
-slice-read-sides c = search needs
-
-sub-sides : tie.Need-sub-sides
-sub-sides c = omega (arith, c .before .pre .1 (c .before .args .f))
-
-mul-sides-2 : tie.Need-mul-sides-2
-mul-sides-2 c = search needs
 
 slice-write-sides : tie.Need-slice-write-sides
 slice-write-sides c = search needs
@@ -28,11 +28,4 @@ returns c = search needs
 pub turn-spec : {M : Type 1} → statement M
 turn-spec =
     tie.close
-    (tie.spec
-    mul-sides
-    slice-read-sides
-    sub-sides
-    mul-sides-2
-    slice-write-sides
-    same-length
-    returns)
+    (tie.spec mul-side slice-read-side sub-side mul-sides slice-write-sides same-length returns)

@@ -2,7 +2,8 @@
 use mathlib.Core.Path.{sym}
 use native.Mathlib.Omega.{arith}
 use lib.ListN.{length}
-use Rattle.split.specs.Zones.{stateOf}
+use Rattle.rules.specs.Move.{State}
+use Rattle.split.specs.Zones.{part, stateOf}
 use Rattle.split.specs.Scanning.{scanned}
 use Rattle.split.proofs.Lasting.{Scannable, near-room, scan-none, scan-done, scan-fits}
 use borrow.Author.Needs.{needs}
@@ -12,16 +13,20 @@ use Rattle.split.proofs.scan.scan_if.Tie as tie
 abbrev entry : tie.Else1 → tie.Start
 entry c = c .before .before .before .before .before .before
 
+-- the state that the scan sees
+abbrev state : tie.Start → State
+state s = stateOf (s .args .sides .now) (part (s .args .way .locks) (s .args .way .files) (s .args .scratch .now))
+
 -- the scan has its place in the lists, and its visits fit
 fits : (c : tie.Else1) → Scannable (scanned (entry c .args .gains .now) (entry c .args .recipes .now) (entry c .args .kinds .now) (entry c .args .p)) (length (entry c .args .pins .now))
 fits c =
     let s = entry c in
-    scan-fits (stateOf (s .args .sides .now) (s .args .locks .now)) (s .args .there) (s .args .j) (s .args .pins .now) (s .args .kind) _ (c .if1 .left) (s .pre .1 .1 .1 .1)
+    scan-fits (state s) (s .args .way .side) (s .args .j) (s .args .pins .now) (s .args .kind) _ (c .if1 .left) (s .pre .1 .1 .1 .1)
 
 returns : tie.Need-returns
 returns c =
     let s = c .before .before .before .before .before .before in
-    sym (scan-none (stateOf (s .args .sides .now) (s .args .locks .now)) (s .args .there) (s .args .j) (s .args .pins .now) (s .args .kind) _ (c .if1 .taken))
+    sym (scan-none (state s) (s .args .way .side) (s .args .j) (s .args .pins .now) (s .args .kind) _ (c .if1 .taken))
 
 mul-recipes : tie.Need-mul-recipes
 mul-recipes c = omega (arith, fits c .recipes)
@@ -56,7 +61,7 @@ returns-2 : tie.Need-returns-2
 returns-2 c =
     let e = c .before .before .before .before in
     let x = entry e .args in
-    scan-done (stateOf (x .sides .now) (x .locks .now)) (x .there) (x .j) (x .pins .now) (x .kind) (scanned (x .gains .now) (x .recipes .now) (x .kinds .now) (x .p))
+    scan-done (state (entry e)) (x .way .side) (x .j) (x .pins .now) (x .kind) (scanned (x .gains .now) (x .recipes .now) (x .kinds .now) (x .p))
     {g = c .before .before .scan-pins .last .0} {p = c .scanned .result} (e .if1 .left) (c .before .before .scan-pins .ensures) (c .scanned .ensures)
 
 pub scan-if-spec : {M : Type 1} → statement M

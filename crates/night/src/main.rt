@@ -1,0 +1,10 @@
+// The night's program: a stored job on standard input, its report on standard output, in one write.
+use libc::STDOUT_FILENO;
+
+fn main() {
+    let mut input = [0u8; planner::INPUT_BYTES];
+    let got = blocks::take_blocks(&mut input);
+    let mut text = [0u8; planner::TEXT_BYTES];
+    let printed = planner::night(&input[..got], &mut text);
+    io::write_all(STDOUT_FILENO, &text[..printed.bytes]);
+}

@@ -1,0 +1,89 @@
+use Rattle.rules.specs.Job.{limitsOf}
+use Rattle.planner.proofs.Telling.{refusal-printed, run-read, room-read, few-read}
+use borrow.Author.Needs.{needs}
+use Rattle.planner.proofs.night.Statement.{statement}
+use Rattle.planner.proofs.night.Tie as tie
+
+slice-aggregate-read : tie.Need-slice-aggregate-read
+slice-aggregate-read c = search needs
+
+slice-aggregate-read-2 : tie.Need-slice-aggregate-read-2
+slice-aggregate-read-2 c = search needs
+
+slice-aggregate-read-3 : tie.Need-slice-aggregate-read-3
+slice-aggregate-read-3 c = search needs
+
+slice-aggregate-read-4 : tie.Need-slice-aggregate-read-4
+slice-aggregate-read-4 c = search needs
+
+slice-aggregate-read-5 : tie.Need-slice-aggregate-read-5
+slice-aggregate-read-5 c = search needs
+
+read-requires : tie.Need-read-requires
+read-requires c κs = search needs
+
+print-refusal-requires : tie.Need-print-refusal-requires
+print-refusal-requires c κs = search needs
+
+same-length : tie.Need-same-length
+same-length c = search needs
+
+returns : tie.Need-returns
+returns c =
+    let r = c .before .before .before .before .before .before .before .before .before .before .before .before .read in
+    let p = c .before .before .print-refusal .ensures in
+    let e = refusal-printed (limitsOf _ _ _ _) _ (r .result) _ (r .ensures .0) (r .ensures .1) _ (c .before .before .before .before .before .before .before .before .before .before .before .before .before .before .before .before .before .before .before .before .args .out .now) _ (c .before .before .before .before .if1 .taken) (p .0) in
+    (e .0, (p .1, e .1))
+
+slice-aggregate-print-first : tie.Need-slice-aggregate-print-first
+slice-aggregate-print-first c = search needs
+
+slice-aggregate-print-first-2 : tie.Need-slice-aggregate-print-first-2
+slice-aggregate-print-first-2 c = search needs
+
+slice-aggregate-print-first-3 : tie.Need-slice-aggregate-print-first-3
+slice-aggregate-print-first-3 c = search needs
+
+slice-aggregate-print-first-4 : tie.Need-slice-aggregate-print-first-4
+slice-aggregate-print-first-4 c = search needs
+
+slice-aggregate-print-first-5 : tie.Need-slice-aggregate-print-first-5
+slice-aggregate-print-first-5 c = search needs
+
+print-first-requires : tie.Need-print-first-requires
+print-first-requires c κs =
+    let r = c .before .before .before .before .before .before .before .before .before .before .before .before .before .before .read in
+    let z = c .before .before .before .before .before .before .if1 .left in
+    (room-read (limitsOf _ _ _ _) _ (r .result) _ (r .ensures .0) (r .ensures .1) z, few-read (limitsOf _ _ _ _) _ (r .result) _ (r .ensures .0) (r .ensures .1) z)
+
+same-length-2 : tie.Need-same-length-2
+same-length-2 c = search needs
+
+returns-2 : tie.Need-returns-2
+returns-2 c =
+    let r = c .before .before .before .before .before .before .before .before .before .before .before .before .before .before .before .before .before .before .read in
+    let p = c .before .before .before .print-first .ensures in
+    let e = run-read (limitsOf _ _ _ _) _ (r .result) _ (r .ensures .0) (r .ensures .1) (c .before .before .before .before .before .before .before .before .before .before .if1 .left) _ (c .before .before .before .before .before .before .before .before .before .before .before .before .before .before .before .before .before .before .before .before .before .before .before .before .before .before .args .out .now) _ (p .0) in
+    (e .0, (p .1, e .1))
+
+pub night-spec : {M : Type 1} → statement M
+night-spec =
+    tie.close
+    (tie.spec
+    slice-aggregate-read
+    slice-aggregate-read-2
+    slice-aggregate-read-3
+    slice-aggregate-read-4
+    slice-aggregate-read-5
+    read-requires
+    print-refusal-requires
+    same-length
+    returns
+    slice-aggregate-print-first
+    slice-aggregate-print-first-2
+    slice-aggregate-print-first-3
+    slice-aggregate-print-first-4
+    slice-aggregate-print-first-5
+    print-first-requires
+    same-length-2
+    returns-2)

@@ -1,0 +1,39 @@
+use mathlib.Core.Path.{sym, _∙_}
+use native.Mathlib.Omega.{arith}
+use Rattle.report.proofs.Printings.{reporting-refusal, reporting-figures}
+use borrow.Author.Needs.{needs}
+use Rattle.report.proofs.report.Statement.{statement}
+use Rattle.report.proofs.report.Tie as tie
+
+print-refusal-requires : tie.Need-print-refusal-requires
+print-refusal-requires c κs = search needs
+
+same-length : tie.Need-same-length
+same-length c = search needs
+
+returns : tie.Need-returns
+returns c =
+    let e = c .before .before .print-refusal .ensures in
+    (e .0 ∙ sym (reporting-refusal _ _ _ _ _ (c .before .before .before .before .if1 .taken)), λ same long. e .1 (omega (arith, long)))
+
+print-figures-requires : tie.Need-print-figures-requires
+print-figures-requires c κs = search needs
+
+same-length-2 : tie.Need-same-length-2
+same-length-2 c = search needs
+
+returns-2 : tie.Need-returns-2
+returns-2 c =
+    let e = c .before .before .print-figures .ensures in
+    (e .0 ∙ sym (reporting-figures _ _ _ _ _ (c .before .before .before .before .if1 .left)), e .1)
+
+pub report-spec : {M : Type 1} → statement M
+report-spec =
+    tie.close
+    (tie.spec
+    print-refusal-requires
+    same-length
+    returns
+    print-figures-requires
+    same-length-2
+    returns-2)

@@ -1,0 +1,73 @@
+use mathlib.Core.Logic.{inl, inr}
+use Prim.Native.Nat.{_-_}
+use lib.ListN.{length, getD}
+use lib.Dec.{eqb}
+use native.Mathlib.Omega.{arith}
+use borrow.Author.Tests.{eq-eqb, ne-eqb}
+use Rattle.rules.specs.Job.{files}
+use Rattle.rules.specs.Split.{sizeOn}
+use Rattle.report.proofs.Sums.{Summed, summed-none, summed-in, summed-out, summed-end}
+use borrow.Author.Needs.{needs}
+use Rattle.report.proofs.split.size_on.Statement.{statement}
+use Rattle.report.proofs.split.size_on.Tie as tie
+
+abbrev Inv-loop : tie.InvT-loop
+Inv-loop sizes sides side sum₀ f₀ sum f = Summed (λ k. eqb (getD sides k 0) side) (λ k. getD sizes k 0) (length sizes) f sum
+
+abbrev μ-loop : tie.MeasureT-loop
+μ-loop sizes sides side sum₀ f₀ sum f = length sizes - f
+
+loop-holds : tie.Need-loop-holds Inv-loop μ-loop
+loop-holds c = summed-none
+
+mul-size : tie.Need-mul-size Inv-loop μ-loop
+mul-size c = search needs
+
+shared-slice-read-size : tie.Need-shared-slice-read-size Inv-loop μ-loop
+shared-slice-read-size c = search needs
+
+cast-size : tie.Need-cast-size Inv-loop μ-loop
+cast-size c = omega (arith, c .shared-slice-known .given (c .before .before .loop .f))
+
+mul-if1 : tie.Need-mul-if1 Inv-loop μ-loop
+mul-if1 c = search needs
+
+shared-slice-read-if1 : tie.Need-shared-slice-read-if1 Inv-loop μ-loop
+shared-slice-read-if1 c = search needs
+
+add-sum : tie.Need-add-sum Inv-loop μ-loop
+add-sum c = omega (arith, c .before .before .before .before .loop .inv .small, c .before .before .shared-slice-known .given (c .before .before .before .before .loop .f))
+
+add-f : tie.Need-add-f Inv-loop μ-loop
+add-f c = search needs
+
+loop-less : tie.Need-loop-less Inv-loop μ-loop
+loop-less c = search needs
+
+loop-again : tie.Need-loop-again Inv-loop μ-loop
+loop-again c = elim (c .if1 .came) [
+  | inl w ↦ rw (w .1) (summed-in (c .before .before .before .before .loop .inv) (c .before .before .before .loop-test .taken) (eq-eqb _ _ (w .0 .taken)) (omega (arith, c .before .before .shared-slice-known .given (c .before .before .before .before .loop .f))))
+  | inr w ↦ rw (w .1) (summed-out (c .before .before .before .before .loop .inv) (c .before .before .before .loop-test .taken) (ne-eqb _ _ (w .0 .left)))
+]
+
+returns : tie.Need-returns Inv-loop μ-loop
+unfolding sizeOn files
+returns c = summed-end (c .before .loop .inv) (c .loop-test .left)
+
+pub size-on-spec : {M : Type 1} → statement M
+size-on-spec =
+    tie.close
+    (tie.spec
+    Inv-loop
+    μ-loop
+    loop-holds
+    mul-size
+    shared-slice-read-size
+    cast-size
+    mul-if1
+    shared-slice-read-if1
+    add-sum
+    add-f
+    loop-less
+    loop-again
+    returns)

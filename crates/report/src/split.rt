@@ -1,0 +1,74 @@
+// Files on their sides: the letters, the size of a side, the first side over 1.
+use crate::text::put;
+use crate::text::put_text;
+use job::Job;
+ghost use mathlib.Core.Path.{_≡_};
+ghost use Prim.Native.Nat.{_≤_};
+ghost use mathlib.Core.List.{map};
+ghost use lib.Dec.{ltb};
+ghost use lib.ListN.{length, getD};
+ghost use Rattle.rules.specs.Lists.{lowest};
+ghost use Rattle.rules.specs.Split.{sizeOn};
+ghost use Rattle.rules.specs.Report.{«letter», sidesLine, ofSizes};
+ghost use Rattle.report.specs.Laying.{Near, Laid};
+
+fn letter(side: u16) -> u8
+    ensures { λ r. ⌜ r ≡ «letter» side ⌝ }
+{
+    if side == 0 {
+        return 65;
+    }
+    66
+}
+
+fn put_letters(out: &mut [u8], at: usize, sides: &[u16]) -> usize
+    requires { ⌜ Near at (map «letter» (now sides)) ⌝ }
+    ensures { λ r. ⌜ Laid at (map «letter» (now (sides .entry))) (now (out .entry)) r (now (out .exit)) ⌝ }
+{
+    let mut next = at;
+    let mut f = 0;
+    while f < sides.len() {
+        next = put(out, next, letter(sides[f]));
+        f += 1;
+    }
+    next
+}
+
+pub(crate) fn put_sides(out: &mut [u8], at: usize, sides: &[u16]) -> usize
+    requires { ⌜ Near at (sidesLine (now sides)) ⌝ }
+    ensures { λ r. ⌜ Laid at (sidesLine (now (sides .entry))) (now (out .entry)) r (now (out .exit)) ⌝ }
+{
+    let mut next = put_text(out, at, b"sides ");
+    next = put_letters(out, next, sides);
+    put(out, next, 10)
+}
+
+pub(crate) fn size_on(sizes: &[u16], sides: &[u16], side: u16) -> u64
+    requires { do ⌜ (length (now sizes) ≤ (← ⟦Job::MOST_FILES⟧)) × (length (now sides) ≡ length (now sizes)) ⌝ }
+    ensures { λ r. ⌜ r ≡ sizeOn (ofSizes (now (sizes .entry))) side (now (sides .entry)) ⌝ }
+{
+    let mut sum: u64 = 0;
+    let mut f = 0;
+    while f < sizes.len() {
+        let size = sizes[f] as u64;
+        if sides[f] == side {
+            sum += size;
+        }
+        f += 1;
+    }
+    sum
+}
+
+// The lowest file whose side is over 1, or their number.
+pub(crate) fn first_bad_side(sides: &[u16]) -> usize
+    ensures { λ r. ⌜ r ≡ lowest (λ f. ltb 1 (getD (now (sides .entry)) f 0)) (length (now (sides .entry))) ⌝ }
+{
+    let mut f = 0;
+    while f < sides.len() {
+        if 1 < sides[f] {
+            return f;
+        }
+        f += 1;
+    }
+    sides.len()
+}

@@ -1,0 +1,42 @@
+// Numbers for no: whether there is room, and whether what is told is a split of a job.
+use crate::split::first_bad_side;
+use job::Job;
+use rules::Verdict;
+ghost use mathlib.Core.Path.{_≡_};
+ghost use Rattle.rules.specs.Check.{refuseIf};
+ghost use Rattle.report.specs.Steps.{lengthsVerdict, roomVerdict};
+
+pub(crate) fn refuse_if(test: bool, number: usize, place: usize) -> Verdict
+    ensures { λ r. ⌜ r ≡ refuseIf test number place ⌝ }
+{
+    if test {
+        return Verdict { number, place };
+    }
+    Verdict {
+        number: 0,
+        place: 0,
+    }
+}
+
+// 2, or 3 for sides that are not C long.
+pub(crate) fn lengths_verdict(sizes: &[u16], sides: &[u16]) -> Verdict
+    ensures { λ r. do ⌜ r ≡ lengthsVerdict (← ⟦Job::MOST_FILES⟧ .entry) (now (sizes .entry)) (now (sides .entry)) ⌝ }
+{
+    let over = refuse_if(Job::MOST_FILES < sizes.len(), 2, 0);
+    if over.number != 0 {
+        return over;
+    }
+    refuse_if(!(sides.len() == sizes.len()), 3, 0)
+}
+
+// 3 for what is lent, then 6.
+pub(crate) fn room_verdict(sides: &[u16], lent: bool) -> Verdict
+    ensures { λ r. ⌜ r ≡ roomVerdict (now (sides .entry)) lent ⌝ }
+{
+    let short = refuse_if(!lent, 3, 0);
+    if short.number != 0 {
+        return short;
+    }
+    let f = first_bad_side(sides);
+    refuse_if(f < sides.len(), 6, f)
+}

@@ -1,0 +1,158 @@
+-- An input longer than the largest job is refused for its length, whatever stands after its first bytes. Assumes nothing.
+use mathlib.Core.Path.{_≡_, refl, sym, ap, ap₂, _∙_}
+use mathlib.Core.Logic.{_≢_}
+use Prim.Native.Nat.{ℕ, _+_, _-_, _*_, _/_, _≤_, _<_}
+use mathlib.Core.Bool.{Bool, true, false, not, cond, _||_}
+use mathlib.Core.List.{List}
+use native.Mathlib.Decide.{decLt, ℕ-discrete}
+use native.Mathlib.Omega.{arith}
+use lib.Dec.{ltb, eqb}
+use lib.ListN.{length, take, drop, length-take}
+use lib.Seq.{take-all, take-take}
+use borrow.Author.Tests.{le-ltb, ltb-false, eqb-true, eq-eqb, ne-eqb}
+use Rattle.rules.specs.declared.Verdict.{Verdict}
+use Rattle.rules.specs.declared.Header.{Header}
+use Rattle.rules.specs.Job.{Limits}
+use Rattle.rules.specs.Check.{done, isDone, refuseIf, _orElse_, check1Of, check2Of, check4to6}
+use Rattle.rules.specs.Stored.{blockCheck, word, blockAt, valueIn, headerOf, blocksFor, blockCount, kindOf, valuesIn, laidOut, blockVerdict, blocksVerdict, jobOf, Room, roomy, layoutVerdict, readVerdict}
+use Rattle.rules.specs.Report.{refusal, prints, allRoom}
+use Rattle.rules.specs.Trace.{traces}
+use Rattle.rules.specs.Theorems.{mostBytes, Longer}
+use Rattle.rules.proofs.Verdicts.{chain-stop, passes-both, not-refused}
+use Rattle.rules.proofs.Tests.{or-no, not-no}
+
+-- what follows a link of a chain counts only where the link lets through
+same-after : (v w w' : Verdict) → (v .number ≡ 0 → w ≡ w') → (v orElse w) ≡ (v orElse w')
+same-after v w w' f = go (eqb (v .number) 0) refl
+  where
+    go : (b : Bool) → eqb (v .number) 0 ≡ b → (v orElse w) ≡ (v orElse w')
+    go true q = rw q (f (eqb-true (v .number) 0 q))
+    go false q = rw q refl
+
+-- blocks grow with what they hold
+blocks-grow : (a b : ℕ) → a ≤ b → (blocksFor 126 a ≤ blocksFor 126 b) × (blocksFor 253 a ≤ blocksFor 253 b)
+blocks-grow a b h = (omega arith, omega arith)
+
+module _ (most : Limits) (k : ℕ) (input : List ℕ) (more : mostBytes most < k) (long : k < length input) where
+  abbrev cut-off : List ℕ
+  cut-off = take k input
+
+  cut-length : length cut-off ≡ k
+  cut-length = omega (arith, length-take k input)
+
+  first-block : blockAt cut-off 0 ≡ blockAt input 0
+  first-block = take-take 512 k input (omega arith)
+
+  header-same : headerOf cut-off ≡ headerOf input
+  unfolding headerOf
+  header-same = ap (λ (b : List ℕ). record {
+    files = valueIn b 0;
+    recipes = valueIn b 1;
+    pins = valueIn b 2;
+    num = valueIn b 3;
+    den = valueIn b 4;
+    cap = valueIn b 5;
+  }) first-block
+
+  zeroth-same : (h : Header) → blockVerdict h cut-off 0 ≡ blockVerdict h input 0
+  unfolding blockVerdict
+  zeroth-same h = ap (λ (block : List ℕ). refuseIf (not (eqb (word block 510) (blockCheck block))) 21 0 orElse refuseIf (not (laidOut block 0 (kindOf h 0) (valuesIn h 0))) 22 0) first-block
+
+  -- what the most lets through is shorter
+  short : (h : Header) → check2Of most (h .files) (h .recipes) (h .pins) .number ≡ 0 → 512 * blockCount h < k
+  short h z =
+      let f = ltb (most .files) (h .files) in
+      let n = ltb (most .recipes) (h .recipes) in
+      let p = ltb (most .pins) (h .pins) in
+      let o = or-no (f || n) p (not-refused (f || n || p) 1 0 z) in
+      let q = or-no f n (o .0) in
+      omega (
+        arith,
+        more,
+        blocks-grow (h .files) (most .files) (ltb-false (most .files) (h .files) (q .0)) .0,
+        blocks-grow (h .recipes + 1) (most .recipes + 1) (omega (arith, ltb-false (most .recipes) (h .recipes) (q .1))) .1,
+        blocks-grow (h .pins) (most .pins) (ltb-false (most .pins) (h .pins) (o .1)) .1,
+      )
+
+  -- a longer input is not as the header makes it
+  unlike : (h : Header) (bytes : List ℕ) (w : Verdict) → 512 * blockCount h < length bytes → (refuseIf (not (eqb (length bytes) (512 * blockCount h))) 20 0 orElse w) ≡ refuseIf true 20 0
+  unlike h bytes w l = rw (ne-eqb (length bytes) (512 * blockCount h) (λ e. omega (arith, e))) refl
+
+  -- the order of layoutVerdict, with the header's figures apart from the bytes
+  abbrev layout-by : Header → List ℕ → Room → Verdict
+  layout-by h bytes room =
+      refuseIf (ltb (length bytes) 512) 20 0
+      orElse blockVerdict h bytes 0
+      orElse check1Of (h .files) (h .recipes)
+      orElse check2Of most (h .files) (h .recipes) (h .pins)
+      orElse refuseIf (not (roomy h room)) 3 0
+      orElse refuseIf (not (eqb (length bytes) (512 * blockCount h))) 20 0
+      orElse blocksVerdict h bytes 1 (blockCount h - 1)
+
+  enough : refuseIf (ltb (length cut-off) 512) 20 0 ≡ refuseIf (ltb (length input) 512) 20 0
+  enough = rw (le-ltb (length cut-off) 512 (omega (arith, cut-length)), le-ltb (length input) 512 (omega arith)) refl
+
+  links : (h : Header) (room : Room) → layout-by h cut-off room ≡ layout-by h input room
+  links h room =
+      let one = check1Of (h .files) (h .recipes) in
+      let two = check2Of most (h .files) (h .recipes) (h .pins) in
+      let three = refuseIf (not (roomy h room)) 3 0 in
+      let last : List ℕ → Verdict = λ bytes. refuseIf (not (eqb (length bytes) (512 * blockCount h))) 20 0 orElse blocksVerdict h bytes 1 (blockCount h - 1) in
+      let ends : two .number ≡ 0 → last cut-off ≡ last input
+      = λ z. unlike h cut-off (blocksVerdict h cut-off 1 (blockCount h - 1)) (omega (arith, short h z, cut-length)) ∙ sym (unlike h input (blocksVerdict h input 1 (blockCount h - 1)) (omega (arith, short h z))) in
+      let figures : (one orElse two orElse three orElse last cut-off) ≡ (one orElse two orElse three orElse last input)
+      = same-after one (two orElse three orElse last cut-off) (two orElse three orElse last input)
+      (λ _. same-after two (three orElse last cut-off) (three orElse last input) (λ z. same-after three (last cut-off) (last input) (λ _. ends z))) in
+      ap₂ (λ (v w : Verdict). v orElse w) enough (ap₂ (λ (v w : Verdict). v orElse w) (zeroth-same h) figures)
+
+  layout-same : (room : Room) → layoutVerdict most cut-off room ≡ layoutVerdict most input room
+  unfolding layoutVerdict
+  layout-same room = ap (λ (h : Header). layout-by h cut-off room) header-same ∙ links (headerOf input) room
+
+  -- and it is refused
+  layout-no : (room : Room) → layoutVerdict most input room .number ≢ 0
+  unfolding layoutVerdict
+  layout-no room ok =
+      let h : Header = headerOf input in
+      let b = passes-both (refuseIf (ltb (length input) 512) 20 0) _ ok in
+      let c = passes-both (blockVerdict h input 0) _ (b .1) in
+      let d = passes-both (check1Of (h .files) (h .recipes)) _ (c .1) in
+      let e = passes-both (check2Of most (h .files) (h .recipes) (h .pins)) _ (d .1) in
+      let f = passes-both (refuseIf (not (roomy h room)) 3 0) _ (e .1) in
+      let l = short h (e .0) in
+      omega (arith, ap (λ (v : Verdict). v .number) (unlike h input (blocksVerdict h input 1 (blockCount h - 1)) (omega (arith, l))), f .1)
+
+  refused-layout : (bytes : List ℕ) (room : Room) → layoutVerdict most bytes room .number ≢ 0 → readVerdict most bytes room ≡ layoutVerdict most bytes room
+  unfolding readVerdict
+  refused-layout bytes room n = sym (chain-stop (check4to6 (jobOf bytes)) refl n)
+
+  read-same : (room : Room) → readVerdict most cut-off room ≡ readVerdict most input room
+  read-same room =
+      refused-layout cut-off room (λ z. layout-no room (sym (ap (λ (v : Verdict). v .number) (layout-same room)) ∙ z)) ∙ layout-same room ∙ sym (refused-layout input room (layout-no room))
+
+  read-no : (room : Room) → readVerdict most input room .number ≢ 0
+  read-no room z = layout-no room (sym (ap (λ (v : Verdict). v .number) (refused-layout input room (layout-no room))) ∙ z)
+
+-- a refusal is all that is printed of an input that is refused
+pub prints-no : (most : Limits) (bytes : List ℕ) → readVerdict most bytes (allRoom most) .number ≢ 0 → prints most bytes ≡ refusal (readVerdict most bytes (allRoom most))
+unfolding prints
+prints-no most bytes n = rw (ne-eqb (readVerdict most bytes (allRoom most) .number) 0 n, prints) refl
+
+pub traces-no : (most : Limits) (bytes : List ℕ) → readVerdict most bytes (allRoom most) .number ≢ 0 → traces most bytes ≡ refusal (readVerdict most bytes (allRoom most))
+unfolding traces
+traces-no most bytes n = rw (ne-eqb (readVerdict most bytes (allRoom most) .number) 0 n, traces) refl
+
+-- what a program prints of a refused input, it prints of the input cut off
+cut-same : (most : Limits) (k : ℕ) (input : List ℕ) (tell : List ℕ → List ℕ)
+    → ((bytes : List ℕ) → readVerdict most bytes (allRoom most) .number ≢ 0 → tell bytes ≡ refusal (readVerdict most bytes (allRoom most)))
+    → mostBytes most < k → tell (take k input) ≡ tell input
+cut-same most k input tell told more = elim (decLt k (length input)) [
+  | yes long ↦
+      let same = read-same most k input more long (allRoom most) in
+      let n = read-no most k input more long (allRoom most) in
+      told (take k input) (λ z. n (sym (ap (λ (v : Verdict). v .number) same) ∙ z)) ∙ ap refusal same ∙ sym (told input n)
+  | no n ↦ ap tell (take-all k input (omega arith))
+]
+
+pub longer-same : (most : Limits) (k : ℕ) (input : List ℕ) → Longer most k input
+longer-same most k input = record { same = cut-same most k input (prints most) (prints-no most); traced = cut-same most k input (traces most) (traces-no most) }

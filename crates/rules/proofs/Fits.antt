@@ -1,0 +1,43 @@
+-- Lent lists that fit, length by length. Assumes nothing.
+use mathlib.Core.Path.{_≡_}
+use Prim.Native.Nat.{_*_, _≤_}
+use mathlib.Core.Bool.{true}
+use lib.ListN.{length}
+use lib.Dec.{leb, eqb}
+use borrow.Author.Tests.{leb-true, le-leb, eqb-true, eq-eqb}
+use Rattle.rules.specs.Job.{Job, fileCount, recipeCount, Lent, scratchFor, fits}
+use Rattle.rules.proofs.Tests.{and-yes}
+
+pub record Roomy (job : Job) (l : Lent) : Type 0 where
+  pub gains : length (l .gains) ≡ fileCount job
+  pub tried : fileCount job ≤ length (l .tried)
+  pub gained : fileCount job ≤ length (l .gained)
+  pub cuts : fileCount job ≤ length (l .cuts)
+  pub scansSoFar : fileCount job ≤ length (l .ends)
+  pub scannedRecipes : 4 * recipeCount job ≤ length (l .recipes)
+  pub scannedKinds : 4 * recipeCount job ≤ length (l .kinds)
+  pub scratch : scratchFor job ≤ length (l .scratch)
+
+pub roomy : (job : Job) (l : Lent) → fits job l ≡ true → Roomy job l
+roomy job l ok =
+    let t8 = and-yes _ (leb (scratchFor job) (length (l .scratch))) ok in
+    let t7 = and-yes _ (leb (4 * recipeCount job) (length (l .kinds))) (t8 .0) in
+    let t6 = and-yes _ (leb (4 * recipeCount job) (length (l .recipes))) (t7 .0) in
+    let t5 = and-yes _ (leb (fileCount job) (length (l .ends))) (t6 .0) in
+    let t4 = and-yes _ (leb (fileCount job) (length (l .cuts))) (t5 .0) in
+    let t3 = and-yes _ (leb (fileCount job) (length (l .gained))) (t4 .0) in
+    let t2 = and-yes (eqb (length (l .gains)) (fileCount job)) (leb (fileCount job) (length (l .tried))) (t3 .0) in
+    record {
+      gains = eqb-true (length (l .gains)) (fileCount job) (t2 .0);
+      tried = leb-true (fileCount job) (length (l .tried)) (t2 .1);
+      gained = leb-true (fileCount job) (length (l .gained)) (t3 .1);
+      cuts = leb-true (fileCount job) (length (l .cuts)) (t4 .1);
+      scansSoFar = leb-true (fileCount job) (length (l .ends)) (t5 .1);
+      scannedRecipes = leb-true (4 * recipeCount job) (length (l .recipes)) (t6 .1);
+      scannedKinds = leb-true (4 * recipeCount job) (length (l .kinds)) (t7 .1);
+      scratch = leb-true (scratchFor job) (length (l .scratch)) (t8 .1);
+    }
+
+pub roomy-fits : {job : Job} {l : Lent} → Roomy job l → fits job l ≡ true
+roomy-fits {job} {l} r =
+    rw (eq-eqb (length (l .gains)) (fileCount job) (r .gains), le-leb (fileCount job) (length (l .tried)) (r .tried), le-leb (fileCount job) (length (l .gained)) (r .gained), le-leb (fileCount job) (length (l .cuts)) (r .cuts), le-leb (fileCount job) (length (l .ends)) (r .scansSoFar), le-leb (4 * recipeCount job) (length (l .recipes)) (r .scannedRecipes), le-leb (4 * recipeCount job) (length (l .kinds)) (r .scannedKinds), le-leb (scratchFor job) (length (l .scratch)) (r .scratch))

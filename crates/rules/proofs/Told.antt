@@ -1,0 +1,98 @@
+-- A pass that was made is told whole: the lists that it leaves hold all that a trace shows. Assumes nothing.
+use mathlib.Core.Path.{_≡_, refl, sym, ap, ap₂, _∙_}
+use Prim.Native.Nat.{ℕ, zero, suc, _+_, _*_, _≤_, _<_}
+use mathlib.Core.Bool.{Bool, true, false, not, _&&_, _||_}
+use mathlib.Core.List.{List, [], _∷_, map}
+use native.Mathlib.Omega.{arith}
+use native.Mathlib.Nat.{add-zero}
+use lib.ListN.{length, getD, length-append, length-map}
+use lib.Dec.{leb, ltb, eqb}
+use borrow.Author.Tests.{le-ltb, le-leb, leb-true, eq-eqb}
+use Rattle.rules.specs.declared.Figures.{Figures}
+use Rattle.rules.specs.Lists.{lowest, someBelow, total}
+use Rattle.rules.specs.Job.{Job, Limits, fileCount, recipeCount, recipes, Lent, scratchFor, fits}
+use Rattle.rules.specs.Check.{done}
+use Rattle.rules.specs.Move.{State, moved, Scan, scansOf, scans, endsFrom, start}
+use Rattle.rules.specs.Pass.{Pass, passOf, tries, pass, leaves}
+use Rattle.rules.specs.Run.{figuresOf}
+use Rattle.rules.specs.Trace.{Listing, listing, scansBefore, badEnd, holdsPass}
+use Rattle.rules.specs.Theorems.{Sound, MovesHold, Left}
+use Rattle.rules.proofs.Proved.{pass-holds, left, given-sides}
+use Rattle.rules.proofs.Searches.{lowest-none}
+use Rattle.rules.proofs.Steps.{ends-length}
+use Rattle.rules.proofs.Fits.{roomy}
+
+-- where the scans of move i begin, if the first begin at n
+abbrev begins : List ℕ → ℕ → ℕ → ℕ
+begins ends n zero = n
+begins ends n (suc i) = getD ends i 0
+
+-- the ends rise, and do not pass the scans
+ends-rise : (rs : List (List ℕ)) (n : ℕ) (st : State) (ms : List ℕ) (i : ℕ) → i < length ms
+    → (begins (endsFrom rs n st ms) n i ≤ getD (endsFrom rs n st ms) i 0) × (getD (endsFrom rs n st ms) i 0 ≤ n + length (scans rs st ms))
+unfolding endsFrom scans
+ends-rise rs n st [] i h = absurd (omega arith)
+ends-rise rs n st (f ∷ fs) zero h = (omega arith, omega (arith, length-append (scansOf rs st f) (scans rs (moved st f) fs)))
+ends-rise rs n st (f ∷ fs) (suc zero) h =
+    let r = ends-rise rs (n + length (scansOf rs st f)) (moved st f) fs zero (omega arith) in
+    (r .0, omega (arith, r .1, length-append (scansOf rs st f) (scans rs (moved st f) fs)))
+ends-rise rs n st (f ∷ fs) (suc (suc i)) h =
+    let r = ends-rise rs (n + length (scansOf rs st f)) (moved st f) fs (suc i) (omega arith) in
+    (r .0, omega (arith, r .1, length-append (scansOf rs st f) (scans rs (moved st f) fs)))
+
+module _ (most : Limits) (job : Job) (s : Sound most job) (l : Lent) (ok : fits job l ≡ true) where
+  abbrev one : Pass
+  one = pass job (job .sides)
+
+  moves : MovesHold job (job .sides) (tries job (job .sides))
+  moves = pass-holds most job s (job .sides) (given-sides most job s) .moves
+
+  there : Left job l one
+  there = left most job s (job .sides) (tries job (job .sides)) l ok moves
+
+  abbrev told : Listing
+  told = listing (leaves job l one)
+
+  -- the ends that are told are those of the pass
+  end-told : (i : ℕ) → i < length (tries job (job .sides)) → getD (told .ends) i 0 ≡ getD (endsFrom (recipes job) 0 (start job (job .sides)) (tries job (job .sides))) i 0
+  unfolding passOf
+  end-told i h = there .ends .holds 0 i (rw (ends-length (recipes job) 0 (start job (job .sides)) (tries job (job .sides))) h)
+
+  begin-told : (i : ℕ) → i < length (tries job (job .sides)) → scansBefore told i ≡ begins (endsFrom (recipes job) 0 (start job (job .sides)) (tries job (job .sides))) 0 i
+  begin-told zero h = refl
+  begin-told (suc i) h = end-told i (omega arith)
+
+  few-scans : length (scans (recipes job) (start job (job .sides)) (tries job (job .sides))) ≤ 4 * recipeCount job
+  unfolding passOf
+  few-scans = moves .scans
+
+  no-bad-end : (i : ℕ) → i < length (tries job (job .sides)) → badEnd told i ≡ false
+  no-bad-end i h =
+      let r = ends-rise (recipes job) 0 (start job (job .sides)) (tries job (job .sides)) i h in
+      let e = end-told i h in
+      let f = roomy job l ok in
+      let rise : ltb (getD (told .ends) i 0) (scansBefore told i) ≡ false = le-ltb (getD (told .ends) i 0) (scansBefore told i) (omega (arith, e, begin-told i h, r .0)) in
+      let within : ltb (length (told .recipes)) (getD (told .ends) i 0) ≡ false = le-ltb (length (told .recipes)) (getD (told .ends) i 0) (omega (arith, e, r .1, few-scans, there .recipes .long, f .scannedRecipes)) in
+      let kinds : ltb (length (told .kinds)) (getD (told .ends) i 0) ≡ false = le-ltb (length (told .kinds)) (getD (told .ends) i 0) (omega (arith, e, r .1, few-scans, there .kinds .long, f .scannedKinds)) in
+      rw (rise, within, kinds) refl
+
+  tried-told : figuresOf done one (one ∷ []) .tried ≡ length (tries job (job .sides))
+  unfolding figuresOf total passOf
+  tried-told = add-zero (length (tries job (job .sides)))
+
+  pub pass-told : holdsPass (job .sizes) (figuresOf done one (one ∷ [])) told ≡ true
+  pass-told =
+      let f = roomy job l ok in
+      let n = length (tries job (job .sides)) in
+      let ends : someBelow (badEnd told) n ≡ false = ap (λ (i : ℕ). ltb i n) (lowest-none (badEnd told) n no-bad-end) ∙ le-ltb n n (omega arith) in
+      let gains : length (told .gains) ≡ fileCount job = ap length (there .gains) ∙ moves .all in
+      rw (
+        tried-told,
+        eq-eqb (length (told .gains)) (fileCount job) gains,
+        le-leb n (fileCount job) (moves .few),
+        le-leb n (length (told .tried)) (omega (arith, moves .few, there .tried .long, f .tried)),
+        le-leb n (length (told .gained)) (omega (arith, moves .few, there .gained .long, f .gained)),
+        le-leb n (length (told .cuts)) (omega (arith, moves .few, there .cuts .long, f .cuts)),
+        le-leb n (length (told .ends)) (omega (arith, moves .few, there .ends .long, f .scansSoFar)),
+        ends,
+      ) refl

@@ -1,0 +1,77 @@
+-- A run after its first k passes: the sums so far, and what the lists then hold. Assumes nothing.
+use mathlib.Core.Path.{_≡_}
+use Prim.Native.Nat.{ℕ, _+_, _≤_, _<_, _^_}
+use mathlib.Core.Bool.{Bool, true, false, not, cond, _&&_, _||_}
+use mathlib.Core.List.{List}
+use lib.ListN.{length, take}
+use lib.Dec.{ltb, eqb}
+use Rattle.rules.specs.declared.Figures.{Figures}
+use Rattle.rules.specs.declared.RunFigures.{RunFigures}
+use Rattle.rules.specs.Job.{Job, asJob, Lent}
+use Rattle.rules.specs.Check.{done, isDone}
+use Rattle.rules.specs.Pass.{Pass, pass, leaves}
+use Rattle.rules.specs.Run.{settles, run, lastOf, figuresOf, runFiguresOf, leftBy, Ended}
+
+-- ---- the answer so far
+
+-- counts are sums over the passes; the cut before is the first pass's; the cut and |A| after are the last pass's
+unfoldable pub plusOf : Figures → Figures → Figures
+plusOf sum f = record {
+  verdict = sum .verdict;
+  before = sum .before;
+  cut = f .cut;
+  size = f .size;
+  tried = sum .tried + f .tried;
+  kept = sum .kept + f .kept;
+  scans = sum .scans + f .scans;
+  visits = sum .visits + f .visits;
+}
+
+-- with one pass more; a refused pass is none
+unfoldable pub withPass : RunFigures → Figures → RunFigures
+withPass sum f = elim (isDone (f .verdict)) [
+  | true ↦ record {
+    figures = cond (eqb (sum .passes) 0) f (plusOf (sum .figures) f);
+    passes = sum .passes + 1;
+    settled = eqb (f .cut) (f .before);
+  }
+  | false ↦ record { figures = f; passes = 0; settled = false }
+]
+
+-- another pass follows: the last did not leave the cut equal, and the cap is not reached
+abbrev pub follows : ℕ → ℕ → Bool → Bool
+follows cap passes settled = not settled && (eqb cap 0 || ltb passes cap)
+
+-- and none was refused
+abbrev pub goesOn : ℕ → RunFigures → Bool
+goesOn cap sum = isDone (sum .figures .verdict) && follows cap (sum .passes) (sum .settled)
+
+-- the sums can be added up
+pub record SumsFit (sum : Figures) : Type 0 where
+  pub tried : sum .tried < 2 ^ 63
+  pub kept : sum .kept < 2 ^ 63
+  pub scans : sum .scans < 2 ^ 63
+  pub visits : sum .visits < 2 ^ 63
+
+-- ---- what it stands for
+
+-- the same job, started from other sides
+abbrev pub withSides : Job → List ℕ → Job
+withSides job sides = asJob (job .sizes) sides (job .marks) (job .bounds) (job .pins) (job .num) (job .den) (job .cap)
+
+-- the last of the first k passes
+abbrev pub lastAt : Job → ℕ → Pass
+lastAt job k = lastOf (pass job (job .sides)) (take k (run job))
+
+-- after the first k passes
+pub record Running (job : Job) (l : Lent) (k : ℕ) (sum : Figures) (settled : Bool) (sides : List ℕ) (lent : Lent) : Type 0 where
+  pub some : 1 ≤ k
+  pub few : k ≤ length (run job)
+  pub sums : sum ≡ figuresOf done (pass job (job .sides)) (take k (run job))
+  pub equal : settled ≡ settles (lastAt job k)
+  pub standing : sides ≡ lastAt job k .sidesAfter
+  pub lists : lent ≡ leaves job l (lastAt job k)
+
+-- the run of a job that is not refused: its figures, and what it leaves
+abbrev pub runLeft : Job → Lent → Ended RunFigures
+runLeft job l = leftBy job l (runFiguresOf done (pass job (job .sides)) (run job)) (lastOf (pass job (job .sides)) (run job))

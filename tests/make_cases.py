@@ -1,0 +1,407 @@
+"""Stored jobs for the programs, each with the report that the reference makes of it.
+
+    python3 tests/make_cases.py                  the names, one to a line
+    python3 tests/make_cases.py NAME             one name, its bytes and its report
+    python3 tests/make_cases.py --write DIR      DIR/NAME.job and DIR/NAME.report of all
+    python3 tests/make_cases.py --examples DIR   the same of the two examples alone
+    python3 tests/make_cases.py --program DIR    DIR/stdin and DIR/stdout of the program `cases`
+    python3 tests/make_cases.py --compare PROGRAM
+                     run the program on every job and compare what it prints
+
+The jobs are the same at every run: all that is random goes by a fixed seed.
+"""
+
+import itertools
+import pathlib
+import random
+import subprocess
+import sys
+
+sys.path.insert(0, str(pathlib.Path(__file__).parent / "reference"))
+
+import faults
+import planner
+import samples
+from mill import mill
+from planner import A, B, FREE, PINNED, make_block, write_job, write_values
+
+SEED = 1982
+
+
+# ---- Small jobs that more than one group uses
+
+
+def wide(files, **fields):
+    """So many files of size 1, A and B in turn, in one recipe of two."""
+    job = planner.Job(
+        sizes=[1] * files,
+        sides=[i % 2 for i in range(files)],
+        marks=[FREE] * files,
+        bounds=[0, 2],
+        pins=[0, 1],
+        num=1,
+        den=2,
+        cap=0,
+    )
+    return job.changed(**fields)
+
+
+def row(files):
+    """So many files in a row, each in one recipe with the next."""
+    pairs = [[i, i + 1] for i in range(files - 1)]
+    return samples.job_of_recipes(
+        pairs,
+        sizes=[1] * files,
+        sides=[i % 2 for i in range(files)],
+        marks=[FREE] * files,
+        num=1,
+        den=2,
+        cap=0,
+    )
+
+
+def large(length, **fields):
+    """1,024 files in recipes of this length that go round them four times."""
+    job = planner.Job(
+        sizes=[1] * 1024,
+        sides=[i % 2 for i in range(1024)],
+        marks=[FREE] * 1024,
+        bounds=range(0, 4097, length),
+        pins=[k % 1024 for k in range(4096)],
+        num=1,
+        den=2,
+        cap=0,
+    )
+    return job.changed(**fields)
+
+
+# ---- Groups: each yields a name and the bytes of a stored job
+
+
+def own_cases():
+    """Those that document 01 gives."""
+    yield "chain", write_job(samples.chain())
+    yield "chain_cap_1", write_job(samples.chain(cap=1))
+    yield "chain_cap_2", write_job(samples.chain(cap=2))
+    yield "chain_cap_65535", write_job(samples.chain(cap=65535))
+    yield "m5", write_job(samples.two_files())
+    yield "m6", write_job(samples.three_files())
+    yield "m9", bytes(512)
+
+
+def limits():
+    """The most of each count and one more, and the blocks that counts just fill."""
+    yield "files_1024", write_job(wide(1024))
+    yield "files_1025", write_job(wide(1025))
+    yield "recipes_1024", write_job(large(4))
+    yield "recipes_1025", write_job(large(4, bounds=range(0, 4101, 4)))
+    yield "pins_4096_in_four", write_job(large(1024, cap=1))
+    yield "pins_4097", write_job(large(1024, pins=[0] * 4097))
+    for files in (125, 126, 127, 252, 253):
+        yield f"files_{files}", write_job(wide(files))
+    # 253 and 254 bounds, and pins of 252, 254, 506 and 508.
+    for files in (127, 128, 253, 254, 255):
+        yield f"row_of_{files}", write_job(row(files))
+    for pins in (252, 253, 254, 506, 507, 1024):
+        job = wide(pins, bounds=[0, pins], pins=range(pins))
+        yield f"one_recipe_of_{pins}", write_job(job)
+    yield "den_1000", write_job(samples.chain().changed(num=500, den=1000))
+    yield "den_1001", write_job(samples.chain().changed(num=500, den=1001))
+    yield "num_is_den", write_job(samples.chain().changed(num=2))
+    yield "num_is_den_1000", write_job(samples.chain().changed(num=1000, den=1000))
+    # Products over 32 bits, and a walk in which each distance differs.
+    heavy = large(4, sizes=[65535] * 1024, num=500, den=1000, cap=2)
+    yield "sizes_65535", write_job(heavy)
+    rising = [1 + 64 * i for i in range(1024)]
+    yield "sizes_rising", write_job(large(4, sizes=rising, num=499, den=1000, cap=1))
+
+
+def refusals():
+    """Every number at several places, in jobs whose layout is right."""
+    chain = samples.chain()
+    yield "no_1_files", write_values((0, 3, 6, 1, 2, 0), [], chain.bounds, chain.pins)
+    files = planner.file_values(chain)
+    yield "no_1_recipes", write_values((4, 0, 6, 1, 2, 0), files, [0], chain.pins)
+    yield "no_1_header_alone", make_block(0, 1, (0, 0, 0, 0, 0, 0))
+    yield "no_2_header_alone", make_block(0, 1, (65535,) * 6)
+    for name, header in (
+        ("files", (1025, 3, 6)),
+        ("recipes", (4, 1025, 6)),
+        ("pins", (4, 3, 4097)),
+    ):
+        yield f"no_2_{name}", make_block(0, 1, header + (1, 2, 0))
+    for name, bounds in (
+        ("first", [1, 2, 4, 6]),
+        ("recipe_0", [0, 1, 4, 6]),
+        ("recipe_0_empty", [0, 0, 4, 6]),
+        ("recipe_1", [0, 2, 3, 6]),
+        ("recipe_1_falls", [0, 4, 2, 6]),
+        ("recipe_2", [0, 2, 5, 6]),
+        ("recipe_2_falls_far", [0, 2, 65535, 1]),
+        ("recipe_1_near_the_top", [0, 65534, 65535, 6]),
+        ("end_above", [0, 2, 4, 7]),
+        ("end_far_above", [0, 2, 4, 65535]),
+    ):
+        yield f"no_4_{name}", write_job(chain.changed(bounds=bounds))
+    yield "no_4_end_below", write_job(chain.changed(pins=[0, 1, 2, 3, 1, 2, 3]))
+    yield "no_4_no_pins", write_job(chain.changed(pins=[]))
+    for place, pins in (
+        (0, [4, 1, 2, 3, 1, 2]),
+        (1, [0, 0, 2, 3, 1, 2]),
+        (3, [0, 1, 2, 65535, 1, 2]),
+        (5, [0, 1, 2, 3, 1, 1]),
+    ):
+        yield f"no_5_at_{place}", write_job(chain.changed(pins=pins))
+    yield "no_5_not_across", write_job(chain.changed(pins=[0, 1, 1, 0, 0, 1]))
+    for file in range(4):
+        sizes = [0 if i == file else 1 for i in range(4)]
+        yield f"no_6_at_{file}", write_job(chain.changed(sizes=sizes))
+    for num, den in ((0, 2), (3, 2), (0, 0), (1, 0), (1, 1), (65535, 65535)):
+        yield f"no_7_{num}_of_{den}", write_job(chain.changed(num=num, den=den))
+    yield "no_8", write_job(chain.changed(marks=[PINNED] * 4))
+    for file in (0, 3):
+        marks = [FREE if i == file else PINNED for i in range(4)]
+        yield f"free_{file}_alone", write_job(chain.changed(marks=marks))
+    yield "no_9_all_in_a", write_job(chain.changed(sides=[A] * 4))
+    yield "no_9_all_in_b", write_job(chain.changed(sides=[B] * 4))
+    # |A| is 2 of 4, and smax 1: balanced from a quarter up to three.
+    for num, den in ((1, 4), (249, 1000), (3, 4), (751, 1000)):
+        job = chain.changed(num=num, den=den)
+        yield f"edge_of_balance_{num}_of_{den}", write_job(job)
+
+
+def large_refusals():
+    """The last places of the largest job, over several blocks of a kind."""
+    for place, bound in ((512, 2045), (1023, 4095), (1024, 4095), (1024, 65535)):
+        bounds = list(range(0, 4097, 4))
+        bounds[place] = bound
+        yield f"large_no_4_{place}_{bound}", write_job(large(4, bounds=bounds))
+    for place, pin in ((253, 1024), (4095, 1024), (4095, 1020), (4095, 1022)):
+        pins = [k % 1024 for k in range(4096)]
+        pins[place] = pin
+        yield f"large_no_5_{place}_{pin}", write_job(large(4, pins=pins))
+    for place in (125, 126, 1023):
+        sizes = [0 if i == place else 1 for i in range(1024)]
+        yield f"large_no_6_{place}", write_job(large(4, sizes=sizes))
+
+
+def lengths():
+    """Files shorter and longer than they must be."""
+    data = write_job(samples.chain())
+    for length in (0, 1, 2, 510, 511, 512, 513, 1024, 1536, 2047):
+        yield f"no_20_{length}_bytes", data[:length]
+    yield "no_20_one_byte_more", data + b"\0"
+    yield "no_20_a_block_more", data + data[-512:]
+    yield "no_20_a_block_less_of_the_largest", write_job(large(4))[:-512]
+    yield "no_20_a_byte_more_than_the_largest", write_job(large(4)) + b"\0"
+    yield "no_20_many_more", data + bytes(20000)
+    yield "m9_and_more", bytes(1024)
+
+
+# Name, byte and what is put there, of any block of the chain.
+WRONG_HEADS = (
+    ("number", 0, 7),
+    ("number_high", 1, 1),
+    ("kind_0", 2, 0),
+    ("kind_other", 2, 5),
+    ("count_0", 3, 0),
+    ("count_more", 3, 10),
+    ("count_255", 3, 255),
+    ("last_unused_low", 508, 1),
+    ("last_unused_high", 509, 128),
+)
+
+
+def layouts():
+    """One wrong byte of one block at a time."""
+    for block in range(4):
+        for name, at in (("low", 510), ("high", 511), ("head", 0), ("value", 4)):
+            data = bytearray(write_job(samples.chain()))
+            data[512 * block + at] ^= 1
+            yield f"no_21_block_{block}_{name}", bytes(data)
+        for name, at, byte in WRONG_HEADS:
+            blocks = faults.Blocks(samples.chain())
+            blocks.set_byte(block, at, byte)
+            yield f"no_22_block_{block}_{name}", blocks.stored()
+        blocks = faults.Blocks(samples.chain())
+        used = blocks.blocks[block][3]
+        blocks.set_value(block, used, 1)
+        yield f"no_22_block_{block}_first_unused", blocks.stored()
+    for file, second in ((0, 4), (3, 4), (1, 256), (2, 65535)):
+        blocks = faults.Blocks(samples.chain())
+        blocks.set_value(1, 2 * file + 1, second)
+        yield f"no_22_second_of_{file}_is_{second}", blocks.stored()
+
+
+def large_layouts():
+    """Blocks of the largest job: the first, the last of each kind, and the 253rd
+    value of a block of files, which is never used."""
+    for block in (0, 1, 9, 10, 14, 15, 31):
+        blocks = faults.Blocks(large(4))
+        blocks.set_step(block, 256)
+        yield f"large_no_21_block_{block}", blocks.stored()
+        blocks = faults.Blocks(large(4))
+        blocks.set_byte(block, 0, block ^ 1)
+        yield f"large_no_22_block_{block}", blocks.stored()
+    blocks = faults.Blocks(large(4))
+    blocks.set_value(5, 252, 1)
+    yield "large_no_22_unused_of_a_full_block", blocks.stored()
+
+
+def fault_name(fault):
+    (number, place), _ = fault
+    return f"{number}_at_{place}"
+
+
+def pairs():
+    """Two faults of the chain at once: every pair of faults.IN_ORDER."""
+    for early, late in itertools.combinations(faults.IN_ORDER, 2):
+        name = f"pair_{fault_name(early)}_and_{fault_name(late)}"
+        yield name, faults.stored_chain([early, late])
+
+
+def triples():
+    """Three neighbours in the order of the refusals."""
+    for three in zip(faults.IN_ORDER, faults.IN_ORDER[1:], faults.IN_ORDER[2:]):
+        name = "_and_".join(fault_name(fault) for fault in three)
+        yield f"triple_{name}", faults.stored_chain(three)
+
+
+# Name, how many, files, recipes, and the longest recipe: from tiny to full size.
+SHAPES = (
+    ("tiny", 60, (2, 8), (1, 8), 8),
+    ("small", 40, (8, 40), (4, 60), 6),
+    ("middle", 12, (60, 200), (60, 240), 8),
+    ("broad", 3, (600, 900), (500, 900), 5),
+)
+
+
+def random_jobs():
+    """Sound jobs of every size, with sizes, pins, ratios and caps of all sorts."""
+    rng = random.Random(SEED)
+    for name, count, files, recipes, longest in SHAPES:
+        for k in range(count):
+            job = samples.random_job(
+                rng,
+                files=rng.randint(*files),
+                recipes=rng.randint(*recipes),
+                longest=longest,
+                reach=rng.choice([0, 12, 30]),
+                top_size=rng.choice([1, 2, 9, 500, 65535]),
+                pinned=rng.choice([0, 0.05, 0.3, 0.8]),
+                den=rng.choice([2, 3, 10, 1000, None]),
+                cap=rng.choice([0, 0, 0, 1, 2, 65535]),
+            )
+            yield f"{name}_{k}", write_job(job)
+
+
+def full_jobs():
+    """1,024 files, 1,024 recipes and all 4,096 pins."""
+    rng = random.Random(SEED + 1)
+    for name, reach, top_size in (
+        ("even", 40, 1),
+        ("uneven", 1024, 900),
+        ("heavy", 24, 65535),
+    ):
+        job = samples.job_of_recipes(
+            [samples.near_files(rng, 1024, 4, reach) for _ in range(1024)],
+            sizes=[rng.randint(1, top_size) for _ in range(1024)],
+            sides=[A] * 1024,
+            marks=[PINNED if rng.random() < 0.03 else FREE for _ in range(1024)],
+            num=rng.randint(400, 600),
+            den=1000,
+            cap=0,
+        )
+        job = job.changed(sides=samples.balanced_sides(rng, job))
+        yield f"full_{name}", write_job(job)
+
+
+def mill_job():
+    yield "mill", write_job(mill())
+
+
+EXAMPLES = ("chain", "mill")
+
+
+GROUPS = (
+    own_cases,
+    limits,
+    refusals,
+    large_refusals,
+    lengths,
+    layouts,
+    large_layouts,
+    pairs,
+    triples,
+    random_jobs,
+    full_jobs,
+    mill_job,
+)
+
+
+def cases():
+    """Every name with its bytes, in a fixed order."""
+    found = {}
+    for name, data in itertools.chain.from_iterable(group() for group in GROUPS):
+        assert name not in found, f"two cases are named {name}"
+        found[name] = data
+    return found
+
+
+def write(folder, named):
+    folder.mkdir(parents=True, exist_ok=True)
+    for name, data in named:
+        (folder / f"{name}.job").write_bytes(data)
+        (folder / f"{name}.report").write_text(planner.run_stored(data))
+
+
+def framed(name, data):
+    """A case as the program takes it: the lengths of name and job, then both."""
+    return bytes([len(name)]) + len(data).to_bytes(3, "little") + name.encode() + data
+
+
+def write_program(folder, named):
+    """What the program `cases` reads, and what it must write of it."""
+    (folder / "stdin").write_bytes(b"".join(framed(*case) for case in named))
+    told = [f"{name}\n{planner.run_stored(data)}" for name, data in named]
+    (folder / "stdout").write_text("".join(told))
+
+
+def shown(name, data):
+    """One case as text: its name, its bytes by 32 in hexadecimal, its report."""
+    rows = [data[at : at + 32].hex(" ") for at in range(0, len(data), 32)]
+    return "\n".join([name, *rows, planner.run_stored(data)])
+
+
+def compare(program, named):
+    """Runs the program on each job; how many reports differ, each named."""
+    wrong = 0
+    for name, data in named:
+        done = subprocess.run([program], input=data, stdout=subprocess.PIPE)
+        if done.stdout.decode() != planner.run_stored(data):
+            wrong += 1
+            print(f"{name}: differs")
+    print(f"{len(named)} compared, {wrong} differ")
+    return wrong
+
+
+def main(words):
+    """What the program exits with."""
+    named = cases()
+    if not words:
+        print("\n".join(named))
+    elif words[0] == "--write":
+        write(pathlib.Path(words[1]), named.items())
+    elif words[0] == "--examples":
+        write(pathlib.Path(words[1]), [(name, named[name]) for name in EXAMPLES])
+    elif words[0] == "--program":
+        write_program(pathlib.Path(words[1]), named.items())
+    elif words[0] == "--compare":
+        return min(compare(words[1], named.items()), 1)
+    else:
+        print(shown(words[0], named[words[0]]), end="")
+    return 0
+
+
+if __name__ == "__main__":
+    sys.exit(main(sys.argv[1:]))
