@@ -7,6 +7,8 @@
     python3 tests/make_cases.py --program DIR    DIR/stdin and DIR/stdout of the program `cases`
     python3 tests/make_cases.py --compare PROGRAM
                      run the program on every job and compare what it prints
+    python3 tests/make_cases.py --compare-traces PROGRAM
+                     the same of a program that prints traces
 
 The jobs are the same at every run: all that is random goes by a fixed seed.
 """
@@ -373,12 +375,12 @@ def shown(name, data):
     return "\n".join([name, *rows, planner.run_stored(data)])
 
 
-def compare(program, named):
-    """Runs the program on each job; how many reports differ, each named."""
+def compare(program, named, told):
+    """Runs the program on each job; how many outputs differ, each named."""
     wrong = 0
     for name, data in named:
         done = subprocess.run([program], input=data, stdout=subprocess.PIPE)
-        if done.stdout.decode() != planner.run_stored(data):
+        if done.stdout.decode() != told(data):
             wrong += 1
             print(f"{name}: differs")
     print(f"{len(named)} compared, {wrong} differ")
@@ -397,7 +399,9 @@ def main(words):
     elif words[0] == "--program":
         write_program(pathlib.Path(words[1]), named.items())
     elif words[0] == "--compare":
-        return min(compare(words[1], named.items()), 1)
+        return min(compare(words[1], named.items(), planner.run_stored), 1)
+    elif words[0] == "--compare-traces":
+        return min(compare(words[1], named.items(), planner.trace), 1)
     else:
         print(shown(words[0], named[words[0]]), end="")
     return 0

@@ -1,5 +1,5 @@
--- The promise of the night's report settles its answer and the lent room: any two results that meet it, of the same arguments, are equal.
--- The promise cited is that which the check reads from the contract in src/. Assumes nothing.
+-- The promises of the night's report and of the trace settle their answer and the lent room: any two results that meet one, of the same
+-- arguments, are equal. The promises cited are those which the check reads from the contracts in src/. Assumes nothing.
 use mathlib.Core.Path.{_≡_, sym, _∙_}
 use contract.Lifetimes.{Lfts}
 use denote.Ref.{now}
@@ -8,7 +8,13 @@ use borrow.Fn.Kinds.{Dens, resT, endedOf}
 use Rattle.rules.specs.Report.{printed}
 use Rattle.planner.proofs.night.Kinds as kinds
 use Rattle.planner.proofs.night.Reads as night
+use Rattle.planner.proofs.trace.Kinds as trace-kinds
+use Rattle.planner.proofs.trace.Reads as trace
 
 pub night-settled : (κs : Lfts 2) (a : Dens κs kinds.ps) (x y : resT kinds.r κs .Denot) (e f : AtExit (endedOf 2 kinds.ps kinds.r) κs)
     → night.Post κs a x e → night.Post κs a y f → printed x (now (e .1 .0)) ≡ printed y (now (f .1 .0))
 night-settled κs a x y e f p q = p .0 ∙ sym (q .0)
+
+pub trace-settled : (κs : Lfts 2) (a : Dens κs trace-kinds.ps) (x y : resT trace-kinds.r κs .Denot) (e f : AtExit (endedOf 2 trace-kinds.ps trace-kinds.r) κs)
+    → trace.Post κs a x e → trace.Post κs a y f → printed x (now (e .1 .0)) ≡ printed y (now (f .1 .0))
+trace-settled κs a x y e f p q = p .0 ∙ sym (q .0)

@@ -7,14 +7,17 @@ use rules::RunFigures;
 use rules::Verdict;
 ghost use mathlib.Core.Path.{_≡_};
 ghost use mathlib.Core.Logic.{_≢_};
+ghost use mathlib.Core.Bool.{cond};
 ghost use Prim.Native.Nat.{_+_, _≤_};
-ghost use lib.ListN.{length};
+ghost use lib.ListN.{length, replicate};
+ghost use lib.IntN.{pos};
 ghost use Rattle.rules.specs.Job.{limitsOf, asJob};
 ghost use Rattle.rules.specs.Run.{noRunFigures};
 ghost use Rattle.rules.specs.Report.{refusal, «printed», intoRoom, prints};
+ghost use Rattle.rules.specs.Trace.{traces};
 ghost use Rattle.stored.specs.Room.{roomOf};
 ghost use Rattle.stored.specs.Steps.{firstOf};
-ghost use Rattle.planner.specs.Answering.{runReport, Answered, Within};
+ghost use Rattle.planner.specs.Answering.{runReport, passTrace, jobText, inputText, Answered, Within};
 
 // The blocks of the largest stored job, and one more, so that a longer input is seen to be longer.
 pub const INPUT_BYTES: usize = 512
@@ -25,6 +28,9 @@ pub const INPUT_BYTES: usize = 512
 
 // No report is longer.
 pub const TEXT_BYTES: usize = Job::MOST_FILES + 256;
+
+// No trace is longer: a line for each move and each scan, and a gain for each file.
+pub const TRACE_BYTES: usize = 512 + 128 * Job::MOST_FILES + 256 * Job::MOST_RECIPES;
 
 // A refusal: all other numbers are 0.
 fn refused(verdict: Verdict) -> RunFigures
@@ -99,6 +105,98 @@ fn print_run(
     report::report(r, sizes, sides, out)
 }
 
+// One pass of a job, with such lists too, and its trace; the gain list is one of the right length.
+fn print_moves(
+    job: Job,
+    sizes: &[u16],
+    sides: &mut [u16],
+    marks: &[u16],
+    bounds: &[u16],
+    pins: &[u16],
+    gains: &mut [i32],
+    out: &mut [u8],
+) -> Printed
+    requires { do ⌜ (length (now sizes) ≤ (← ⟦Job::MOST_FILES⟧)) × (length (now sides) ≡ length (now sizes)) × (now gains ≡ replicate (length (now sizes)) (pos 0)) ⌝ }
+    ensures { λ r. do ⌜ «printed» r (now (out .exit)) ≡ intoRoom (passTrace (limitsOf (← ⟦Job::MOST_FILES⟧ .entry) (← ⟦Job::MOST_RECIPES⟧ .entry) (← ⟦Job::MOST_PINS⟧ .entry) (← ⟦Job::MOST_DEN⟧ .entry)) (asJob (now (sizes .entry)) (now (sides .entry)) (now (marks .entry)) (now (bounds .entry)) (now (pins .entry)) (job .num) (job .den) (job .cap))) (now (out .entry)) ⌝ }
+    ensures { λ r. do ⌜ Answered (← ⟦TRACE_BYTES⟧ .entry) r (now (out .entry)) ⌝ }
+{
+    let mut tried = [0u16; Job::MOST_FILES];
+    let mut gained = [0i32; Job::MOST_FILES];
+    let mut cuts = [0u16; Job::MOST_FILES];
+    let mut ends = [0u16; Job::MOST_FILES];
+    let mut recipes = [0u16; 4 * Job::MOST_RECIPES];
+    let mut kinds = [0u16; 4 * Job::MOST_RECIPES];
+    let mut scratch = [0u16; Job::MOST_PINS + 4 * Job::MOST_FILES + 4 * Job::MOST_RECIPES + 16];
+    let r = split::pass_once(
+        job,
+        sizes,
+        sides,
+        marks,
+        bounds,
+        pins,
+        gains,
+        &mut tried,
+        &mut gained,
+        &mut cuts,
+        &mut ends,
+        &mut recipes,
+        &mut kinds,
+        &mut scratch,
+    );
+    report::trace(
+        r,
+        sizes,
+        sides,
+        gains,
+        &tried,
+        &gained,
+        &cuts,
+        &ends,
+        &recipes,
+        &kinds,
+        out,
+    )
+}
+
+fn print_pass(
+    job: Job,
+    sizes: &[u16],
+    sides: &mut [u16],
+    marks: &[u16],
+    bounds: &[u16],
+    pins: &[u16],
+    out: &mut [u8],
+) -> Printed
+    requires { do ⌜ (length (now sizes) ≤ (← ⟦Job::MOST_FILES⟧)) × (length (now sides) ≡ length (now sizes)) ⌝ }
+    ensures { λ r. do ⌜ «printed» r (now (out .exit)) ≡ intoRoom (passTrace (limitsOf (← ⟦Job::MOST_FILES⟧ .entry) (← ⟦Job::MOST_RECIPES⟧ .entry) (← ⟦Job::MOST_PINS⟧ .entry) (← ⟦Job::MOST_DEN⟧ .entry)) (asJob (now (sizes .entry)) (now (sides .entry)) (now (marks .entry)) (now (bounds .entry)) (now (pins .entry)) (job .num) (job .den) (job .cap))) (now (out .entry)) ⌝ }
+    ensures { λ r. do ⌜ Answered (← ⟦TRACE_BYTES⟧ .entry) r (now (out .entry)) ⌝ }
+{
+    let mut gains = [0i32; Job::MOST_FILES];
+    let c = sizes.len();
+    print_moves(job, sizes, sides, marks, bounds, pins, &mut gains[..c], out)
+}
+
+// The run's report, or the pass's trace.
+fn print_job(
+    job: Job,
+    sizes: &[u16],
+    sides: &mut [u16],
+    marks: &[u16],
+    bounds: &[u16],
+    pins: &[u16],
+    out: &mut [u8],
+    traced: bool,
+) -> Printed
+    requires { do ⌜ (length (now sizes) ≤ (← ⟦Job::MOST_FILES⟧)) × (length (now sides) ≡ length (now sizes)) ⌝ }
+    ensures { λ r. do ⌜ «printed» r (now (out .exit)) ≡ intoRoom (jobText traced (limitsOf (← ⟦Job::MOST_FILES⟧ .entry) (← ⟦Job::MOST_RECIPES⟧ .entry) (← ⟦Job::MOST_PINS⟧ .entry) (← ⟦Job::MOST_DEN⟧ .entry)) (asJob (now (sizes .entry)) (now (sides .entry)) (now (marks .entry)) (now (bounds .entry)) (now (pins .entry)) (job .num) (job .den) (job .cap))) (now (out .entry)) ⌝ }
+    ensures { λ r. do ⌜ Answered (cond traced (← ⟦TRACE_BYTES⟧ .entry) (← ⟦TEXT_BYTES⟧ .entry)) r (now (out .entry)) ⌝ }
+{
+    if traced {
+        return print_pass(job, sizes, sides, marks, bounds, pins, out);
+    }
+    print_run(job, sizes, sides, marks, bounds, pins, out)
+}
+
 // The same of the job in the first entries of the lists that were read into.
 fn print_first(
     h: Header,
@@ -108,16 +206,17 @@ fn print_first(
     bounds: &[u16],
     pins: &[u16],
     out: &mut [u8],
+    traced: bool,
 ) -> Printed
     requires { ⌜ (h .files ≤ length (now sizes)) × (h .files ≤ length (now sides)) × (h .files ≤ length (now marks)) × (h .recipes + 1 ≤ length (now bounds)) × (h .pins ≤ length (now pins)) ⌝ }
     requires { do ⌜ h .files ≤ (← ⟦Job::MOST_FILES⟧) ⌝ }
-    ensures { λ r. do ⌜ «printed» r (now (out .exit)) ≡ intoRoom (runReport (limitsOf (← ⟦Job::MOST_FILES⟧ .entry) (← ⟦Job::MOST_RECIPES⟧ .entry) (← ⟦Job::MOST_PINS⟧ .entry) (← ⟦Job::MOST_DEN⟧ .entry)) (firstOf h (roomOf (now (sizes .entry)) (now (sides .entry)) (now (marks .entry)) (now (bounds .entry)) (now (pins .entry))))) (now (out .entry)) ⌝ }
-    ensures { λ r. do ⌜ Answered (← ⟦TEXT_BYTES⟧ .entry) r (now (out .entry)) ⌝ }
+    ensures { λ r. do ⌜ «printed» r (now (out .exit)) ≡ intoRoom (jobText traced (limitsOf (← ⟦Job::MOST_FILES⟧ .entry) (← ⟦Job::MOST_RECIPES⟧ .entry) (← ⟦Job::MOST_PINS⟧ .entry) (← ⟦Job::MOST_DEN⟧ .entry)) (firstOf h (roomOf (now (sizes .entry)) (now (sides .entry)) (now (marks .entry)) (now (bounds .entry)) (now (pins .entry))))) (now (out .entry)) ⌝ }
+    ensures { λ r. do ⌜ Answered (cond traced (← ⟦TRACE_BYTES⟧ .entry) (← ⟦TEXT_BYTES⟧ .entry)) r (now (out .entry)) ⌝ }
 {
     let c = h.files as usize;
     let n = h.recipes as usize + 1;
     let p = h.pins as usize;
-    print_run(
+    print_job(
         Job::new(h.num, h.den, h.cap),
         &sizes[..c],
         &mut sides[..c],
@@ -125,13 +224,14 @@ fn print_first(
         &bounds[..n],
         &pins[..p],
         out,
+        traced,
     )
 }
 
-// The night's report of a stored job: what the program prints, for every input.
-pub fn night(input: &[u8], out: &mut [u8]) -> Printed
-    ensures { λ r. do ⌜ «printed» r (now (out .exit)) ≡ intoRoom (prints (limitsOf (← ⟦Job::MOST_FILES⟧ .entry) (← ⟦Job::MOST_RECIPES⟧ .entry) (← ⟦Job::MOST_PINS⟧ .entry) (← ⟦Job::MOST_DEN⟧ .entry)) (now (input .entry))) (now (out .entry)) ⌝ }
-    ensures { λ r. do ⌜ Answered (← ⟦TEXT_BYTES⟧ .entry) r (now (out .entry)) × Within (r .bytes) (now (out .exit)) ⌝ }
+// A stored job is read, and run or passed over once; what reading refuses is told as a refused run is.
+fn answer(input: &[u8], out: &mut [u8], traced: bool) -> Printed
+    ensures { λ r. do ⌜ «printed» r (now (out .exit)) ≡ intoRoom (inputText traced (limitsOf (← ⟦Job::MOST_FILES⟧ .entry) (← ⟦Job::MOST_RECIPES⟧ .entry) (← ⟦Job::MOST_PINS⟧ .entry) (← ⟦Job::MOST_DEN⟧ .entry)) (now (input .entry))) (now (out .entry)) ⌝ }
+    ensures { λ r. do ⌜ Answered (cond traced (← ⟦TRACE_BYTES⟧ .entry) (← ⟦TEXT_BYTES⟧ .entry)) r (now (out .entry)) × Within (r .bytes) (now (out .exit)) ⌝ }
 {
     let mut sizes = [0u16; Job::MOST_FILES];
     let mut sides = [0u16; Job::MOST_FILES];
@@ -150,5 +250,30 @@ pub fn night(input: &[u8], out: &mut [u8]) -> Printed
     if v.number != 0 {
         return print_refusal(v, out);
     }
-    print_first(read.header, &sizes, &mut sides, &marks, &bounds, &pins, out)
+    print_first(
+        read.header,
+        &sizes,
+        &mut sides,
+        &marks,
+        &bounds,
+        &pins,
+        out,
+        traced,
+    )
+}
+
+// The night's report of a stored job: what the program `night` prints, for every input.
+pub fn night(input: &[u8], out: &mut [u8]) -> Printed
+    ensures { λ r. do ⌜ «printed» r (now (out .exit)) ≡ intoRoom (prints (limitsOf (← ⟦Job::MOST_FILES⟧ .entry) (← ⟦Job::MOST_RECIPES⟧ .entry) (← ⟦Job::MOST_PINS⟧ .entry) (← ⟦Job::MOST_DEN⟧ .entry)) (now (input .entry))) (now (out .entry)) ⌝ }
+    ensures { λ r. do ⌜ Answered (← ⟦TEXT_BYTES⟧ .entry) r (now (out .entry)) × Within (r .bytes) (now (out .exit)) ⌝ }
+{
+    answer(input, out, false)
+}
+
+// The trace of one pass over a stored job: what the program `trace` prints, for every input.
+pub fn trace(input: &[u8], out: &mut [u8]) -> Printed
+    ensures { λ r. do ⌜ «printed» r (now (out .exit)) ≡ intoRoom (traces (limitsOf (← ⟦Job::MOST_FILES⟧ .entry) (← ⟦Job::MOST_RECIPES⟧ .entry) (← ⟦Job::MOST_PINS⟧ .entry) (← ⟦Job::MOST_DEN⟧ .entry)) (now (input .entry))) (now (out .entry)) ⌝ }
+    ensures { λ r. do ⌜ Answered (← ⟦TRACE_BYTES⟧ .entry) r (now (out .entry)) × Within (r .bytes) (now (out .exit)) ⌝ }
+{
+    answer(input, out, true)
 }

@@ -1,6 +1,6 @@
 -- Text laid into a room piece by piece. Assumes nothing.
 use mathlib.Core.Path.{_≡_, refl, sym, ap, _∙_}
-use Prim.Native.Nat.{ℕ, suc, _+_, _≤_, _<_}
+use Prim.Native.Nat.{ℕ, zero, suc, _+_, _≤_, _<_}
 use mathlib.Core.List.{List, [], _∷_, _++_, append-nil, append-assoc}
 use native.Mathlib.Nat.{add-zero, zero-add}
 use native.Mathlib.Numerals.{add-one}
@@ -8,8 +8,9 @@ use native.Mathlib.Omega.{arith}
 use lib.Dec.{leb}
 use lib.ListN.{length, getD, take, drop, set, length-append, take-append-drop}
 use lib.Seq.{sets, set-out, sets-eq, length-sets, take-suc, take-all}
-use Rattle.rules.specs.Lists.{onto}
-use Rattle.report.specs.Laying.{over, Near, Laid}
+use Rattle.rules.specs.Lists.{onto, upTo}
+use Rattle.rules.proofs.Count.{length-upTo, getD-upTo}
+use Rattle.report.specs.Laying.{over, Ahead, Near, Laid}
 
 over-more : (at : ℕ) (t u room : List ℕ) → over (at + length t) u (over at t room) ≡ over at (t ++ u) room
 unfolding over
@@ -64,6 +65,14 @@ module _ {at : ℕ} (t u v : List ℕ) (n : Near at (t ++ u ++ v)) where
     pub near-three : {q : ℕ} {next : List ℕ} → Laid p u mid q next → Near q v
     near-three m = near-rest (laid-more l m) v n
 
+-- a text of at most k bytes
+module _ {at k : ℕ} {t : List ℕ} (h : length t ≤ k) where
+  pub near-short : Ahead at k → Near at t
+  near-short a = record { near = omega arith }
+
+  pub ends-short : {n : ℕ} {room after : List ℕ} → Laid at t room n after → n ≤ at + k
+  ends-short l = omega (arith, l .ends)
+
 pub near-as : {at : ℕ} {t u : List ℕ} → t ≡ u → Near at t → Near at u
 near-as e n = record { near = rw (← e) (n .near) }
 
@@ -108,6 +117,25 @@ module _ {A : Type 0} {piece : A → List ℕ} {xs : List A} {at i next : ℕ} {
 
   pub laying-end : length xs ≤ i → Laid at (pieces piece xs) room next mid
   laying-end h = laid-as (ap (pieces piece) (take-all i xs h)) (l .laid)
+
+-- ---- pieces, one for each number below n: a text that grows at its end
+
+pub grows : (piece text : ℕ → List ℕ) → text 0 ≡ [] → ((n : ℕ) → text (suc n) ≡ text n ++ piece n) → (n : ℕ) → pieces piece (upTo n) ≡ text n
+unfolding pieces upTo
+grows piece text none more zero = sym none
+grows piece text none more (suc n) =
+    pieces-append piece (upTo n) (n ∷ []) ∙ ap (λ (l : List ℕ). pieces piece (upTo n) ++ l) (append-nil (piece n))
+    ∙ ap (λ (l : List ℕ). l ++ piece n) (grows piece text none more n) ∙ sym (more n)
+
+module _ {piece : ℕ → List ℕ} {n at i next : ℕ} {room mid : List ℕ} (l : Laying piece (upTo n) at room i next mid) where
+  pub growing-more : {p : ℕ} {after : List ℕ} → i < n → Laid next (piece i) mid p after → Laying piece (upTo n) at room (i + 1) p after
+  growing-more h m = laying-more 0 l (rw (length-upTo n) h) (rw (getD-upTo n i h) m)
+
+  pub growing-stop : i ≤ n
+  growing-stop = rw (length-upTo n) at (l .stop)
+
+  pub growing-end : n ≤ i → Laid at (pieces piece (upTo n)) room next mid
+  growing-end h = laying-end 0 l (rw (length-upTo n) h)
 
 -- ---- a text laid from the start on
 

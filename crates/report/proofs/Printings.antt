@@ -1,22 +1,27 @@
 -- The verdict on what is told, and the answer with the room that it leaves. Assumes nothing.
-use mathlib.Core.Path.{_≡_, refl}
+use mathlib.Core.Path.{_≡_, refl, ap, _∙_}
 use mathlib.Core.Logic.{_≢_}
 use Prim.Native.Nat.{ℕ, _≤_}
-use mathlib.Core.Bool.{Bool, true, false, not, _&&_}
-use mathlib.Core.List.{List}
+use mathlib.Core.Bool.{Bool, true, false, not, cond, _&&_}
+use mathlib.Core.List.{List, [], _++_}
 use native.Mathlib.Omega.{arith}
 use lib.ListN.{length, getD}
 use lib.Dec.{leb, ltb, eqb}
 use borrow.Author.Tests.{le-leb, leb-true, ltb-false, eqb-true, eq-eqb, ne-eqb}
 use Rattle.rules.proofs.Tests.{not-no}
-use Rattle.rules.proofs.Verdicts.{passes-both, not-refused, zero-of}
+use Rattle.rules.proofs.Verdicts.{chain-stop, chain-go, passes-both, not-refused, zero-of}
 use Rattle.rules.specs.declared.Verdict.{Verdict}
+use Rattle.rules.specs.declared.Figures.{Figures}
 use Rattle.rules.specs.declared.RunFigures.{RunFigures}
 use Rattle.rules.specs.Lists.{lowest, someBelow, onto}
 use Rattle.rules.specs.Job.{Limits}
-use Rattle.rules.specs.Check.{done, refuseIf, refuseAt, _orElse_}
-use Rattle.rules.specs.Report.{refusal, figureLines, report, ofSizes, splitVerdict, printed, printing, reporting}
+use Rattle.rules.specs.Check.{done, isDone, refuseIf, refuseAt, _orElse_}
+use Rattle.rules.specs.Report.{refusal, figureLines, report, ofSizes, splitVerdict, Printing, printed, printing, reporting}
+use Rattle.rules.specs.Trace.{Listing, passLines, trace, holdsPass, tracing}
+use Rattle.report.specs.Laying.{Laid}
 use Rattle.report.specs.Steps.{lengthsVerdict, roomVerdict, figuresVerdict}
+use Rattle.report.specs.Tracing.{passVerdict, toldVerdict}
+use Rattle.report.proofs.Laying.{counted, stays, roomy, laid-then}
 
 -- ---- the verdict in two parts
 
@@ -26,10 +31,27 @@ two-parts true same lent last = refl
 two-parts false true lent last = refl
 two-parts false false lent last = refl
 
-pub split-parts : (most : Limits) (sizes sides : List ℕ) (lent : Bool) → splitVerdict most sizes sides lent ≡ figuresVerdict (most .files) sizes sides lent
+split-parts : (most : Limits) (sizes sides : List ℕ) (lent : Bool) → splitVerdict most sizes sides lent ≡ figuresVerdict (most .files) sizes sides lent
 unfolding figuresVerdict lengthsVerdict roomVerdict
 split-parts most sizes sides lent =
     two-parts (ltb (most .files) (length sizes)) (eqb (length sides) (length sizes)) lent (refuseAt 6 (λ f. ltb 1 (getD sides f 0)) (length sides))
+
+-- what is lent is lists that hold the pass, and room
+held-part : (v last : Verdict) (held lent : Bool)
+    → (v orElse (refuseIf (not (held && lent)) 3 0 orElse last)) ≡ ((v orElse refuseIf (not held) 3 0) orElse (refuseIf (not lent) 3 0 orElse last))
+held-part v last held lent = go (eqb (v .number) 0) refl held
+  where
+    go : (b : Bool) → eqb (v .number) 0 ≡ b → (held : Bool)
+        → cond b (refuseIf (not (held && lent)) 3 0 orElse last) v ≡ (cond b (refuseIf (not held) 3 0) v orElse (refuseIf (not lent) 3 0 orElse last))
+    go true e true = refl
+    go true e false = refl
+    go false e held = rw e
+
+told-parts : (most : Limits) (sizes sides : List ℕ) (held lent : Bool) → splitVerdict most sizes sides (held && lent) ≡ toldVerdict (most .files) sizes sides held lent
+unfolding figuresVerdict roomVerdict passVerdict toldVerdict
+told-parts most sizes sides held lent =
+    split-parts most sizes sides (held && lent)
+    ∙ held-part (lengthsVerdict (most .files) sizes sides) (refuseAt 6 (λ f. ltb 1 (getD sides f 0)) (length sides)) held lent
 
 pub lengths-tell : (most : ℕ) (sizes sides : List ℕ) {v : Verdict} → v ≡ lengthsVerdict most sizes sides → v .number ≡ 0 → (length sizes ≤ most) × (length sides ≡ length sizes)
 unfolding lengthsVerdict
@@ -39,10 +61,17 @@ lengths-tell most sizes sides e z =
     let both = passes-both (refuseIf over 2 0) (refuseIf (not same) 3 0) (zero-of e z) in
     (ltb-false most (length sizes) (not-refused over 1 0 (both .0)), eqb-true (length sides) (length sizes) (not-no same (not-refused (not same) 2 0 (both .1))))
 
+pub pass-tells : (most : ℕ) (sizes sides : List ℕ) (held : Bool) {v : Verdict} → v ≡ passVerdict most sizes sides held → v .number ≡ 0
+    → ((length sizes ≤ most) × (length sides ≡ length sizes)) × (held ≡ true)
+unfolding passVerdict
+pass-tells most sizes sides held e z =
+    let both = passes-both (lengthsVerdict most sizes sides) (refuseIf (not held) 3 0) (zero-of e z) in
+    (lengths-tell most sizes sides refl (both .0), not-no held (not-refused (not held) 2 0 (both .1)))
+
 pub room-tells : (a b : ℕ) → refuseIf (not (leb a b)) 3 0 .number ≡ 0 → a ≤ b
 room-tells a b h = leb-true a b (not-no (leb a b) (not-refused (not (leb a b)) 2 0 h))
 
-pub split-room-tells : (sides : List ℕ) (a b : ℕ) → roomVerdict sides (leb a b) .number ≡ 0 → a ≤ b
+split-room-tells : (sides : List ℕ) (a b : ℕ) → roomVerdict sides (leb a b) .number ≡ 0 → a ≤ b
 unfolding roomVerdict
 split-room-tells sides a b h = room-tells a b (passes-both (refuseIf (not (leb a b)) 3 0) (refuseAt 6 (λ f. ltb 1 (getD sides f 0)) (length sides)) h .0)
 
@@ -56,7 +85,7 @@ module _ (m n : ℕ) (t room : List ℕ) (e : n ≡ length t) (h : n ≤ m) (lon
   pub refusal-enough : {v : Verdict} → v ≡ refuseIf (not (leb (length t) (length room))) 3 0 → v .number ≢ 3
   refusal-enough q = rw (q, fits) (λ z. omega (arith, z))
 
-  pub room-enough : (sides : List ℕ) {v : Verdict} → v ≡ roomVerdict sides (leb (length t) (length room)) → v .number ≢ 3
+  room-enough : (sides : List ℕ) {v : Verdict} → v ≡ roomVerdict sides (leb (length t) (length room)) → v .number ≢ 3
   unfolding roomVerdict
   room-enough sides q = rw (q, fits) (at-six (someBelow (λ f. ltb 1 (getD sides f 0)) (length sides)) (lowest (λ f. ltb 1 (getD sides f 0)) (length sides)))
     where
@@ -72,6 +101,14 @@ lengths-enough most sizes sides e h = rw (e, eq-eqb (length sides) (length sizes
     at-two true z = omega (arith, z)
     at-two false z = omega (arith, z)
 
+pub pass-enough : (most : ℕ) (sizes sides : List ℕ) (held : Bool) {v : Verdict} → v ≡ passVerdict most sizes sides held → length sides ≡ length sizes → held ≡ true → v .number ≢ 3
+unfolding passVerdict
+pass-enough most sizes sides held e h k = rw (e, k) (go (eqb (lengthsVerdict most sizes sides .number) 0))
+  where
+    go : (b : Bool) → cond b done (lengthsVerdict most sizes sides) .number ≢ 3
+    go true z = omega (arith, z)
+    go false z = lengths-enough most sizes sides refl h z
+
 -- ---- the answer and the room
 
 module _ {v w : Verdict} (bytes room : List ℕ) {after : List ℕ} (q : v ≡ w) where
@@ -83,16 +120,72 @@ module _ {v w : Verdict} (bytes room : List ℕ) {after : List ℕ} (q : v ≡ w
   unfolding printing
   is-printed h z k = rw (← q, eq-eqb (v .number) 0 h, printing, z, k, q)
 
--- ---- what is told
+-- ---- a text told: refused before it is counted, then for want of room, or else laid
+
+module _ {first : Verdict} (sides t room : List ℕ) where
+  pub told-none : {v : Verdict} → v ≡ first → (v .number ≡ 0 → ⊥)
+      → printed (record { verdict = v; bytes = 0 }) room ≡ printing (first orElse roomVerdict sides (leb (length t) (length room))) t room
+  told-none e h = not-printed t room (chain-stop _ e h) h refl
+
+  module _ {v w : Verdict} {n : ℕ} {last : List ℕ} (e : v ≡ first) (z : v .number ≡ 0) (l : Laid 0 t [] n last) (q : w ≡ roomVerdict sides (leb n (length (last ++ room)))) where
+    room-is : w ≡ roomVerdict sides (leb (length t) (length room))
+    room-is = q ∙ ap (roomVerdict sides) (roomy l room)
+
+    pub told-short : (w .number ≡ 0 → ⊥)
+        → printed (record { verdict = w; bytes = 0 }) (last ++ room) ≡ printing (first orElse roomVerdict sides (leb (length t) (length room))) t room
+    told-short h = not-printed t room (chain-go e z room-is) h (stays l room)
+
+    pub told-whole : {m : ℕ} {after : List ℕ} → w .number ≡ 0 → Laid 0 t (last ++ room) m after
+        → printed (record { verdict = w; bytes = n }) after ≡ printing (first orElse roomVerdict sides (leb (length t) (length room))) t room
+    told-whole h k = is-printed t room (chain-go e z room-is) h (counted l) (laid-then l room k (split-room-tells sides _ _ (zero-of room-is h)))
+
+    pub told-enough : (m : ℕ) → n ≤ m → m ≤ length room → w .number ≢ 3
+    told-enough m h long = room-enough m n t room (counted l) h long sides room-is
+
+-- ---- what is told of an answer: its lines, or its refusal
+
+module _ (most : Limits) (sizes sides : List ℕ) (v : Verdict) (held : Bool) (lines room : List ℕ) where
+  -- where b says that it is not refused
+  abbrev toldText : Bool → List ℕ
+  toldText b = elim b [ true ↦ lines | false ↦ refusal v ]
+
+  abbrev answered : Bool → Printing
+  answered b =
+      let lent = leb (length (toldText b)) (length room) in
+      printing (cond b (splitVerdict most sizes sides (held && lent)) (refuseIf (not lent) 3 0)) (toldText b) room
+
+  refusal-told : (v .number ≡ 0 → ⊥) → answered (isDone v) ≡ printing (refuseIf (not (leb (length (refusal v)) (length room))) 3 0) (refusal v) room
+  refusal-told h = ap answered (ne-eqb (v .number) 0 h)
+
+  lines-told : v .number ≡ 0 → answered (isDone v) ≡ printing (splitVerdict most sizes sides (held && leb (length lines) (length room))) lines room
+  lines-told h = ap answered (eq-eqb (v .number) 0 h)
 
 module _ (most : Limits) (sizes : List ℕ) (r : RunFigures) (sides room : List ℕ) where
   pub reporting-refusal : (r .figures .verdict .number ≡ 0 → ⊥)
       → reporting most sizes r sides room ≡ printing (refuseIf (not (leb (length (refusal (r .figures .verdict))) (length room))) 3 0) (refusal (r .figures .verdict)) room
   unfolding reporting report
-  reporting-refusal h = rw (ne-eqb (r .figures .verdict .number) 0 h, report)
+  reporting-refusal h = refusal-told most sizes sides (r .figures .verdict) true (figureLines (ofSizes sizes) r sides) room h
 
   pub reporting-figures : r .figures .verdict .number ≡ 0
       → reporting most sizes r sides room
       ≡ printing (figuresVerdict (most .files) sizes sides (leb (length (figureLines (ofSizes sizes) r sides)) (length room))) (figureLines (ofSizes sizes) r sides) room
   unfolding reporting report
-  reporting-figures h = rw (eq-eqb (r .figures .verdict .number) 0 h, report, ← split-parts)
+  reporting-figures h =
+      let lines : List ℕ = figureLines (ofSizes sizes) r sides in
+      lines-told most sizes sides (r .figures .verdict) true lines room h
+      ∙ ap (λ (v : Verdict). printing v lines room) (split-parts most sizes sides (leb (length lines) (length room)))
+
+module _ (most : Limits) (sizes : List ℕ) (f : Figures) (sides : List ℕ) (l : Listing) (room : List ℕ) where
+  pub tracing-refusal : (f .verdict .number ≡ 0 → ⊥)
+      → tracing most sizes f sides l room ≡ printing (refuseIf (not (leb (length (refusal (f .verdict))) (length room))) 3 0) (refusal (f .verdict)) room
+  unfolding tracing trace
+  tracing-refusal h = refusal-told most sizes sides (f .verdict) (holdsPass sizes f l) (passLines (ofSizes sizes) f sides l) room h
+
+  pub tracing-pass : f .verdict .number ≡ 0
+      → tracing most sizes f sides l room
+      ≡ printing (toldVerdict (most .files) sizes sides (holdsPass sizes f l) (leb (length (passLines (ofSizes sizes) f sides l)) (length room))) (passLines (ofSizes sizes) f sides l) room
+  unfolding tracing trace
+  tracing-pass h =
+      let lines : List ℕ = passLines (ofSizes sizes) f sides l in
+      lines-told most sizes sides (f .verdict) (holdsPass sizes f l) lines room h
+      ∙ ap (λ (v : Verdict). printing v lines room) (told-parts most sizes sides (holdsPass sizes f l) (leb (length lines) (length room)))

@@ -10,9 +10,12 @@ use Rattle.rules.specs.Report.{spaced}
 unfoldable pub over : ℕ → List ℕ → List ℕ → List ℕ
 over at text room = sets room at text
 
--- the text ends at a position that a usize holds
+-- so many bytes from a position on end far below the most that a usize holds
+abbrev pub Ahead : ℕ → ℕ → Type 0
+Ahead at bytes = at + bytes < 4294967296
+
 pub record Near (at : ℕ) (text : List ℕ) : Type 0 where
-  pub near : at + length text < 18446744073709551616
+  pub near : Ahead at (length text)
 
 -- the text was laid into the room, and the next position is the one after it
 pub record Laid (at : ℕ) (text room : List ℕ) (next : ℕ) (after : List ℕ) : Type 0 where

@@ -1,2 +1,3 @@
 pub mod Laying
 pub mod Steps
+pub mod Tracing

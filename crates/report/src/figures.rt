@@ -1,25 +1,29 @@
 // The lines of a report.
 use crate::split::put_sides;
+use crate::split::size_on;
 use crate::text::put_line1;
 use crate::text::put_line2;
 use crate::text::put_text;
+use job::Job;
 use rules::RunFigures;
 use rules::Verdict;
-ghost use Prim.Native.Nat.{_+_, _≤_};
+ghost use mathlib.Core.Path.{_≡_};
 ghost use mathlib.Core.Bool.{true};
+ghost use Prim.Native.Nat.{_+_, _≤_};
 ghost use lib.ListN.{length};
-ghost use Rattle.rules.specs.Report.{refusal};
+ghost use Rattle.rules.specs.Report.{refusal, figureLines, ofSizes};
 ghost use Rattle.report.specs.Laying.{Near, Laid};
 ghost use Rattle.report.specs.Steps.{cutLines, settledLine, countLines, runLines};
 
 pub(crate) fn put_refusal(out: &mut [u8], v: Verdict) -> usize
     ensures { λ r. ⌜ Laid 0 (refusal v) (now (out .entry)) r (now (out .exit)) ⌝ }
+    ensures { λ r. ⌜ r ≤ 256 ⌝ }
 {
     put_line2(out, 0, b"refused", v.number as u64, v.place as u64)
 }
 
 // The cut before and after, and the sizes of A and B after.
-fn put_cuts(out: &mut [u8], at: usize, before: u64, after: u64, a: u64, b: u64) -> usize
+pub(crate) fn put_cuts(out: &mut [u8], at: usize, before: u64, after: u64, a: u64, b: u64) -> usize
     requires { ⌜ Near at (cutLines before after a b) ⌝ }
     ensures { λ r. ⌜ Laid at (cutLines before after a b) (now (out .entry)) r (now (out .exit)) ⌝ }
 {
@@ -57,26 +61,22 @@ fn put_counts(
 }
 
 // The lines of a run, where the size of B is b.
-pub(crate) fn put_run(out: &mut [u8], r: RunFigures, b: u64, sides: &[u16]) -> usize
-    requires { ⌜ Near 0 (runLines r b (now sides)) × (length (runLines r b (now sides)) ≤ 200 + length (now sides)) ⌝ }
-    ensures { λ n. ⌜ Laid 0 (runLines r b (now (sides .entry))) (now (out .entry)) n (now (out .exit)) × (n ≤ 200 + length (now (sides .entry))) ⌝ }
+fn put_run(out: &mut [u8], r: RunFigures, b: u64, sides: &[u16]) -> usize
+    requires { ⌜ Near 0 (runLines r b (now sides)) ⌝ }
+    ensures { λ n. ⌜ Laid 0 (runLines r b (now (sides .entry))) (now (out .entry)) n (now (out .exit)) ⌝ }
 {
+    let f = r.figures;
     let mut next = put_text(out, 0, b"done\n");
-    next = put_cuts(
-        out,
-        next,
-        r.figures.before as u64,
-        r.figures.cut as u64,
-        r.figures.size,
-        b,
-    );
-    next = put_counts(
-        out,
-        next,
-        r.passes,
-        r.settled,
-        r.figures.kept,
-        r.figures.visits,
-    );
+    next = put_cuts(out, next, f.before as u64, f.cut as u64, f.size, b);
+    next = put_counts(out, next, r.passes, r.settled, f.kept, f.visits);
     put_sides(out, next, sides)
+}
+
+pub(crate) fn put_figures(out: &mut [u8], r: RunFigures, sizes: &[u16], sides: &[u16]) -> usize
+    requires { do ⌜ (length (now sizes) ≤ (← ⟦Job::MOST_FILES⟧)) × (length (now sides) ≡ length (now sizes)) ⌝ }
+    ensures { λ n. ⌜ Laid 0 (figureLines (ofSizes (now (sizes .entry))) r (now (sides .entry))) (now (out .entry)) n (now (out .exit)) ⌝ }
+    ensures { λ n. ⌜ n ≤ 256 + length (now (sides .entry)) ⌝ }
+{
+    let b = size_on(sizes, sides, 1);
+    put_run(out, r, b, sides)
 }

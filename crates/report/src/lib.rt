@@ -1,31 +1,39 @@
-// Answers as the exact bytes that the program of document 01 prints.
+// Answers as the exact bytes that a program prints.
 mod figures;
+mod moves;
+mod pass;
 mod split;
 mod text;
 mod verdict;
 
 ghost use mathlib.Core.Path.{_≡_};
 ghost use mathlib.Core.Logic.{_≢_};
+ghost use mathlib.Core.Bool.{not};
 ghost use Prim.Native.Nat.{_≤_};
 ghost use lib.Dec.{leb};
 ghost use lib.ListN.{length};
 ghost use Rattle.rules.specs.Job.{limitsOf};
-ghost use Rattle.rules.specs.Report.{printed, printing, intoRoom, refusal, figureLines, ofSizes, reporting};
+ghost use Rattle.rules.specs.Check.{refuseIf};
+ghost use Rattle.rules.specs.Report.{printed, printing, refusal, figureLines, ofSizes, reporting};
+ghost use Rattle.rules.specs.Trace.{listingOf, holdsPass, passLines, tracing};
 ghost use Rattle.report.specs.Steps.{figuresVerdict, Enough};
+ghost use Rattle.report.specs.Tracing.{toldVerdict, EnoughTold};
+use figures::put_figures;
 use figures::put_refusal;
-use figures::put_run;
 use job::Job;
+use pass::pass_verdict;
+use pass::put_pass;
+use rules::Figures;
 use rules::Printed;
 use rules::RunFigures;
 use rules::Verdict;
-use split::size_on;
 use verdict::lengths_verdict;
 use verdict::refuse_if;
 use verdict::room_verdict;
 
 // A refusal told: it needs room alone, since it tells of no split.
 fn print_refusal(told: Verdict, out: &mut [u8]) -> Printed
-    ensures { λ r. ⌜ printed r (now (out .exit)) ≡ intoRoom (refusal told) (now (out .entry)) ⌝ }
+    ensures { λ r. ⌜ printed r (now (out .exit)) ≡ printing (refuseIf (not (leb (length (refusal told)) (length (now (out .entry))))) 3 0) (refusal told) (now (out .entry)) ⌝ }
     ensures { λ r. ⌜ (256 ≤ length (now (out .entry)) → r .verdict .number ≢ 3) ⌝ }
 {
     let bytes = put_refusal(&mut out[0..0], told);
@@ -37,7 +45,7 @@ fn print_refusal(told: Verdict, out: &mut [u8]) -> Printed
     Printed { verdict, bytes }
 }
 
-// The figures of a run told. C is within its most before the text is counted, so that the count is small.
+// The figures of a run told. The text is counted only once C is within its most, so that the count is small.
 fn print_figures(answer: RunFigures, sizes: &[u16], sides: &[u16], out: &mut [u8]) -> Printed
     ensures { λ r. do ⌜ printed r (now (out .exit)) ≡ printing (figuresVerdict (← ⟦Job::MOST_FILES⟧ .entry) (now (sizes .entry)) (now (sides .entry)) (leb (length (figureLines (ofSizes (now (sizes .entry))) answer (now (sides .entry)))) (length (now (out .entry))))) (figureLines (ofSizes (now (sizes .entry))) answer (now (sides .entry))) (now (out .entry)) ⌝ }
     ensures { λ r. ⌜ Enough (r .verdict) (now (sizes .entry)) (now (sides .entry)) (now (out .entry)) ⌝ }
@@ -49,23 +57,127 @@ fn print_figures(answer: RunFigures, sizes: &[u16], sides: &[u16], out: &mut [u8
             bytes: 0,
         };
     }
-    let b = size_on(sizes, sides, 1);
-    let bytes = put_run(&mut out[0..0], answer, b, sides);
+    let bytes = put_figures(&mut out[0..0], answer, sizes, sides);
     let verdict = room_verdict(sides, bytes <= out.len());
     if verdict.number != 0 {
         return Printed { verdict, bytes: 0 };
     }
-    put_run(out, answer, b, sides);
+    put_figures(out, answer, sizes, sides);
     Printed { verdict, bytes }
 }
 
-// The answer and the lent room are those of the reporting, for every input.
+// The report of a run's answer, refused or not, as bytes in the lent room; the answer and the room are those of the reporting, for every input.
 pub fn report(answer: RunFigures, sizes: &[u16], sides: &[u16], out: &mut [u8]) -> Printed
     ensures { λ r. do ⌜ printed r (now (out .exit)) ≡ reporting (limitsOf (← ⟦Job::MOST_FILES⟧ .entry) (← ⟦Job::MOST_RECIPES⟧ .entry) (← ⟦Job::MOST_PINS⟧ .entry) (← ⟦Job::MOST_DEN⟧ .entry)) (now (sizes .entry)) answer (now (sides .entry)) (now (out .entry)) ⌝ }
     ensures { λ r. ⌜ Enough (r .verdict) (now (sizes .entry)) (now (sides .entry)) (now (out .entry)) ⌝ }
 {
     if answer.figures.verdict.number != 0 {
-        return print_refusal(answer.figures.verdict, out);
+        let told = answer.figures.verdict;
+        return print_refusal(told, out);
     }
     print_figures(answer, sizes, sides, out)
+}
+
+// The figures, moves and scans of a pass told. The text is counted only once the lists hold the pass, so that the count is small.
+fn print_pass(
+    answer: Figures,
+    sizes: &[u16],
+    sides: &[u16],
+    gains: &[i32],
+    tried: &[u16],
+    gained: &[i32],
+    cuts: &[u16],
+    ends: &[u16],
+    recipes: &[u16],
+    kinds: &[u16],
+    out: &mut [u8],
+) -> Printed
+    ensures { λ r. do ⌜ printed r (now (out .exit)) ≡ printing (toldVerdict (← ⟦Job::MOST_FILES⟧ .entry) (now (sizes .entry)) (now (sides .entry)) (holdsPass (now (sizes .entry)) answer (listingOf (now (gains .entry)) (now (tried .entry)) (now (gained .entry)) (now (cuts .entry)) (now (ends .entry)) (now (recipes .entry)) (now (kinds .entry)))) (leb (length (passLines (ofSizes (now (sizes .entry))) answer (now (sides .entry)) (listingOf (now (gains .entry)) (now (tried .entry)) (now (gained .entry)) (now (cuts .entry)) (now (ends .entry)) (now (recipes .entry)) (now (kinds .entry))))) (length (now (out .entry))))) (passLines (ofSizes (now (sizes .entry))) answer (now (sides .entry)) (listingOf (now (gains .entry)) (now (tried .entry)) (now (gained .entry)) (now (cuts .entry)) (now (ends .entry)) (now (recipes .entry)) (now (kinds .entry)))) (now (out .entry)) ⌝ }
+    ensures { λ r. ⌜ EnoughTold (r .verdict) (now (sizes .entry)) answer (now (sides .entry)) (listingOf (now (gains .entry)) (now (tried .entry)) (now (gained .entry)) (now (cuts .entry)) (now (ends .entry)) (now (recipes .entry)) (now (kinds .entry))) (now (out .entry)) ⌝ }
+{
+    let held = pass_verdict(
+        answer,
+        sizes,
+        sides,
+        gains,
+        tried,
+        gained,
+        cuts,
+        ends,
+        recipes,
+        kinds,
+    );
+    if held.number != 0 {
+        return Printed {
+            verdict: held,
+            bytes: 0,
+        };
+    }
+    let bytes = put_pass(
+        &mut out[0..0],
+        answer,
+        sizes,
+        sides,
+        gains,
+        tried,
+        gained,
+        cuts,
+        ends,
+        recipes,
+        kinds,
+    );
+    let verdict = room_verdict(sides, bytes <= out.len());
+    if verdict.number != 0 {
+        return Printed { verdict, bytes: 0 };
+    }
+    put_pass(
+        out,
+        answer,
+        sizes,
+        sides,
+        gains,
+        tried,
+        gained,
+        cuts,
+        ends,
+        recipes,
+        kinds,
+    );
+    Printed { verdict, bytes }
+}
+
+// The trace of a pass's answer, refused or not, as bytes in the lent room; the answer and the room are those of the tracing, for every input.
+pub fn trace(
+    answer: Figures,
+    sizes: &[u16],
+    sides: &[u16],
+    gains: &[i32],
+    tried: &[u16],
+    gained: &[i32],
+    cuts: &[u16],
+    ends: &[u16],
+    recipes: &[u16],
+    kinds: &[u16],
+    out: &mut [u8],
+) -> Printed
+    ensures { λ r. do ⌜ printed r (now (out .exit)) ≡ tracing (limitsOf (← ⟦Job::MOST_FILES⟧ .entry) (← ⟦Job::MOST_RECIPES⟧ .entry) (← ⟦Job::MOST_PINS⟧ .entry) (← ⟦Job::MOST_DEN⟧ .entry)) (now (sizes .entry)) answer (now (sides .entry)) (listingOf (now (gains .entry)) (now (tried .entry)) (now (gained .entry)) (now (cuts .entry)) (now (ends .entry)) (now (recipes .entry)) (now (kinds .entry))) (now (out .entry)) ⌝ }
+    ensures { λ r. ⌜ EnoughTold (r .verdict) (now (sizes .entry)) answer (now (sides .entry)) (listingOf (now (gains .entry)) (now (tried .entry)) (now (gained .entry)) (now (cuts .entry)) (now (ends .entry)) (now (recipes .entry)) (now (kinds .entry))) (now (out .entry)) ⌝ }
+{
+    if answer.verdict.number != 0 {
+        let told = answer.verdict;
+        return print_refusal(told, out);
+    }
+    print_pass(
+        answer,
+        sizes,
+        sides,
+        gains,
+        tried,
+        gained,
+        cuts,
+        ends,
+        recipes,
+        kinds,
+        out,
+    )
 }

@@ -87,3 +87,9 @@ counted-more {rs} {st} {n} {j} {z} r s h q =
 
 pub counted-end : {rs : List (List ℕ)} {st : State} {n j : ℕ} {z : List ℕ} → CountedTo rs st n j z → n ≤ j → Counts rs st 0 n z
 counted-end s h = record { each = λ i l. s .each i (omega arith) }
+
+-- the four stores of the code
+pub counted-is : (st : State) (n j : ℕ) (r z : List ℕ) {a b c d : ℕ} → a ≡ countOn (st .sides) 0 r → b ≡ countOn (st .sides) 1 r → c ≡ lockedOn st 0 r → d ≡ lockedOn st 1 r
+    → set (set (set (set z j a) (n + j) b) (2 * n + j) c) (3 * n + j) d ≡ counted st n j r z
+unfolding counted
+counted-is st n j r z e f g h = λ i. set (set (set (set z j (e i)) (n + j) (f i)) (2 * n + j) (g i)) (3 * n + j) (h i)

@@ -24,6 +24,17 @@ use Rattle.split.proofs.ChoiceNow.{choice-now, holds-now}
 use Rattle.split.proofs.MoveNow.{move-safe, move-turns, move-goes}
 use Rattle.split.proofs.NextMove.{Next, next-move, no-move}
 
+-- ---- numbers, for where many lists are known
+
+pub same-below : {a b n : ℕ} → a ≡ b → b < n → a < n
+same-below e h = omega arith
+
+pub below-less : {a b n : ℕ} → a < b → b < n → a < n
+below-less h k = omega arith
+
+pub one-less : {k k' n : ℕ} → k < n → k' ≡ suc k → n - k' < n - k
+one-less h e = omega arith
+
 -- the moves made
 abbrev pub movesOf : Board → ℕ
 movesOf b = b .rest .scanned .progress .moves
@@ -48,7 +59,7 @@ pub record Playing (job : Job) (l : Lent) (w : Window) (best : Best) (b : Board)
 pub record Choosable (job : Job) (w : Window) (b : Board) : Type 0 where
   pub sides : length (b .sides) ≡ fileCount job
   pub gains : length (b .rest .scanned .gains) ≡ fileCount job
-  pub scratch : scratchFor job ≤ length (b .rest .scratch)
+  pub locks : locksAt (fileCount job) (pinCount job) + fileCount job ≤ length (b .rest .scratch)
   pub den : w .den < 65536
   pub size : b .rest .scanned .progress .size < 2 ^ 40
   pub holds : Holds (b .rest .scanned .progress .size) (job .sizes) (b .sides)
@@ -78,7 +89,7 @@ module _ {job : Job} {l : Lent} {w : Window} (y : Playable job l w) where
       record {
         sides = m .sides;
         gains = m .gains;
-        scratch = omega (arith, roomy job l (y .fitting) .scratch, m .scratch);
+        locks = omega (arith, roomy job l (y .fitting) .scratch, m .scratch);
         den = omega (arith, y .measured .den, y .measured .small);
         size = omega (arith, g .progress .size, size-few (y .most) job (y .sound) k, y .small .weight);
         holds = holds-now g;

@@ -5,7 +5,7 @@ ghost use lib.ListN.{length};
 ghost use Rattle.rules.specs.Move.{distance};
 ghost use Rattle.split.specs.Zones.{locksAt, part};
 ghost use Rattle.split.specs.Choosing.{sizeBy, Holds};
-ghost use Rattle.split.specs.Best.{challenged, bestIn};
+ghost use Rattle.split.specs.Best.{goesFirst, challenged, bestIn};
 
 // The balance window: den, and num·W and den·smax, within which den·|A| must stay.
 pub struct Window {
@@ -41,7 +41,23 @@ fn apart(x: u64, y: u64) -> u64
     x - y
 }
 
-// The best so far, against file f, which goes before it if it is legal, and of greater gain, or as great and nearer, or the first.
+// Whether a file of this gain and distance goes before the best so far, of lower number, or there is none yet.
+fn is_better(gain: i32, dist: u64, best: Best, none: usize) -> bool
+    ensures { λ r. ⌜ r ≡ goesFirst gain dist best none ⌝ }
+{
+    if best.file == none {
+        return true;
+    }
+    if best.gain < gain {
+        return true;
+    }
+    if gain < best.gain {
+        return false;
+    }
+    dist < best.dist
+}
+
+// The best so far, against file f.
 fn challenge(
     window: Window,
     best: Best,
@@ -54,10 +70,14 @@ fn challenge(
     requires { ⌜ window .den * after < 2 ^ 64 ⌝ }
     ensures { λ r. ⌜ r ≡ challenged window best f gain lock after none ⌝ }
 {
+    if lock != 0 {
+        return best;
+    }
     let dist = apart(window.den * after, window.aim);
-    let nearer = !(gain < best.gain) & (dist < best.dist);
-    let first = (best.file == none) | ((best.gain < gain) | nearer);
-    if (lock == 0) & (dist <= window.span) & first {
+    if window.span < dist {
+        return best;
+    }
+    if is_better(gain, dist, best, none) {
         return Best {
             file: f,
             gain,

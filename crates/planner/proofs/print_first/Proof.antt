@@ -23,26 +23,26 @@ cast-p c = search needs
 new-requires : tie.Need-new-requires
 new-requires c κs = search needs
 
-slice-aggregate-print-run : tie.Need-slice-aggregate-print-run
-slice-aggregate-print-run c = sym (length-take-le _ _ (omega arith))
+slice-aggregate-print-job : tie.Need-slice-aggregate-print-job
+slice-aggregate-print-job c = sym (length-take-le _ _ (omega arith))
 
-slice-relend-prefix-print-run : tie.Need-slice-relend-prefix-print-run
-slice-relend-prefix-print-run c = search needs
+slice-relend-prefix-print-job : tie.Need-slice-relend-prefix-print-job
+slice-relend-prefix-print-job c = search needs
 
-slice-aggregate-print-run-2 : tie.Need-slice-aggregate-print-run-2
-slice-aggregate-print-run-2 c = sym (length-take-le _ _ (omega arith))
+slice-aggregate-print-job-2 : tie.Need-slice-aggregate-print-job-2
+slice-aggregate-print-job-2 c = sym (length-take-le _ _ (omega arith))
 
-slice-aggregate-print-run-3 : tie.Need-slice-aggregate-print-run-3
-slice-aggregate-print-run-3 c = sym (length-take-le _ _ (omega arith))
+slice-aggregate-print-job-3 : tie.Need-slice-aggregate-print-job-3
+slice-aggregate-print-job-3 c = sym (length-take-le _ _ (omega arith))
 
-slice-aggregate-print-run-4 : tie.Need-slice-aggregate-print-run-4
-slice-aggregate-print-run-4 c = sym (length-take-le _ _ (omega arith))
+slice-aggregate-print-job-4 : tie.Need-slice-aggregate-print-job-4
+slice-aggregate-print-job-4 c = sym (length-take-le _ _ (omega arith))
 
-slice-aggregate-print-run-5 : tie.Need-slice-aggregate-print-run-5
-slice-aggregate-print-run-5 c = sym (length-take-le _ _ (omega arith))
+slice-aggregate-print-job-5 : tie.Need-slice-aggregate-print-job-5
+slice-aggregate-print-job-5 c = sym (length-take-le _ _ (omega arith))
 
-print-run-requires : tie.Need-print-run-requires
-print-run-requires c κs =
+print-job-requires : tie.Need-print-job-requires
+print-job-requires c κs =
     let start = c .before .before .before .before .before .before .before .before .before .before .before .before .before .before .before .before in
     let sizes = length-take-le (start .args .h .files) (start .args .sizes .now) (start .pre .0 .0) in
     let sides = length-take-le (start .args .h .files) (start .args .sides .now) (start .pre .0 .1) in
@@ -58,8 +58,8 @@ returns : tie.Need-returns
 returns c =
     let start = c .before .before .before .before .before .before .before .before .before .before .before .before .before .before .before .before .before .before .before .before .before in
     let a = start .args in
-    let e = c .before .before .before .before .print-run .ensures in
-    (first-printed (limitsOf _ _ _ _) (a .h) (roomOf (a .sizes .now) (a .sides .now) (a .marks .now) (a .bounds .now) (a .pins .now)) _ _ _ _ (a .out .now) (c .before .before .before .before .before .before .before .before .before .before .before .new .ensures) (e .0), e .1)
+    let e = c .before .before .before .before .print-job .ensures in
+    (first-printed (a .traced) (limitsOf _ _ _ _) (a .h) (roomOf (a .sizes .now) (a .sides .now) (a .marks .now) (a .bounds .now) (a .pins .now)) _ _ _ _ (a .out .now) (c .before .before .before .before .before .before .before .before .before .before .before .new .ensures) (e .0), e .1)
 
 pub print-first-spec : {M : Type 1} → statement M
 print-first-spec =
@@ -70,13 +70,13 @@ print-first-spec =
     add-n
     cast-p
     new-requires
-    slice-aggregate-print-run
-    slice-relend-prefix-print-run
-    slice-aggregate-print-run-2
-    slice-aggregate-print-run-3
-    slice-aggregate-print-run-4
-    slice-aggregate-print-run-5
-    print-run-requires
+    slice-aggregate-print-job
+    slice-relend-prefix-print-job
+    slice-aggregate-print-job-2
+    slice-aggregate-print-job-3
+    slice-aggregate-print-job-4
+    slice-aggregate-print-job-5
+    print-job-requires
     same-length
     same-length-2
     returns)

@@ -1,13 +1,7 @@
-use mathlib.Core.Path.{refl, ap, _∙_}
 use native.Mathlib.Omega.{arith}
-use Prim.Native.Nat.{_+_}
-use lib.ListN.{length}
 use Rattle.rules.specs.Report.{figureLines, ofSizes}
-use Rattle.rules.proofs.Verdicts.{chain-stop, chain-go, zero-of}
-use Rattle.report.specs.Steps.{roomVerdict, figuresVerdict}
-use Rattle.report.proofs.Lines.{run-length, near-run, figure-lines}
-use Rattle.report.proofs.Laying.{laid-as, counted, stays, roomy, laid-then}
-use Rattle.report.proofs.Printings.{lengths-tell, split-room-tells, room-enough, lengths-enough, not-printed, is-printed}
+use Rattle.report.specs.Steps.{figuresVerdict}
+use Rattle.report.proofs.Printings.{lengths-tell, lengths-enough, told-none, told-short, told-whole, told-enough}
 use borrow.Author.Needs.{needs}
 use Rattle.report.proofs.print_figures.Statement.{statement}
 use Rattle.report.proofs.print_figures.Tie as tie
@@ -17,26 +11,19 @@ lengths-verdict-requires c κs = search needs
 
 returns : tie.Need-returns
 unfolding figuresVerdict
-returns c =
-    let v = c .before .before .lengths-verdict .ensures in
-    (not-printed _ _ (chain-stop _ v (c .if1 .taken)) (c .if1 .taken) refl, λ same long. lengths-enough _ _ _ v same)
+returns c = (told-none _ (figureLines (ofSizes (c .before .before .before .before .before .before .args .sizes .now)) (c .before .before .before .before .before .before .args .answer) (c .before .before .before .before .before .before .args .sides .now)) _ (c .before .before .lengths-verdict .ensures) (c .if1 .taken), λ same long. lengths-enough _ _ _ (c .before .before .lengths-verdict .ensures) same)
 
-size-on-requires : tie.Need-size-on-requires
-size-on-requires c κs = lengths-tell _ _ _ (c .before .before .lengths-verdict .ensures) (c .if1 .left)
+sub-put-figures : tie.Need-sub-put-figures
+sub-put-figures c = search needs
 
-sub-put-run : tie.Need-sub-put-run
-sub-put-run c = search needs
+part-put-figures-start : tie.Need-part-put-figures-start
+part-put-figures-start c = search needs
 
-part-put-run-start : tie.Need-part-put-run-start
-part-put-run-start c = search needs
+part-put-figures-end : tie.Need-part-put-figures-end
+part-put-figures-end c = search needs
 
-part-put-run-end : tie.Need-part-put-run-end
-part-put-run-end c = search needs
-
-put-run-requires : tie.Need-put-run-requires
-put-run-requires c κs =
-    let few = lengths-tell _ _ _ (c .before .before .before .before .lengths-verdict .ensures) (c .before .before .if1 .left) in
-    (near-run _ _ _ (search needs) (search needs) (omega arith), run-length _ _ _ (search needs) (search needs))
+put-figures-requires : tie.Need-put-figures-requires
+put-figures-requires c κs = lengths-tell _ _ _ (c .before .before .before .lengths-verdict .ensures) (c .before .if1 .left)
 
 room-verdict-requires : tie.Need-room-verdict-requires
 room-verdict-requires c κs = search needs
@@ -46,33 +33,17 @@ same-length c = search needs
 
 returns-2 : tie.Need-returns-2
 unfolding figuresVerdict
-returns-2 c =
-    let a = c .before .before .before .before .before .before .before .before .before .before .before .before .before .before .args in
-    let lines = figure-lines _ _ _ _ (c .before .before .before .before .before .before .before .size-on .ensures) in
-    let counted-lines = laid-as lines (c .before .before .before .before .before .put-run .ensures .0) in
-    let v = c .before .before .room-verdict .ensures ∙ ap (roomVerdict (c .before .before .before .before .before .before .before .before .before .before .before .before .before .before .args .sides .now)) (roomy counted-lines _) in (
-      not-printed _ _ (chain-go (c .before .before .before .before .before .before .before .before .before .before .lengths-verdict .ensures) (c .before .before .before .before .before .before .before .before .if1 .left) v) (c .if2 .taken) (stays counted-lines _),
-      λ same long. room-enough (256 + length (a .sides .now)) _ (figureLines (ofSizes (a .sizes .now)) (a .answer) (a .sides .now)) (a .out .now) (counted counted-lines) (omega (arith, c .before .before .before .before .before .put-run .ensures .1)) long _ v,
-    )
+returns-2 c = (told-short (c .before .before .before .before .before .before .before .before .before .before .before .before .before .args .sides .now) (figureLines (ofSizes (c .before .before .before .before .before .before .before .before .before .before .before .before .before .args .sizes .now)) (c .before .before .before .before .before .before .before .before .before .before .before .before .before .args .answer) (c .before .before .before .before .before .before .before .before .before .before .before .before .before .args .sides .now)) (c .before .before .before .before .before .before .before .before .before .before .before .before .before .args .out .now) (c .before .before .before .before .before .before .before .before .before .lengths-verdict .ensures) (c .before .before .before .before .before .before .before .if1 .left) (c .before .before .before .before .before .put-figures .ensures .0) (c .before .before .room-verdict .ensures) (c .if2 .taken), λ same long. told-enough (c .before .before .before .before .before .before .before .before .before .before .before .before .before .args .sides .now) (figureLines (ofSizes (c .before .before .before .before .before .before .before .before .before .before .before .before .before .args .sizes .now)) (c .before .before .before .before .before .before .before .before .before .before .before .before .before .args .answer) (c .before .before .before .before .before .before .before .before .before .before .before .before .before .args .sides .now)) (c .before .before .before .before .before .before .before .before .before .before .before .before .before .args .out .now) (c .before .before .before .before .before .before .before .before .before .lengths-verdict .ensures) (c .before .before .before .before .before .before .before .if1 .left) (c .before .before .before .before .before .put-figures .ensures .0) (c .before .before .room-verdict .ensures) _ (c .before .before .before .before .before .put-figures .ensures .1) long)
 
-put-run-requires-2 : tie.Need-put-run-requires-2
-put-run-requires-2 c κs =
-    let l = c .before .before .before .before .before .before .put-run .ensures in
-    (record { near = omega (arith, l .0 .ends) }, omega (arith, l .0 .ends, l .1))
+put-figures-requires-2 : tie.Need-put-figures-requires-2
+put-figures-requires-2 c κs = lengths-tell _ _ _ (c .before .before .before .before .before .before .before .before .before .before .lengths-verdict .ensures) (c .before .before .before .before .before .before .before .before .if1 .left)
 
 same-length-2 : tie.Need-same-length-2
 same-length-2 c = search needs
 
 returns-3 : tie.Need-returns-3
 unfolding figuresVerdict
-returns-3 c =
-    let lines = figure-lines _ _ _ _ (c .before .before .before .before .before .before .before .before .before .before .before .size-on .ensures) in
-    let counted-lines = laid-as lines (c .before .before .before .before .before .before .before .before .before .put-run .ensures .0) in
-    let v = c .before .before .before .before .before .before .room-verdict .ensures ∙ ap (roomVerdict (c .before .before .before .before .before .before .before .before .before .before .before .before .before .before .before .before .before .before .args .sides .now)) (roomy counted-lines _) in (
-      is-printed _ _ (chain-go (c .before .before .before .before .before .before .before .before .before .before .before .before .before .before .lengths-verdict .ensures) (c .before .before .before .before .before .before .before .before .before .before .before .before .if1 .left) v) (c .before .before .before .before .if2 .left) (counted counted-lines)
-          (laid-then counted-lines _ (laid-as lines (c .before .before .put-run2 .ensures .0)) (split-room-tells _ _ _ (zero-of v (c .before .before .before .before .if2 .left)))),
-      λ same long three. omega (arith, c .before .before .before .before .if2 .left, three),
-    )
+returns-3 c = (told-whole (c .before .before .before .before .before .before .before .before .before .before .before .before .before .before .before .before .before .args .sides .now) (figureLines (ofSizes (c .before .before .before .before .before .before .before .before .before .before .before .before .before .before .before .before .before .args .sizes .now)) (c .before .before .before .before .before .before .before .before .before .before .before .before .before .before .before .before .before .args .answer) (c .before .before .before .before .before .before .before .before .before .before .before .before .before .before .before .before .before .args .sides .now)) (c .before .before .before .before .before .before .before .before .before .before .before .before .before .before .before .before .before .args .out .now) (c .before .before .before .before .before .before .before .before .before .before .before .before .before .lengths-verdict .ensures) (c .before .before .before .before .before .before .before .before .before .before .before .if1 .left) (c .before .before .before .before .before .before .before .before .before .put-figures .ensures .0) (c .before .before .before .before .before .before .room-verdict .ensures) (c .before .before .before .before .if2 .left) (c .before .before .put-figures2 .ensures .0), λ same long three. omega (arith, c .before .before .before .before .if2 .left, three))
 
 pub print-figures-spec : {M : Type 1} → statement M
 print-figures-spec =
@@ -80,14 +51,13 @@ print-figures-spec =
     (tie.spec
     lengths-verdict-requires
     returns
-    size-on-requires
-    sub-put-run
-    part-put-run-start
-    part-put-run-end
-    put-run-requires
+    sub-put-figures
+    part-put-figures-start
+    part-put-figures-end
+    put-figures-requires
     room-verdict-requires
     same-length
     returns-2
-    put-run-requires-2
+    put-figures-requires-2
     same-length-2
     returns-3)

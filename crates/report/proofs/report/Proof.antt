@@ -14,7 +14,7 @@ same-length c = search needs
 returns : tie.Need-returns
 returns c =
     let e = c .before .before .print-refusal .ensures in
-    (e .0 ∙ sym (reporting-refusal _ _ _ _ _ (c .before .before .before .before .if1 .taken)), λ same long. e .1 (omega (arith, long)))
+    (e .0 ∙ sym (reporting-refusal _ _ _ _ _ (c .before .before .before .before .before .if1 .taken)), λ same long. e .1 (omega (arith, long)))
 
 print-figures-requires : tie.Need-print-figures-requires
 print-figures-requires c κs = search needs

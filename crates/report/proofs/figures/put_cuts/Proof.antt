@@ -13,18 +13,14 @@ slice-aggregate-put-line2 c = search needs
 
 put-line2-requires : tie.Need-put-line2-requires
 unfolding cutLines text
-put-line2-requires c κs =
-    let a = c .before .before .before .args in
-    near-as (sym (line-of "cut" _)) (near-first _ (line "size" (a .a ∷ a .b ∷ [])) (c .before .before .before .pre))
+put-line2-requires c κs = near-as (sym (line-of "cut" _)) (near-first _ (line "size" (c .before .before .before .args .a ∷ c .before .before .before .args .b ∷ [])) (c .before .before .before .pre))
 
 slice-aggregate-put-line2-2 : tie.Need-slice-aggregate-put-line2-2
 slice-aggregate-put-line2-2 c = search needs
 
 put-line2-requires-2 : tie.Need-put-line2-requires-2
 unfolding cutLines text
-put-line2-requires-2 c κs =
-    let a = c .before .before .before .before .before .before .before .before .args in
-    near-as (sym (line-of "size" _)) (near-rest (laid-as (line-of "cut" _) (c .before .before .before .before .put-line2 .ensures)) (line "size" (a .a ∷ a .b ∷ [])) (c .before .before .before .before .before .before .before .before .pre))
+put-line2-requires-2 c κs = near-as (sym (line-of "size" _)) (near-rest (laid-as (line-of "cut" _) (c .before .before .before .before .put-line2 .ensures)) (line "size" (c .before .before .before .before .before .before .before .before .args .a ∷ c .before .before .before .before .before .before .before .before .args .b ∷ [])) (c .before .before .before .before .before .before .before .before .pre))
 
 same-length : tie.Need-same-length
 same-length c = search needs

@@ -1,6 +1,6 @@
 use native.Mathlib.Omega.{arith}
 use Rattle.rules.specs.Report.{text}
-use Rattle.report.proofs.Lines.{refusal-line, near-line2}
+use Rattle.report.proofs.Lines.{refusal-line, refusal-length, near-line2}
 use Rattle.report.proofs.Laying.{laid-as}
 use borrow.Author.Needs.{needs}
 use Rattle.report.proofs.figures.put_refusal.Statement.{statement}
@@ -17,7 +17,10 @@ same-length c = search needs
 
 returns : tie.Need-returns
 unfolding text
-returns c = laid-as (refusal-line (c .before .before .before .before .before .before .args .v)) (c .before .before .put-line2 .ensures)
+returns c =
+    let v = c .before .before .before .before .before .before .args .v in
+    let l = laid-as (refusal-line v) (c .before .before .put-line2 .ensures) in
+    (l, omega (arith, l .ends, refusal-length v (search needs) (search needs)))
 
 pub put-refusal-spec : {M : Type 1} → statement M
 put-refusal-spec =

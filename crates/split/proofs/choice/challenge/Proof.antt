@@ -1,15 +1,15 @@
--- `choice::challenge` meets its contract: its tests are those of the definition, gains compared by their bits. Assumes nothing.
-use mathlib.Core.Path.{_≡_, ap, _∙_}
-use mathlib.Core.Bool.{true, false, _&&_}
-use lib.Dec.{leb, eqb}
-use lib.IntN.{ℤ}
-use mir.Syntax.{w32}
+-- Each return is a case of `challenged`. Assumes nothing.
+use mathlib.Core.Path.{sym, _∙_}
+use borrow.Author.Needs.{needs}
+use borrow.Author.Tests.{eq-eqb, ne-eqb, lt-leb, le-leb}
 use mir.Facts.{toZ-ofZ}
-use borrow.Author.Needs.{needs, sfits-of}
-use Rattle.split.specs.Best.{goesFirst, bestIs}
-use Rattle.split.proofs.FilesPassed.{challenge-won, challenge-lost}
+use Rattle.split.specs.Best.{challenged}
 use Rattle.split.proofs.choice.challenge.Statement.{statement}
 use Rattle.split.proofs.choice.challenge.Tie as tie
+
+returns : tie.Need-returns
+unfolding challenged
+returns c = simp (ne-eqb _ _ (c .if1 .taken))
 
 mul-apart : tie.Need-mul-apart
 mul-apart c = search needs
@@ -17,23 +17,35 @@ mul-apart c = search needs
 apart-requires : tie.Need-apart-requires
 apart-requires c κs = search needs
 
-returns : tie.Need-returns
-returns c =
-    let s = c .before .before .before .before .before .before .before .before .before .before in
-    let d = c .before .before .before .before .before .before .before .before .apart .result in
-    let g = toZ-ofZ (s .fits .gain) in
-    let b = toZ-ofZ {w = w32} {z = s .args .best .gain} (sfits-of (c .before .before .struct-told2 .given .1 .0 .1)) in
-    let h : (eqb (s .args .lock) 0 && leb d (s .args .window .span) && goesFirst (s .args .gain) d (s .args .best) (s .args .none)) ≡ true = rw (g, b) at (c .if1 .taken) in
-    ap (λ (z : ℤ). bestIs (s .args .f) z d) g ∙ challenge-won (s .args .window) (s .args .best) (s .args .f) (s .args .gain) (s .args .lock) (s .args .after) (s .args .none) d (c .before .before .before .before .before .before .before .before .apart .ensures) h
-
 returns-2 : tie.Need-returns-2
-returns-2 c =
-    let s = c .before .before .before .before .before .before .before .before .before .before in
-    let d = c .before .before .before .before .before .before .before .before .apart .result in
-    let g = toZ-ofZ (s .fits .gain) in
-    let b = toZ-ofZ {w = w32} {z = s .args .best .gain} (sfits-of (c .before .before .struct-told2 .given .1 .0 .1)) in
-    let h : (eqb (s .args .lock) 0 && leb d (s .args .window .span) && goesFirst (s .args .gain) d (s .args .best) (s .args .none)) ≡ false = rw (g, b) at (c .if1 .left) in
-    challenge-lost (s .args .window) (s .args .best) (s .args .f) (s .args .gain) (s .args .lock) (s .args .after) (s .args .none) d (c .before .before .before .before .before .before .before .before .apart .ensures) h
+unfolding challenged
+returns-2 c = simp (eq-eqb _ _ (c .before .before .before .before .if1 .left), ← c .before .before .apart .ensures, lt-leb _ _ (c .if2 .taken))
+
+is-better-requires : tie.Need-is-better-requires
+is-better-requires c κs = search needs
+
+returns-3 : tie.Need-returns-3
+unfolding challenged
+returns-3 c =
+    let g = toZ-ofZ (c .before .before .before .before .before .before .before .fits .gain) in
+    simp (
+      g,
+      eq-eqb _ _ (c .before .before .before .before .before .before .if1 .left),
+      ← c .before .before .before .before .apart .ensures,
+      le-leb _ _ (c .before .before .if2 .left),
+      rw g at (sym (c .before .is-better .ensures) ∙ c .if3 .taken),
+    )
+
+returns-4 : tie.Need-returns-4
+unfolding challenged
+returns-4 c =
+    let g = toZ-ofZ (c .before .before .before .before .before .before .before .fits .gain) in
+    simp (
+      eq-eqb _ _ (c .before .before .before .before .before .before .if1 .left),
+      ← c .before .before .before .before .apart .ensures,
+      le-leb _ _ (c .before .before .if2 .left),
+      rw g at (sym (c .before .is-better .ensures) ∙ c .if3 .left),
+    )
 
 pub challenge-spec : {M : Type 1} → statement M
-challenge-spec = tie.close (tie.spec mul-apart apart-requires returns returns-2)
+challenge-spec = tie.close (tie.spec returns mul-apart apart-requires returns-2 is-better-requires returns-3 returns-4)

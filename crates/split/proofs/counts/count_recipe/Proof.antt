@@ -2,7 +2,8 @@
 use native.Mathlib.Omega.{arith}
 use lib.ListN.{length-set}
 use borrow.Author.Needs.{needs}
-use Rattle.split.specs.Counting.{counted}
+use Rattle.split.specs.Zones.{stateOf}
+use Rattle.split.proofs.FourCounts.{counted-is}
 use Rattle.split.proofs.counts.count_recipe.Statement.{statement}
 use Rattle.split.proofs.counts.count_recipe.Tie as tie
 
@@ -61,8 +62,10 @@ same-length : tie.Need-same-length
 same-length c = search needs
 
 returns : tie.Need-returns
-unfolding counted
-returns c = cc
+returns c =
+    let x = c .before .before .before .before .before .before .before .before .args in
+    counted-is (stateOf (x .sides .now) (x .locks .now)) (x .n) (x .j) (x .recipe .now) (x .zone .now)
+    (c .before .before .before .count-on .ensures) (c .before .before .count-on2 .ensures) (c .before .locked-on .ensures) (c .locked-on2 .ensures)
 
 pub count-recipe-spec : {M : Type 1} → statement M
 count-recipe-spec =

@@ -1,7 +1,6 @@
 -- `moves::play` meets its contract. The invariant: whatever pass the lists were in, it is underway. Assumes nothing.
 use mathlib.Core.Path.{_≡_, sym, ap, _∙_}
 use Prim.Native.Nat.{ℕ, _-_, _<_}
-use native.Mathlib.Omega.{arith}
 use lib.IntN.{pos}
 use lib.ListN.{length, getD, set}
 use Rattle.rules.specs.Job.{Job}
@@ -13,7 +12,7 @@ use Rattle.split.specs.Movable.{Turns}
 use Rattle.split.specs.Going.{Going}
 use Rattle.split.specs.Playing.{Origin, jobFrom, Underway}
 use Rattle.split.proofs.OneMove.{move-made}
-use Rattle.split.proofs.Played.{Playing, choosable, playing-next, playing-gain, playing-safe, playing-turns, playing-more, playing-goes, playing-end, under-long}
+use Rattle.split.proofs.Played.{same-below, below-less, one-less, Playing, choosable, playing-next, playing-gain, playing-safe, playing-turns, playing-more, playing-goes, playing-end, under-long}
 use Rattle.split.proofs.PassOnce.{Endable, endable, pass-ends}
 use Rattle.split.proofs.moves.play.Statement.{statement}
 use Rattle.split.proofs.moves.play.Tie as tie
@@ -150,7 +149,7 @@ choose-requires : tie.Need-choose-requires Inv-loop μ-loop
 choose-requires c κs =
     let u = now (c .before .before .before) in
     let o = choosable (u .playable) (u .going) in
-    ((o .sides, o .gains, omega (arith, o .scratch)), ((o .den, o .size), o .holds))
+    ((o .sides, o .gains, o .locks), ((o .den, o .size), o .holds))
 
 keep-best-requires : tie.Need-keep-best-requires Inv-loop μ-loop
 keep-best-requires c κs = let e = finish (c .before .before) in (e .back, (e .files, (e .binary, e .added)))
@@ -201,7 +200,7 @@ note-choice-requires : tie.Need-note-choice-requires Inv-loop μ-loop
 note-choice-requires c κs =
     let i = c .before .before in
     let m = turns (i .before) (i .if1 .left) in
-    (m .tried, m .gained, omega (arith, i .if1 .left, now (at (i .before)) .playable .small .files))
+    (m .tried, m .gained, below-less (i .if1 .left) (now (at (i .before)) .playable .small .files))
 
 treat-move-requires : tie.Need-treat-move-requires Inv-loop μ-loop
 treat-move-requires c κs = let i = c .before .before .before .before .before .before .before .before .before .before .before in playing-safe (now (at (i .before)) .playable) (first (i .before)) (i .if1 .left)
@@ -212,9 +211,9 @@ note-end-requires c κs =
     let m = turns (k t) (t .before .before .before .before .before .before .before .before .before .before .before .before .if1 .left) in (
       m .cuts,
       m .ends,
-      omega (arith, number t (λ p. p .cut), m .cut),
-      omega (arith, number t (λ p. p .scans), m .scans),
-      omega (arith, number t (λ p. p .moves), m .moves),
+      same-below (number t (λ p. p .cut)) (m .cut),
+      same-below (number t (λ p. p .scans)) (m .scans),
+      same-below (number t (λ p. p .moves)) (m .moves),
     )
 
 loop-less : tie.Need-loop-less Inv-loop μ-loop
@@ -222,7 +221,7 @@ loop-less c =
     let n = c .before .before .before .before in
     let y = now (a (t n)) .playable in
     let h = n .before .before .before .before .before .before .before .before .before .before .before .before .before .before .before .before .before .before .before .before .before .before .before .before .if1 .left in
-    omega (arith, playing-next y (first (k (t n))) h .early, playing-more y (first (k (t n))) h {b' = leaves n} (made n))
+    one-less (playing-next y (first (k (t n))) h .early) (playing-more y (first (k (t n))) h {b' = leaves n} (made n))
 
 loop-again : tie.Need-loop-again Inv-loop μ-loop
 loop-again c o u =

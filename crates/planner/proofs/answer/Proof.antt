@@ -1,8 +1,10 @@
+use mathlib.Core.Bool.{true}
+use native.Mathlib.Omega.{arith}
 use Rattle.rules.specs.Job.{limitsOf}
-use Rattle.planner.proofs.Telling.{refusal-printed, run-read, room-read, few-read}
+use Rattle.planner.proofs.Telling.{refusal-printed, run-read, room-read, few-read, either}
 use borrow.Author.Needs.{needs}
-use Rattle.planner.proofs.night.Statement.{statement}
-use Rattle.planner.proofs.night.Tie as tie
+use Rattle.planner.proofs.answer.Statement.{statement}
+use Rattle.planner.proofs.answer.Tie as tie
 
 slice-aggregate-read : tie.Need-slice-aggregate-read
 slice-aggregate-read c = search needs
@@ -32,8 +34,8 @@ returns : tie.Need-returns
 returns c =
     let r = c .before .before .before .before .before .before .before .before .before .before .before .before .read in
     let p = c .before .before .print-refusal .ensures in
-    let e = refusal-printed (limitsOf _ _ _ _) _ (r .result) _ (r .ensures .0) (r .ensures .1) _ (c .before .before .before .before .before .before .before .before .before .before .before .before .before .before .before .before .before .before .before .before .args .out .now) _ (c .before .before .before .before .if1 .taken) (p .0) in
-    (e .0, (p .1, e .1))
+    let e = refusal-printed (c .before .before .before .before .before .before .before .before .before .before .before .before .before .before .before .before .before .before .before .before .args .traced) (limitsOf _ _ _ _) _ (r .result) _ (r .ensures .0) (r .ensures .1) _ (c .before .before .before .before .before .before .before .before .before .before .before .before .before .before .before .before .before .before .before .before .args .out .now) _ (c .before .before .before .before .if1 .taken) (p .0) in
+    (e .0, (λ long. p .1 (either (c .before .before .before .before .before .before .before .before .before .before .before .before .before .before .before .before .before .before .before .before .args .traced) _ _ _ (omega arith) long), e .1))
 
 slice-aggregate-print-first : tie.Need-slice-aggregate-print-first
 slice-aggregate-print-first c = search needs
@@ -54,7 +56,7 @@ print-first-requires : tie.Need-print-first-requires
 print-first-requires c κs =
     let r = c .before .before .before .before .before .before .before .before .before .before .before .before .before .before .read in
     let z = c .before .before .before .before .before .before .if1 .left in
-    (room-read (limitsOf _ _ _ _) _ (r .result) _ (r .ensures .0) (r .ensures .1) z, few-read (limitsOf _ _ _ _) _ (r .result) _ (r .ensures .0) (r .ensures .1) z)
+    (room-read true (limitsOf _ _ _ _) _ (r .result) _ (r .ensures .0) (r .ensures .1) z, few-read true (limitsOf _ _ _ _) _ (r .result) _ (r .ensures .0) (r .ensures .1) z)
 
 same-length-2 : tie.Need-same-length-2
 same-length-2 c = search needs
@@ -63,11 +65,11 @@ returns-2 : tie.Need-returns-2
 returns-2 c =
     let r = c .before .before .before .before .before .before .before .before .before .before .before .before .before .before .before .before .before .before .read in
     let p = c .before .before .before .print-first .ensures in
-    let e = run-read (limitsOf _ _ _ _) _ (r .result) _ (r .ensures .0) (r .ensures .1) (c .before .before .before .before .before .before .before .before .before .before .if1 .left) _ (c .before .before .before .before .before .before .before .before .before .before .before .before .before .before .before .before .before .before .before .before .before .before .before .before .before .before .args .out .now) _ (p .0) in
+    let e = run-read (c .before .before .before .before .before .before .before .before .before .before .before .before .before .before .before .before .before .before .before .before .before .before .before .before .before .before .args .traced) (limitsOf _ _ _ _) _ (r .result) _ (r .ensures .0) (r .ensures .1) (c .before .before .before .before .before .before .before .before .before .before .if1 .left) _ (c .before .before .before .before .before .before .before .before .before .before .before .before .before .before .before .before .before .before .before .before .before .before .before .before .before .before .args .out .now) _ (p .0) in
     (e .0, (p .1, e .1))
 
-pub night-spec : {M : Type 1} → statement M
-night-spec =
+pub answer-spec : {M : Type 1} → statement M
+answer-spec =
     tie.close
     (tie.spec
     slice-aggregate-read

@@ -1,0 +1,331 @@
+-- The lines of a trace: as pieces, and how long they can be. Assumes nothing.
+use mathlib.Core.Path.{_≡_, refl, sym, ap, _∙_}
+use Prim.Native.Nat.{ℕ, zero, suc, _+_, _-_, _*_, _≤_, _<_}
+use mathlib.Core.Bool.{Bool, true, false, not, _&&_, _||_}
+use mathlib.Core.List.{List, [], _∷_, _++_, append-assoc}
+use native.Mathlib.Omega.{arith}
+use native.Mathlib.Numerals.{add-one}
+use lib.Dec.{leb, ltb, eqb}
+use lib.ListN.{length, getD, length-append}
+use lib.IntN.{ℤ, pos}
+use mir.Syntax.{w32}
+use mir.Val.{SFits, toZ, ofZ}
+use mir.Facts.{toZ-ofZ}
+use borrow.Author.Tests.{ltb-false, leb-true, eqb-true, lt-ltb, le-ltb, not-true}
+use Rattle.rules.specs.declared.Figures.{Figures}
+use Rattle.rules.specs.Lists.{lowest, someBelow, upTo}
+use Rattle.rules.specs.Job.{Job}
+use Rattle.rules.specs.Split.{sizeOn}
+use Rattle.rules.specs.Report.{text, spaced, line, sizeLine}
+use Rattle.rules.specs.Trace.{Listing, signed, scanLines, scansBefore, moveLines, movesLines, passLines, badEnd, holdsPass}
+use Rattle.rules.proofs.Tests.{or-no, and-yes}
+use Rattle.rules.proofs.Searches.{none-below}
+use Rattle.job.proofs.Search.{Passed, passed-none, passed-more, passed-hit, passed-end}
+use Rattle.report.specs.Laying.{Laid}
+use Rattle.report.specs.Steps.{cutLines}
+use Rattle.report.specs.Tracing.{scansOf, endsOf, movesOf, InOrder, MovesHeld, moveLine, gainsLine, tallyLines, tailLines}
+use Rattle.report.proofs.Digits.{Long}
+use Rattle.report.proofs.Laying.{pieces, grows, Laying, laying-none, growing-more, growing-end, growing-stop, laid-as, laid-more}
+use Rattle.report.proofs.Lines.{Held, line-one, line-two, spaced-length}
+use Rattle.report.proofs.Gains.{signed-length}
+
+-- ---- texts that grow by a line for each scan or move
+
+abbrev pub scanLine : Listing → ℕ → ℕ → List ℕ
+scanLine l a k = line "scan" (getD (l .recipes) (a + k) 0 ∷ getD (l .kinds) (a + k) 0 ∷ [])
+
+scan-pieces : (l : Listing) (a n : ℕ) → pieces (scanLine l a) (upTo n) ≡ scanLines l a n
+unfolding scanLines
+scan-pieces l a = grows (scanLine l a) (scanLines l a) refl (λ n. refl)
+
+move-pieces : (l : Listing) (n : ℕ) → pieces (moveLines l) (upTo n) ≡ movesLines l n
+unfolding movesLines
+move-pieces l = grows (moveLines l) (movesLines l) refl (λ n. refl)
+
+-- ---- lists that a text does not read
+
+scans-same : (l : Listing) (a n : ℕ) → scanLines (scansOf (l .recipes) (l .kinds)) a n ≡ scanLines l a n
+unfolding scanLines
+scans-same l a zero = refl
+scans-same l a (suc n) = ap (λ (t : List ℕ). t ++ scanLine l a n) (scans-same l a n)
+
+abbrev pub onlyMoves : Listing → Listing
+onlyMoves l = movesOf (l .tried) (l .gained) (l .cuts) (l .ends) (l .recipes) (l .kinds)
+
+abbrev pub onlyEnds : Listing → Listing
+onlyEnds l = endsOf (l .ends) (l .recipes) (l .kinds)
+
+-- a move, and its scans from the first on
+move-parts : (l : Listing) (i first : ℕ) → first ≡ scansBefore l i
+    → moveLine (getD (l .tried) i 0) (getD (l .gained) i (pos 0)) (getD (l .cuts) i 0) ++ scanLines (scansOf (l .recipes) (l .kinds)) first (getD (l .ends) i 0 - first)
+    ≡ moveLines l i
+unfolding moveLine moveLines
+move-parts l i first e = rw (scans-same l first (getD (l .ends) i 0 - first), e)
+
+before-same : (l : Listing) (i : ℕ) → scansBefore l i ≡ scansBefore (onlyMoves l) i
+before-same l zero = refl
+before-same l (suc i) = refl
+
+pub moves-same : (l : Listing) (n : ℕ) → movesLines (onlyMoves l) n ≡ movesLines l n
+unfolding movesLines
+moves-same l zero = refl
+moves-same l (suc n) =
+    let same : moveLines (onlyMoves l) n ≡ moveLines l n =
+    sym (move-parts (onlyMoves l) n (scansBefore l n) (before-same l n)) ∙ move-parts l n (scansBefore l n) refl in
+    ap (λ (t : List ℕ). t ++ moveLines (onlyMoves l) n) (moves-same l n) ∙ ap (λ (t : List ℕ). movesLines l n ++ t) same
+
+bad-same : (l : Listing) (i : ℕ) → badEnd (onlyMoves l) i ≡ badEnd l i
+bad-same l zero = refl
+bad-same l (suc i) = refl
+
+ends-same : (l : Listing) (i : ℕ) → badEnd (onlyEnds l) i ≡ badEnd l i
+ends-same l zero = refl
+ends-same l (suc i) = refl
+
+ends-agree : (l : Listing) (n : ℕ) → someBelow (badEnd (onlyEnds l)) n ≡ someBelow (badEnd l) n
+unfolding lowest
+ends-agree l n = ap (λ (k : ℕ). ltb k n) (go n)
+  where
+    go : (m : ℕ) → lowest (badEnd (onlyEnds l)) m ≡ lowest (badEnd l) m
+    go zero = refl
+    go (suc m) = rw (go m, ends-same l m)
+
+-- ---- the lists hold the pass
+
+-- a test of each list in turn, as the code groups them
+held-parts : (a b c d e f g : Bool) → ((a && b) && (c && d && e && f) && g) ≡ (a && b && c && d && e && f && g)
+held-parts true true c d e f g = refl
+held-parts true false c d e f g = refl
+held-parts false b c d e f g = refl
+
+module _ (sizes : List ℕ) (f : Figures) (l : Listing) where
+  abbrev filesHeld : Bool
+  filesHeld = eqb (length (l .gains)) (length sizes) && leb (f .tried) (length sizes)
+
+  abbrev movesHeld : Bool
+  movesHeld =
+      leb (f .tried) (length (l .tried)) && leb (f .tried) (length (l .gained)) && leb (f .tried) (length (l .cuts)) && leb (f .tried) (length (l .ends))
+
+  abbrev scansHeld : Bool
+  scansHeld = not (someBelow (badEnd l) (f .tried))
+
+  grouped : (filesHeld && movesHeld && scansHeld) ≡ holdsPass sizes f l
+  grouped =
+      held-parts (eqb (length (l .gains)) (length sizes)) (leb (f .tried) (length sizes)) (leb (f .tried) (length (l .tried))) (leb (f .tried) (length (l .gained)))
+      (leb (f .tried) (length (l .cuts))) (leb (f .tried) (length (l .ends))) scansHeld
+
+  module _ {files : Bool} (e : files ≡ filesHeld) where
+    first-is : {b : Bool} → files ≡ b → (b && movesHeld && scansHeld) ≡ holdsPass sizes f l
+    first-is h = ap (λ (b : Bool). b && movesHeld && scansHeld) (sym h ∙ e) ∙ grouped
+
+    pub no-files : files ≡ false → false ≡ holdsPass sizes f l
+    no-files h = first-is h
+
+    module _ {moves : Bool} (q : moves ≡ movesHeld) where
+      second-is : {b : Bool} → files ≡ true → moves ≡ b → (b && scansHeld) ≡ holdsPass sizes f l
+      second-is h k = ap (λ (b : Bool). b && scansHeld) (sym k ∙ q) ∙ first-is h
+
+      pub no-moves : files ≡ true → moves ≡ false → false ≡ holdsPass sizes f l
+      no-moves h k = second-is h k
+
+      pub all-ends : moves ≡ true → f .tried ≤ length (l .ends)
+      all-ends k =
+          let others : Bool = leb (f .tried) (length (l .tried)) && leb (f .tried) (length (l .gained)) && leb (f .tried) (length (l .cuts)) in
+          leb-true (f .tried) (length (l .ends)) (and-yes others (leb (f .tried) (length (l .ends))) (sym q ∙ k) .1)
+
+      pub all-held : {scans : Bool} → files ≡ true → moves ≡ true → scans ≡ not (someBelow (badEnd (onlyEnds l)) (f .tried)) → scans ≡ holdsPass sizes f l
+      all-held h k m = m ∙ ap not (ends-agree l (f .tried)) ∙ second-is h k
+
+pub record PassHeld (sizes : List ℕ) (f : Figures) (l : Listing) : Type 0 where
+  pub gains : length (l .gains) ≡ length sizes
+  pub few : f .tried ≤ length sizes
+  pub moves : MovesHeld (f .tried) l
+
+pub held-tells : (sizes : List ℕ) (f : Figures) (l : Listing) → holdsPass sizes f l ≡ true → PassHeld sizes f l
+held-tells sizes f l h =
+    let ends = and-yes _ _ h in
+    let end = and-yes _ _ (ends .0) in
+    let cut = and-yes _ _ (end .0) in
+    let gain = and-yes _ _ (cut .0) in
+    let file = and-yes _ _ (gain .0) in
+    let each = and-yes _ _ (file .0) in
+    record {
+      gains = eqb-true (length (l .gains)) (length sizes) (each .0);
+      few = leb-true (f .tried) (length sizes) (each .1);
+      moves = record {
+        tried = leb-true (f .tried) (length (l .tried)) (file .1);
+        gained = leb-true (f .tried) (length (l .gained)) (gain .1);
+        cuts = leb-true (f .tried) (length (l .cuts)) (cut .1);
+        ends = leb-true (f .tried) (length (l .ends)) (end .1);
+        scans = none-below (badEnd l) (f .tried) (not-true (someBelow (badEnd l) (f .tried)) (ends .1));
+      };
+    }
+
+pub only-moves : {n : ℕ} (l : Listing) → MovesHeld n l → MovesHeld n (onlyMoves l)
+only-moves l h = record {
+  tried = h .tried;
+  gained = h .gained;
+  cuts = h .cuts;
+  ends = h .ends;
+  scans = λ i k. bad-same l i ∙ h .scans i k;
+}
+
+in-order : (l : Listing) (i : ℕ) → badEnd l i ≡ false → InOrder (l .recipes) (l .kinds) (scansBefore l i) (getD (l .ends) i 0)
+in-order l i h =
+    let end : ℕ = getD (l .ends) i 0 in
+    let late = or-no _ _ h in
+    let early = or-no _ _ (late .0) in
+    record {
+      rising = ltb-false end (scansBefore l i) (early .0);
+      told = ltb-false (length (l .recipes)) end (early .1);
+      kind = ltb-false (length (l .kinds)) end (late .1);
+    }
+
+-- ---- a loop over the ends, up to the first bad one
+
+pub record Ending (l : Listing) (n i first : ℕ) : Type 0 where
+  pub starts : first ≡ scansBefore l i
+  pub passed : Passed (badEnd l) n i
+
+pub ending-none : {l : Listing} {n : ℕ} → Ending l n 0 0
+ending-none = record { starts = refl; passed = passed-none }
+
+module _ {l : Listing} {n i first : ℕ} (x : Ending l n i first) where
+  abbrev judged : Bool
+  judged = ltb (getD (l .ends) i 0) first || ltb (length (l .recipes)) (getD (l .ends) i 0) || ltb (length (l .kinds)) (getD (l .ends) i 0)
+
+  is-judged : judged ≡ badEnd l i
+  is-judged = rw (x .starts)
+
+  pub ending-more : {b : Bool} → i < n → b ≡ judged → b ≡ false → Ending l n (i + 1) (getD (l .ends) i 0)
+  ending-more h e k = record {
+    starts = rw (add-one i);
+    passed = passed-more (x .passed) h (sym is-judged ∙ sym e ∙ k);
+  }
+
+  pub ending-hit : {b : Bool} → i < n → b ≡ judged → b ≡ true → false ≡ not (someBelow (badEnd l) n)
+  ending-hit h e k =
+      let at : i ≡ lowest (badEnd l) n = passed-hit (x .passed) h (sym is-judged ∙ sym e ∙ k) in
+      ap not (sym (lt-ltb (lowest (badEnd l) n) n (omega arith)))
+
+  pub ending-end : n ≤ i → true ≡ not (someBelow (badEnd l) n)
+  ending-end h =
+      let at : n ≡ lowest (badEnd l) n = passed-end (x .passed) h in
+      ap not (sym (le-ltb (lowest (badEnd l) n) n (omega arith)))
+
+-- ---- a loop over the scans of a move
+
+-- the first k scans from a on are laid, at most so long
+pub record Scanning (l : Listing) (a n at : ℕ) (room : List ℕ) (k next : ℕ) (after : List ℕ) : Type 0 where
+  pub laying : Laying (scanLine l a) (upTo n) at room k next after
+  pub short : next ≤ at + 47 * k
+
+pub scanning-none : {l : Listing} {a n at : ℕ} {room : List ℕ} → Scanning l a n at room 0 at room
+scanning-none = record { laying = laying-none; short = omega arith }
+
+module _ {l : Listing} {a n at k next : ℕ} {room mid : List ℕ} (x : Scanning l a n at room k next mid) where
+  pub scanning-more : {p : ℕ} {after : List ℕ} → k < n → Laid next (scanLine l a k) mid p after → p ≤ next + 47 → Scanning l a n at room (k + 1) p after
+  scanning-more h y s = record { laying = growing-more (x .laying) h y; short = omega (arith, x .short) }
+
+  pub scanning-end : n ≤ k → Laid at (scanLines l a n) room next mid
+  scanning-end h = laid-as (scan-pieces l a n) (growing-end (x .laying) h)
+
+  pub scanning-short : next ≤ at + 47 * n
+  scanning-short = omega (arith, x .short, growing-stop (x .laying))
+
+-- ---- a loop over the moves
+
+-- the first i moves are laid, at most so long, and the scans of the next begin at first
+pub record Moving (l : Listing) (n at : ℕ) (room : List ℕ) (i first next : ℕ) (after : List ℕ) : Type 0 where
+  pub starts : first ≡ scansBefore l i
+  pub laying : Laying (moveLines l) (upTo n) at room i next after
+  pub short : next ≤ at + (69 * i + 47 * first)
+  pub small : first < 65536
+
+pub moving-none : {l : Listing} {n at : ℕ} {room : List ℕ} → Moving l n at room 0 0 at room
+moving-none = record { starts = refl; laying = laying-none; short = omega arith; small = omega arith }
+
+module _ {l : Listing} {n at i first next : ℕ} {room mid : List ℕ} (x : Moving l n at room i first next mid) where
+  abbrev ownLine : List ℕ
+  ownLine = moveLine (getD (l .tried) i 0) (getD (l .gained) i (pos 0)) (getD (l .cuts) i 0)
+
+  abbrev ownScans : List ℕ
+  ownScans = scanLines (scansOf (l .recipes) (l .kinds)) first (getD (l .ends) i 0 - first)
+
+  pub moving-order : MovesHeld n l → i < n → InOrder (l .recipes) (l .kinds) first (getD (l .ends) i 0)
+  moving-order m h = rw (x .starts) (in-order l i (m .scans i h))
+
+  pub moving-more : {p q : ℕ} {after last : List ℕ} → MovesHeld n l → i < n → SFits w32 (getD (l .gained) i (pos 0)) → getD (l .ends) i 0 < 65536
+      → Laid next (moveLine (getD (l .tried) i 0) (toZ w32 (ofZ w32 (getD (l .gained) i (pos 0)))) (getD (l .cuts) i 0)) mid p after → p ≤ next + 69
+      → Laid p ownScans after q last → q ≤ p + 47 * (getD (l .ends) i 0 - first) → Moving l n at room (i + 1) (getD (l .ends) i 0) q last
+  moving-more m h f k y s z t =
+      let line : Laid next ownLine mid _ _ = laid-as (ap (λ (g : ℤ). moveLine (getD (l .tried) i 0) g (getD (l .cuts) i 0)) (toZ-ofZ f)) y in
+      record {
+        starts = rw (add-one i);
+        laying = growing-more (x .laying) h (laid-as (move-parts l i first (x .starts)) (laid-more line z));
+        short = omega (arith, x .short, moving-order m h .rising);
+        small = k;
+      }
+
+  pub moving-end : n ≤ i → Laid at (movesLines l n) room next mid
+  moving-end h = laid-as (move-pieces l n) (growing-end (x .laying) h)
+
+  pub moving-short : n ≤ i → next ≤ at + (69 * n + 47 * scansBefore l n)
+  moving-short h =
+      let e : i ≡ n = omega (arith, growing-stop (x .laying)) in
+      rw (← e) (omega (arith, x .short, x .starts))
+
+-- ---- the lines grouped as they are written
+
+pub pass-lines : (job : Job) (f : Figures) (sides : List ℕ) (l : Listing) (b : ℕ) → b ≡ sizeOn job 1 sides
+    → line "done" [] ++ movesLines (onlyMoves l) (f .tried) ++ tailLines f b (l .gains) sides ≡ passLines job f sides l
+unfolding tailLines passLines cutLines tallyLines gainsLine sizeLine
+pass-lines job f sides l b e = rw (e, moves-same l (f .tried)) (simp append-assoc)
+
+-- ---- how long: each number is one that the code holds
+
+pub scan-length : (recipe kind : ℕ) → Long recipe → Long kind → length (line "scan" (recipe ∷ kind ∷ [])) ≤ 47
+unfolding text
+scan-length recipe kind h k = omega (arith, line-two "scan" recipe kind h k)
+
+pub move-length : (file : ℕ) (gain : ℤ) (cut : ℕ) → Long file → SFits w32 gain → Long cut → length (moveLine file gain cut) ≤ 69
+unfolding moveLine text spaced
+move-length file gain cut h k m =
+    let first : List ℕ = spaced (file ∷ []) in
+    let last : List ℕ = spaced (cut ∷ []) in
+    omega (
+      arith,
+      length-append (text "move" ++ first ++ signed gain ++ last) (10 ∷ []),
+      length-append (text "move" ++ first ++ signed gain) last,
+      length-append (text "move" ++ first) (signed gain),
+      length-append (text "move") first,
+      spaced-length file [] h,
+      signed-length gain k,
+      spaced-length cut [] m,
+    )
+
+pub tally-length : (f : Figures) → Held f → length (tallyLines (f .tried) (f .kept) (f .scans) (f .visits)) ≤ 108
+unfolding tallyLines text
+tally-length f h =
+    let first : List ℕ = line "tried" (f .tried ∷ []) in
+    let second : List ℕ = line "kept" (f .kept ∷ []) in
+    let third : List ℕ = line "scans" (f .scans ∷ []) in
+    omega (
+      arith,
+      length-append (first ++ second ++ third) (line "visits" (f .visits ∷ [])),
+      length-append (first ++ second) third,
+      length-append first second,
+      line-one "tried" (f .tried) (h .tried),
+      line-one "kept" (f .kept) (h .kept),
+      line-one "scans" (f .scans) (h .scans),
+      line-one "visits" (f .visits) (h .visits),
+    )
+
+-- where the lists hold the moves, their scans are no more than the scan lists have
+pub before-held : (l : Listing) (n : ℕ) → MovesHeld n l → scansBefore l n ≤ length (l .recipes)
+before-held l zero h = omega arith
+before-held l (suc n) h = in-order l n (h .scans n (omega arith)) .told
+
+pub before-small : (l : Listing) (n : ℕ) → ((i : ℕ) → getD (l .ends) i 0 < 65536) → scansBefore l n < 65536
+before-small l zero h = omega arith
+before-small l (suc n) h = h n

@@ -1,0 +1,81 @@
+use Prim.Native.Nat.{_-_}
+use native.Mathlib.Omega.{arith}
+use Rattle.report.specs.Tracing.{scansOf}
+use Rattle.report.proofs.Traces.{Scanning, scanning-none, scanning-more, scanning-end, scanning-short}
+use Rattle.report.proofs.Laying.{laid-length}
+use borrow.Author.Needs.{needs}
+use Rattle.report.proofs.moves.put_scans.Statement.{statement}
+use Rattle.report.proofs.moves.put_scans.Tie as tie
+
+abbrev Inv-loop : tie.InvT-loop
+Inv-loop out₀ at recipes kinds first end a n next₀ k₀ out next k = Scanning (scansOf recipes kinds) a n at out₀ k next out
+
+abbrev μ-loop : tie.MeasureT-loop
+μ-loop out₀ at recipes kinds first end a n next₀ k₀ out next k = n - k
+
+sub-n : tie.Need-sub-n Inv-loop μ-loop
+sub-n c = search needs
+
+cast-n : tie.Need-cast-n Inv-loop μ-loop
+cast-n c = search needs
+
+loop-holds : tie.Need-loop-holds Inv-loop μ-loop
+loop-holds c = scanning-none
+
+add-put-scan : tie.Need-add-put-scan Inv-loop μ-loop
+add-put-scan c = search needs
+
+mul-put-scan : tie.Need-mul-put-scan Inv-loop μ-loop
+mul-put-scan c = search needs
+
+shared-slice-read-put-scan : tie.Need-shared-slice-read-put-scan Inv-loop μ-loop
+shared-slice-read-put-scan c = search needs
+
+add-put-scan-2 : tie.Need-add-put-scan-2 Inv-loop μ-loop
+add-put-scan-2 c = search needs
+
+mul-put-scan-2 : tie.Need-mul-put-scan-2 Inv-loop μ-loop
+mul-put-scan-2 c = search needs
+
+shared-slice-read-put-scan-2 : tie.Need-shared-slice-read-put-scan-2 Inv-loop μ-loop
+shared-slice-read-put-scan-2 c = search needs
+
+put-scan-requires : tie.Need-put-scan-requires Inv-loop μ-loop
+put-scan-requires c κs = omega (arith, c .before .before .before .before .loop .inv .short, c .before .before .before .before .before .before .before .before .pre .0)
+
+add-k : tie.Need-add-k Inv-loop μ-loop
+add-k c = search needs
+
+loop-less : tie.Need-loop-less Inv-loop μ-loop
+loop-less c = search needs
+
+loop-again : tie.Need-loop-again Inv-loop μ-loop
+loop-again c = scanning-more (c .before .before .before .before .before .before .before .loop .inv) (c .before .before .before .before .before .before .loop-test .taken) (c .before .before .put-scan .ensures .0) (c .before .before .put-scan .ensures .1)
+
+same-length : tie.Need-same-length Inv-loop μ-loop
+same-length c = laid-length (c .before .loop .inv .laying .laid)
+
+returns : tie.Need-returns Inv-loop μ-loop
+returns c = (scanning-end (c .before .loop .inv) (c .loop-test .left), scanning-short (c .before .loop .inv))
+
+pub put-scans-spec : {M : Type 1} → statement M
+put-scans-spec =
+    tie.close
+    (tie.spec
+    Inv-loop
+    μ-loop
+    sub-n
+    cast-n
+    loop-holds
+    add-put-scan
+    mul-put-scan
+    shared-slice-read-put-scan
+    add-put-scan-2
+    mul-put-scan-2
+    shared-slice-read-put-scan-2
+    put-scan-requires
+    add-k
+    loop-less
+    loop-again
+    same-length
+    returns)

@@ -1,0 +1,175 @@
+// A pass told: whether the lists hold it, and its lines.
+use crate::figures::put_cuts;
+use crate::moves::put_gains;
+use crate::moves::put_moves;
+use crate::split::put_sides;
+use crate::split::size_on;
+use crate::text::put_line1;
+use crate::text::put_text;
+use crate::verdict::lengths_verdict;
+use crate::verdict::refuse_if;
+use job::Job;
+use rules::Figures;
+use rules::Verdict;
+ghost use mathlib.Core.Path.{_≡_};
+ghost use mathlib.Core.Bool.{true, not, _&&_, _||_};
+ghost use Prim.Native.Nat.{_+_, _*_, _≤_};
+ghost use lib.ListN.{length};
+ghost use lib.Dec.{leb, ltb, eqb};
+ghost use Rattle.rules.specs.Lists.{someBelow};
+ghost use Rattle.rules.specs.Report.{ofSizes};
+ghost use Rattle.rules.specs.Trace.{listingOf, badEnd, holdsPass, passLines};
+ghost use Rattle.report.specs.Laying.{Ahead, Near, Laid};
+ghost use Rattle.report.specs.Tracing.{endsOf, passVerdict, tallyLines, tailLines};
+
+// A gain for each file, and no more moves than files.
+fn holds_files(n: u64, sizes: &[u16], gains: &[i32]) -> bool
+    ensures { λ r. ⌜ r ≡ (eqb (length (now (gains .entry))) (length (now (sizes .entry))) && leb n (length (now (sizes .entry)))) ⌝ }
+{
+    (gains.len() == sizes.len()) & (n as usize <= sizes.len())
+}
+
+fn holds_moves(n: u64, tried: &[u16], gained: &[i32], cuts: &[u16], ends: &[u16]) -> bool
+    ensures { λ r. ⌜ r ≡ (leb n (length (now (tried .entry))) && leb n (length (now (gained .entry))) && leb n (length (now (cuts .entry))) && leb n (length (now (ends .entry)))) ⌝ }
+{
+    let m = n as usize;
+    (m <= tried.len()) & (m <= gained.len()) & (m <= cuts.len()) & (m <= ends.len())
+}
+
+fn is_bad_end(first: u16, end: u16, recipes: usize, kinds: usize) -> bool
+    ensures { λ r. ⌜ r ≡ (ltb end first || ltb recipes end || ltb kinds end) ⌝ }
+{
+    (end < first) | (recipes < end as usize) | (kinds < end as usize)
+}
+
+// The scans of each move end no earlier than they begin, and within the scan lists.
+fn holds_scans(n: u64, ends: &[u16], recipes: &[u16], kinds: &[u16]) -> bool
+    requires { ⌜ n ≤ length (now ends) ⌝ }
+    ensures { λ r. ⌜ r ≡ not (someBelow (badEnd (endsOf (now (ends .entry)) (now (recipes .entry)) (now (kinds .entry)))) n) ⌝ }
+{
+    let m = n as usize;
+    let mut first = 0;
+    let mut i = 0;
+    while i < m {
+        let end = ends[i];
+        if is_bad_end(first, end, recipes.len(), kinds.len()) {
+            return false;
+        }
+        first = end;
+        i += 1;
+    }
+    true
+}
+
+fn holds_pass(
+    answer: Figures,
+    sizes: &[u16],
+    gains: &[i32],
+    tried: &[u16],
+    gained: &[i32],
+    cuts: &[u16],
+    ends: &[u16],
+    recipes: &[u16],
+    kinds: &[u16],
+) -> bool
+    ensures { λ r. ⌜ r ≡ holdsPass (now (sizes .entry)) answer (listingOf (now (gains .entry)) (now (tried .entry)) (now (gained .entry)) (now (cuts .entry)) (now (ends .entry)) (now (recipes .entry)) (now (kinds .entry))) ⌝ }
+{
+    let n = answer.tried;
+    if !holds_files(n, sizes, gains) {
+        return false;
+    }
+    if !holds_moves(n, tried, gained, cuts, ends) {
+        return false;
+    }
+    holds_scans(n, ends, recipes, kinds)
+}
+
+// 2, or 3 for sides that are not C long or lists that do not hold the pass.
+pub(crate) fn pass_verdict(
+    answer: Figures,
+    sizes: &[u16],
+    sides: &[u16],
+    gains: &[i32],
+    tried: &[u16],
+    gained: &[i32],
+    cuts: &[u16],
+    ends: &[u16],
+    recipes: &[u16],
+    kinds: &[u16],
+) -> Verdict
+    ensures { λ r. do ⌜ r ≡ passVerdict (← ⟦Job::MOST_FILES⟧ .entry) (now (sizes .entry)) (now (sides .entry)) (holdsPass (now (sizes .entry)) answer (listingOf (now (gains .entry)) (now (tried .entry)) (now (gained .entry)) (now (cuts .entry)) (now (ends .entry)) (now (recipes .entry)) (now (kinds .entry)))) ⌝ }
+{
+    let lengths = lengths_verdict(sizes, sides);
+    if lengths.number != 0 {
+        return lengths;
+    }
+    let held = holds_pass(
+        answer,
+        sizes,
+        gains,
+        tried,
+        gained,
+        cuts,
+        ends,
+        recipes,
+        kinds,
+    );
+    refuse_if(!held, 3, 0)
+}
+
+// Moves tried and kept, scans and visits.
+fn put_tallies(out: &mut [u8], at: usize, tried: u64, kept: u64, scans: u64, visits: u64) -> usize
+    requires { ⌜ Near at (tallyLines tried kept scans visits) ⌝ }
+    ensures { λ r. ⌜ Laid at (tallyLines tried kept scans visits) (now (out .entry)) r (now (out .exit)) ⌝ }
+{
+    let mut next = put_line1(out, at, b"tried", tried);
+    next = put_line1(out, next, b"kept", kept);
+    next = put_line1(out, next, b"scans", scans);
+    put_line1(out, next, b"visits", visits)
+}
+
+// The lines after the moves, where the size of B is b.
+fn put_tail(out: &mut [u8], at: usize, f: Figures, b: u64, gains: &[i32], sides: &[u16]) -> usize
+    requires { ⌜ Ahead at (256 + 22 * length (now gains) + length (now sides)) ⌝ }
+    ensures { λ r. ⌜ Laid at (tailLines f b (now (gains .entry)) (now (sides .entry))) (now (out .entry)) r (now (out .exit)) ⌝ }
+    ensures { λ r. ⌜ r ≤ at + (256 + 22 * length (now (gains .entry)) + length (now (sides .entry))) ⌝ }
+{
+    let mut next = put_gains(out, at, gains);
+    next = put_cuts(out, next, f.before as u64, f.cut as u64, f.size, b);
+    next = put_tallies(out, next, f.tried, f.kept, f.scans, f.visits);
+    put_sides(out, next, sides)
+}
+
+pub(crate) fn put_pass(
+    out: &mut [u8],
+    f: Figures,
+    sizes: &[u16],
+    sides: &[u16],
+    gains: &[i32],
+    tried: &[u16],
+    gained: &[i32],
+    cuts: &[u16],
+    ends: &[u16],
+    recipes: &[u16],
+    kinds: &[u16],
+) -> usize
+    requires { do ⌜ (length (now sizes) ≤ (← ⟦Job::MOST_FILES⟧)) × (length (now sides) ≡ length (now sizes)) ⌝ }
+    requires { ⌜ holdsPass (now sizes) f (listingOf (now gains) (now tried) (now gained) (now cuts) (now ends) (now recipes) (now kinds)) ≡ true ⌝ }
+    ensures { λ n. ⌜ Laid 0 (passLines (ofSizes (now (sizes .entry))) f (now (sides .entry)) (listingOf (now (gains .entry)) (now (tried .entry)) (now (gained .entry)) (now (cuts .entry)) (now (ends .entry)) (now (recipes .entry)) (now (kinds .entry)))) (now (out .entry)) n (now (out .exit)) ⌝ }
+    ensures { λ n. ⌜ n ≤ 512 + 128 * length (now (sizes .entry)) + 64 * length (now (recipes .entry)) ⌝ }
+{
+    let b = size_on(sizes, sides, 1);
+    let mut next = put_text(out, 0, b"done\n");
+    next = put_moves(
+        out,
+        next,
+        f.tried as usize,
+        tried,
+        gained,
+        cuts,
+        ends,
+        recipes,
+        kinds,
+    );
+    put_tail(out, next, f, b, gains, sides)
+}
