@@ -357,9 +357,14 @@ def write(folder, named):
         (folder / f"{name}.report").write_text(planner.run_stored(data))
 
 
+def frame(data):
+    """A length in two bytes, low byte first, and so many bytes."""
+    return len(data).to_bytes(2, "little") + data
+
+
 def framed(name, data):
-    """A case as the program takes it: the lengths of name and job, then both."""
-    return bytes([len(name)]) + len(data).to_bytes(3, "little") + name.encode() + data
+    """A case as the program takes it: its name, and its job."""
+    return frame(name.encode()) + frame(data)
 
 
 def write_program(folder, named):

@@ -1,13 +1,23 @@
 // Standard input, taken up block by block.
 ghost use mathlib.Core.Path.{_≡_};
 ghost use Prim.Native.Nat.{_+_, _≤_};
-ghost use lib.ListN.{length};
+ghost use lib.ListN.{length, drop};
+ghost use lib.Seq.{paste};
 ghost use Rattle.io.specs.Counts.{Counts};
 use libc::STDIN_FILENO;
 
+fn least(a: usize, b: usize) -> usize
+    ensures { λ r. ⌜ (r ≤ a) × (r ≤ b) ⌝ }
+{
+    if a < b {
+        return a;
+    }
+    b
+}
+
 fn copy_at(from: &[u8], room: &mut [u8], at: usize)
     requires { ⌜ at + length (now from) ≤ length (now room) ⌝ }
-    ensures { λ _. ⌜ length (now (room .exit)) ≡ length (now (room .entry)) ⌝ }
+    ensures { λ _. ⌜ now (room .exit) ≡ paste (now (room .entry)) at (now (from .entry)) (length (now (from .entry))) ⌝ }
 {
     let mut i = 0;
     while i < from.len() {
@@ -16,24 +26,34 @@ fn copy_at(from: &[u8], room: &mut [u8], at: usize)
     }
 }
 
-// One block, put into the room from `at` on; the bytes that came, fewer than 512 only at the end of the input.
-fn take_block(room: &mut [u8], at: usize) -> usize
-    requires { ⌜ at + 512 ≤ length (now room) ⌝ }
-    ensures { λ r. ⌜ (r ≤ 512) × (length (now (room .exit)) ≡ length (now (room .entry))) ⌝ }
+// At most so many bytes, from the room's start on.
+fn read_some(room: &mut [u8], most: usize) -> usize
+    requires { ⌜ most ≤ length (now room) ⌝ }
+    ensures { λ r. ⌜ Counts r (now (room .exit)) × (r ≤ most) ⌝ }
+{
+    io::read_full(STDIN_FILENO, &mut room[..most])
+}
+
+// One block or the first bytes of one, put into the room from `at` on; the bytes that came, fewer than `most` only at the end of the input.
+fn take_block(room: &mut [u8], at: usize, most: usize) -> usize
+    requires { ⌜ (most ≤ 512) × (at + most ≤ length (now room)) ⌝ }
+    ensures { λ r. ⌜ (r ≤ most) × (drop (at + r) (now (room .exit)) ≡ drop (at + r) (now (room .entry))) ⌝ }
 {
     let mut block = [0u8; 512];
-    let got = io::read_full(STDIN_FILENO, &mut block);
+    let got = read_some(&mut block, most);
     copy_at(&block[..got], room, at);
     got
 }
 
-// The input up to its end, or as many of its blocks as the room holds; the number of bytes that came.
-pub fn take_blocks(room: &mut [u8]) -> usize
-    ensures { λ r. ⌜ Counts r (now (room .exit)) ⌝ }
+// The next bytes of the input: `most` of them, or as many as the room holds, or fewer at the end of the input. How many came.
+pub fn take(room: &mut [u8], most: usize) -> usize
+    ensures { λ r. ⌜ Counts r (now (room .exit)) × (r ≤ most) ⌝ }
+    ensures { λ r. ⌜ drop r (now (room .exit)) ≡ drop r (now (room .entry)) ⌝ }
 {
+    let end = least(most, room.len());
     let mut at = 0;
-    while 512 <= room.len() - at {
-        let got = take_block(room, at);
+    while at < end {
+        let got = take_block(room, at, least(512, end - at));
         at += got;
         if got < 512 {
             return at;

@@ -1,35 +1,17 @@
 -- A loop that adds the files up. Assumes nothing.
 use mathlib.Core.Path.{_≡_, refl, sym, ap, _∙_}
-use Prim.Native.Nat.{ℕ, suc, _+_, _*_, _≤_, _<_, max}
-use mathlib.Core.Bool.{Bool, true, false}
-use mathlib.Core.List.{List, [], _∷_, _++_}
+use Prim.Native.Nat.{ℕ, suc, _+_, _*_, _≤_, _<_}
 use native.Mathlib.Omega.{arith}
-use native.Mathlib.Nat.{max-le, le-max-left, le-max-right, zero-max, max-zero, le-trans, le-antisymm}
+use native.Mathlib.Nat.{max-le}
 use native.Mathlib.Numerals.{add-one}
 use lib.Dec.{eqb}
 use lib.ListN.{getD}
 use Rattle.rules.specs.Lists.{bit, total, count, largest, upTo}
 use Rattle.rules.specs.Job.{Job}
 use Rattle.rules.specs.Split.{sideOf, onSide, sizeOf}
-use Rattle.rules.proofs.Count.{total-upTo}
+use Rattle.rules.proofs.Count.{bit-most, total-upTo, largest-upTo}
 use Rattle.job.specs.declared.figures.Totals.{Totals}
 use Rattle.job.specs.Totals.{isFree, totalsOf, withFile, Within, Added}
-
-max-assoc : (a b c : ℕ) → max (max a b) c ≡ max a (max b c)
-max-assoc a b c =
-    le-antisymm
-    (max-le (max-le (le-max-left a (max b c)) (le-trans (le-max-left b c) (le-max-right a (max b c)))) (le-trans (le-max-right b c) (le-max-right a (max b c))))
-    (max-le (le-trans (le-max-left a b) (le-max-left (max a b) c)) (max-le (le-trans (le-max-right a b) (le-max-left (max a b) c)) (le-max-right (max a b) c)))
-
-largest-append : (w : ℕ → ℕ) (a b : List ℕ) → largest w (a ++ b) ≡ max (largest w a) (largest w b)
-unfolding largest
-largest-append w [] b = sym (zero-max (largest w b))
-largest-append w (x ∷ a) b = ap (max (w x)) (largest-append w a b) ∙ sym (max-assoc (w x) (largest w a) (largest w b))
-
--- one number more, as a loop has it
-pub largest-upTo : (w : ℕ → ℕ) (n : ℕ) → largest w (upTo (suc n)) ≡ max (largest w (upTo n)) (w n)
-unfolding largest upTo
-largest-upTo w n = largest-append w (upTo n) (n ∷ []) ∙ ap (max (largest w (upTo n))) (max-zero (w n))
 
 same-totals : (t u : Totals) → t .weight ≡ u .weight → t .largest ≡ u .largest → t .size ≡ u .size → t .free ≡ u .free → t ≡ u
 same-totals t u p q r s = λ i. record { weight = p i; largest = q i; size = r i; free = s i }
@@ -47,10 +29,6 @@ walked-none job n = record {
     within = record { weight = omega arith; largest = omega arith; size = omega arith; free = omega arith };
   };
 }
-
-pub bit-le : (b : Bool) (x : ℕ) → bit b * x ≤ x
-bit-le true x = omega arith
-bit-le false x = omega arith
 
 module _ {job : Job} {n i : ℕ} {t : Totals} (w : Walked job n i t) where
   pub walked-more : (r : Totals) → i < n → sizeOf job i ≤ 65535 → r ≡ withFile t (sizeOf job i) (sideOf (job .sides) i) (getD (job .marks) i 0) → Walked job n (i + 1) r
@@ -70,8 +48,8 @@ module _ {job : Job} {n i : ℕ} {t : Totals} (w : Walked job n i t) where
           within = record {
             weight = omega (arith, ap (λ (y : Totals). y .weight) e, was .weight);
             largest = rw (ap (λ (y : Totals). y .largest) e) (max-le (omega (arith, was .largest)) (omega arith));
-            size = omega (arith, ap (λ (y : Totals). y .size) e, was .size, bit-le (eqb (sideOf (job .sides) i) 0) (sizeOf job i));
-            free = omega (arith, ap (λ (y : Totals). y .free) e, was .free, bit-le (eqb (getD (job .marks) i 0) 0) 1);
+            size = omega (arith, ap (λ (y : Totals). y .size) e, was .size, bit-most (eqb (sideOf (job .sides) i) 0) (sizeOf job i));
+            free = omega (arith, ap (λ (y : Totals). y .free) e, was .free, bit-most (eqb (getD (job .marks) i 0) 0) 1);
           };
         };
       }

@@ -1,6 +1,6 @@
 -- A pin's own recipe is the one between whose bounds it stands, so check 5 can go recipe by recipe. Assumes nothing.
 use mathlib.Core.Path.{_≡_, refl, ap, ap₂, _∙_}
-use Prim.Native.Nat.{ℕ, zero, suc, _+_, _-_, _≤_, _<_}
+use Prim.Native.Nat.{ℕ, suc, _+_, _≤_, _<_}
 use mathlib.Core.Bool.{Bool, true, false, _&&_, _||_}
 use native.Mathlib.Decide.{decLt}
 use native.Mathlib.Omega.{arith}
@@ -10,8 +10,10 @@ use borrow.Author.Tests.{le-leb, lt-leb, lt-ltb, le-ltb}
 use Rattle.rules.specs.Lists.{lowest, someBelow}
 use Rattle.rules.specs.Job.{Job, fileCount, recipeCount, pinCount, bound, pin}
 use Rattle.rules.specs.Check.{repeatsIn, badPin}
+use Rattle.rules.proofs.SoundJob.{bounds-rise}
+use Rattle.rules.proofs.Searches.{some-at, Passed, passed-none, passed-end}
 use Rattle.job.specs.Pins.{onwards, samePin, badFrom}
-use Rattle.job.proofs.Search.{Passed, passed-none, passed-end, part-end, part-hit, some-at}
+use Rattle.job.proofs.Search.{part-end, part-hit}
 
 -- bounds that pass check 4
 pub record Rising (job : Job) : Type 0 where
@@ -20,12 +22,8 @@ pub record Rising (job : Job) : Type 0 where
   pub last : bound job (recipeCount job) ≡ pinCount job
 
 module _ (job : Job) (b : Rising job) where
-  rises : (d i j : ℕ) → i + d ≡ j → j ≤ recipeCount job → bound job i ≤ bound job j
-  rises zero i j e h = let q : i ≡ j = omega arith in omega (arith, ap (bound job) q)
-  rises (suc d) i j e h = omega (arith, b .two i (omega arith), rises d (suc i) j (omega arith) h)
-
   rising : (i j : ℕ) → i ≤ j → j ≤ recipeCount job → bound job i ≤ bound job j
-  rising i j l h = rises (j - i) i j (omega arith) h
+  rising = bounds-rise job (b .two)
 
   module _ (j k : ℕ) (h : j < recipeCount job) (l : bound job j ≤ k) (g : k < bound job (suc j)) where
     other-recipe : (i : ℕ) → i < recipeCount job → (i ≡ j → ⊥) → repeatsIn job k i ≡ false

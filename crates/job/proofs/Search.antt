@@ -1,23 +1,14 @@
--- A loop that goes up to the lowest number at which a test holds. Assumes nothing.
-use mathlib.Core.Path.{_≡_, refl, sym, ap, _∙_}
+-- A search that begins late, and one that goes part by part. Assumes nothing.
+use mathlib.Core.Path.{_≡_, sym, ap, _∙_}
 use Prim.Native.Nat.{ℕ, _+_, _≤_, _<_}
 use mathlib.Core.Bool.{Bool, true, false, _&&_}
-use native.Mathlib.Decide.{ℕ-discrete, decLt}
+use native.Mathlib.Decide.{decLt}
 use native.Mathlib.Omega.{arith}
-use lib.Dec.{ltb}
-use borrow.Author.Tests.{le-leb, lt-leb, le-ltb}
-use Rattle.rules.specs.Lists.{lowest, someBelow}
-use Rattle.rules.proofs.Tests.{clash, contra'}
-use Rattle.rules.proofs.Searches.{lowest-le, lowest-passes, below-lowest, lowest-is, lowest-none, none-below}
+use borrow.Author.Tests.{le-leb, lt-leb}
+use Rattle.rules.specs.Lists.{lowest}
+use Rattle.rules.proofs.Tests.{clash}
+use Rattle.rules.proofs.Searches.{lowest-le, lowest-passes, below-lowest, lowest-is, Passed, passed-more, passed-hit, passed-end}
 use Rattle.job.specs.Pins.{onwards}
-
--- the search up to n has come to i, and the test held nowhere so far
-pub record Passed (p : ℕ → Bool) (n i : ℕ) : Type 0 where
-  pub stop : i ≤ n
-  pub miss : (k : ℕ) → k < i → p k ≡ false
-
-pub passed-none : {p : ℕ → Bool} {n : ℕ} → Passed p n 0
-passed-none = record { stop = omega arith; miss = λ k l. absurd (omega arith) }
 
 before : (a : ℕ) (p : ℕ → Bool) (k : ℕ) → k < a → onwards a p k ≡ false
 before a p k l = ap (λ (b : Bool). b && p k) (lt-leb a k l)
@@ -25,23 +16,7 @@ before a p k l = ap (λ (b : Bool). b && p k) (lt-leb a k l)
 after : (a : ℕ) (p : ℕ → Bool) (k : ℕ) → a ≤ k → onwards a p k ≡ p k
 after a p k l = ap (λ (b : Bool). b && p k) (le-leb a k l)
 
-module _ {p : ℕ → Bool} {n i : ℕ} (x : Passed p n i) where
-  pub passed-more : i < n → p i ≡ false → Passed p n (i + 1)
-  passed-more h e = record {
-    stop = omega arith;
-    miss = λ k l. elim (ℕ-discrete k i) [
-      | yes q ↦ ap p q ∙ e
-      | no z ↦ x .miss k (omega arith)
-    ];
-  }
-
-  pub passed-hit : i < n → p i ≡ true → i ≡ lowest p n
-  passed-hit h e = sym (lowest-is p n i h e (x .miss))
-
-  pub passed-end : n ≤ i → n ≡ lowest p n
-  passed-end h = sym (lowest-none p n (λ k l. x .miss k (omega arith)))
-
--- the same for a test from a on
+-- the search from a on has come to i
 pub record Onwards (p : ℕ → Bool) (a n i : ℕ) : Type 0 where
   pub start : a ≤ i
   pub passed : Passed (onwards a p) n i
@@ -79,14 +54,3 @@ module _ {p q : ℕ → Bool} {n i : ℕ} (x : Passed p n i) (m r : ℕ) (room :
       let hit : onwards i q r ≡ true = ap (onwards i q) e ∙ lowest-passes (onwards i q) m l' in
       let le : i ≤ r = elim (decLt r i) [ yes h ↦ clash (sym hit ∙ before i q r h) | no h ↦ omega arith ] in
       sym (lowest-is p n r (omega arith) (agree r le l ∙ sym (after i q r le) ∙ hit) miss-to)
-
--- where only j can pass, some number below n passes if j does
-pub some-at : (p : ℕ → Bool) (n j : ℕ) → j < n → ((i : ℕ) → i < n → (i ≡ j → ⊥) → p i ≡ false) → someBelow p n ≡ p j
-some-at p n j h off = go (p j) refl
-  where
-    go : (b : Bool) → p j ≡ b → someBelow p n ≡ p j
-    go true e = contra' (someBelow p n) (λ z. clash (sym e ∙ none-below p n z j h)) ∙ sym e
-    go false e =
-        ap (λ (k : ℕ). ltb k n)
-        (lowest-none p n (λ k l. elim (ℕ-discrete k j) [ yes q ↦ ap p q ∙ e | no z ↦ off k l z ]))
-        ∙ le-ltb n n (omega arith) ∙ sym e

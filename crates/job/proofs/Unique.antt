@@ -1,12 +1,9 @@
 -- The promise of each public call settles what it returns: any two results that meet it, of the same arguments, are equal.
 -- The promises cited are those that the check reads from the contracts in src/. Assumes nothing.
-use mathlib.Core.Path.{_≡_, sym, _∙_}
 use mathlib.Core.List.{List}
 use Prim.Native.Nat.{ℕ}
-use contract.Lifetimes.{Lfts}
 use denote.Ref.{now}
-use denote.Triple.Clauses.{AtExit}
-use borrow.Fn.Kinds.{PK, RK, Out, Dens, resT, endedOf}
+use Rattle.rules.proofs.Settling.{Settles, both}
 use Rattle.rules.specs.declared.Verdict.{Verdict}
 use Rattle.rules.specs.declared.Measure.{Measure}
 use Rattle.job.specs.declared.Job.{Job}
@@ -21,28 +18,34 @@ use Rattle.job.proofs.measure.Kinds as measure-kinds
 use Rattle.job.proofs.measure.Reads as measure
 use Rattle.job.proofs.survey.Kinds as survey-kinds
 use Rattle.job.proofs.survey.Reads as survey
+use Rattle.job.proofs.numbers.wide.Kinds as wide-kinds
+use Rattle.job.proofs.numbers.wide.Reads as wide
+use Rattle.job.proofs.bounds.recipe_count.Kinds as recipe-count-kinds
+use Rattle.job.proofs.bounds.recipe_count.Reads as recipe-count
+use Rattle.job.proofs.verdict.refuse_if.Kinds as refuse-if-kinds
+use Rattle.job.proofs.verdict.refuse_if.Reads as refuse-if
 
--- two results that meet the promise read the same
-abbrev Settles : (n : ℕ) (ps : List (PK n)) (r : RK n) (A : Type 0) → ((κs : Lfts n) → resT r κs .Denot → A) → Out n ps r → Type 0
-Settles n ps r A read promise =
-    (κs : Lfts n) (a : Dens κs ps) (x y : resT r κs .Denot) (e f : AtExit (endedOf n ps r) κs) → promise κs a x e → promise κs a y f → read κs x ≡ read κs y
-
--- equal to one thing, so to each other
-both : {A : Type 0} {x y v : A} → x ≡ v → y ≡ v → x ≡ y
-both p q = p ∙ sym q
-
-pub check-settled : Settles 5 check-kinds.ps check-kinds.r Verdict (λ κs v. v) check.Post
+pub check-settled : Settles 5 check-kinds.ps check-kinds.r Verdict (λ κs v _. v) check.Post
 check-settled κs a x y e f p q = both p q
 
-pub measure-settled : Settles 5 measure-kinds.ps measure-kinds.r Measure (λ κs m. m) measure.Post
+pub measure-settled : Settles 5 measure-kinds.ps measure-kinds.r Measure (λ κs m _. m) measure.Post
 measure-settled κs a x y e f p q = both p q
 
-pub survey-settled : Settles 5 survey-kinds.ps survey-kinds.r Survey (λ κs s. s) survey.Post
+pub survey-settled : Settles 5 survey-kinds.ps survey-kinds.r Survey (λ κs s _. s) survey.Post
 survey-settled κs a x y e f p q = both p q
 
 -- the list that the part holds
-pub view-settled : Settles 2 view-kinds.ps view-kinds.r (List ℕ) (λ κs s. now s) view.Post
+pub view-settled : Settles 2 view-kinds.ps view-kinds.r (List ℕ) (λ κs s _. now s) view.Post
 view-settled κs a x y e f p q = both p q
 
-pub new-settled : Settles 0 new-kinds.ps new-kinds.r Job (λ κs j. j) new.Post
+pub new-settled : Settles 0 new-kinds.ps new-kinds.r Job (λ κs j _. j) new.Post
 new-settled κs a x y e f p q = λ i. record { num = both (p .0) (q .0) i; den = both (p .1) (q .1) i; cap = both (p .2) (q .2) i }
+
+pub wide-settled : Settles 0 wide-kinds.ps wide-kinds.r ℕ (λ κs x _. x) wide.Post
+wide-settled κs a x y e f p q = both p q
+
+pub recipe-count-settled : Settles 1 recipe-count-kinds.ps recipe-count-kinds.r ℕ (λ κs n _. n) recipe-count.Post
+recipe-count-settled κs a x y e f p q = both p q
+
+pub refuse-if-settled : Settles 0 refuse-if-kinds.ps refuse-if-kinds.r Verdict (λ κs v _. v) refuse-if.Post
+refuse-if-settled κs a x y e f p q = both p q

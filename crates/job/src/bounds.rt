@@ -9,7 +9,7 @@ ghost use Rattle.rules.specs.Check.{short};
 ghost use Rattle.job.specs.Parts.{ofRecipes};
 
 // N: with fewer than two bounds it is 0.
-pub(crate) fn recipe_count(bounds: &[u16]) -> usize
+pub fn recipe_count(bounds: &[u16]) -> usize
     ensures { λ r. ⌜ r ≡ length (now (bounds .entry)) - 1 ⌝ }
 {
     if bounds.len() == 0 {

@@ -6,15 +6,16 @@ mod numbers;
 mod pins;
 mod verdict;
 
-use bounds::recipe_count;
+pub use bounds::recipe_count;
 pub use figures::Survey;
 use figures::cut;
 use figures::totals_of;
-use numbers::wide;
+pub use numbers::wide;
 use rules::Measure;
 use rules::Verdict;
 use verdict::check1to6;
 use verdict::check7to9;
+pub use verdict::refuse_if;
 ghost use mathlib.Core.Path.{_≡_};
 ghost use mathlib.Core.Bool.{true};
 ghost use Rattle.rules.specs.Job.{limitsOf, asJob, viewOf};

@@ -4,7 +4,7 @@ ghost use Prim.Native.Nat.{_*_, _≤_, max};
 ghost use lib.Dec.{eqb};
 ghost use Rattle.rules.specs.Lists.{«bit»};
 
-pub(crate) fn wide(x: u16) -> usize
+pub fn wide(x: u16) -> usize
     ensures { λ r. ⌜ r ≡ x ⌝ }
 {
     x as usize

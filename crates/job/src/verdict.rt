@@ -16,7 +16,8 @@ ghost use Rattle.rules.specs.Check.{refuseIf, check1Of, check2Of, «check3», �
 ghost use Rattle.job.specs.Parts.{ofFiles, ofRecipes, ofPins, ofLists, ofRatio};
 ghost use Rattle.job.specs.Totals.{Within, Gives7to9};
 
-fn refuse_if(test: bool, number: usize, place: usize) -> Verdict
+// Refused with this number and place, if the test passes; else done.
+pub fn refuse_if(test: bool, number: usize, place: usize) -> Verdict
     ensures { λ r. ⌜ r ≡ refuseIf test number place ⌝ }
 {
     if test {

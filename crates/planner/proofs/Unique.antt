@@ -1,20 +1,15 @@
 -- The promises of the night's report and of the trace settle their answer and the lent room: any two results that meet one, of the same
 -- arguments, are equal. The promises cited are those which the check reads from the contracts in src/. Assumes nothing.
-use mathlib.Core.Path.{_≡_, sym, _∙_}
-use contract.Lifetimes.{Lfts}
 use denote.Ref.{now}
-use denote.Triple.Clauses.{AtExit}
-use borrow.Fn.Kinds.{Dens, resT, endedOf}
-use Rattle.rules.specs.Report.{printed}
+use Rattle.rules.proofs.Settling.{Settles, both}
+use Rattle.rules.specs.Report.{Printing, printed}
 use Rattle.planner.proofs.night.Kinds as kinds
 use Rattle.planner.proofs.night.Reads as night
 use Rattle.planner.proofs.trace.Kinds as trace-kinds
 use Rattle.planner.proofs.trace.Reads as trace
 
-pub night-settled : (κs : Lfts 2) (a : Dens κs kinds.ps) (x y : resT kinds.r κs .Denot) (e f : AtExit (endedOf 2 kinds.ps kinds.r) κs)
-    → night.Post κs a x e → night.Post κs a y f → printed x (now (e .1 .0)) ≡ printed y (now (f .1 .0))
-night-settled κs a x y e f p q = p .0 ∙ sym (q .0)
+pub night-settled : Settles 2 kinds.ps kinds.r Printing (λ κs x e. printed x (now (e .1 .0))) night.Post
+night-settled κs a x y e f p q = both (p .0) (q .0)
 
-pub trace-settled : (κs : Lfts 2) (a : Dens κs trace-kinds.ps) (x y : resT trace-kinds.r κs .Denot) (e f : AtExit (endedOf 2 trace-kinds.ps trace-kinds.r) κs)
-    → trace.Post κs a x e → trace.Post κs a y f → printed x (now (e .1 .0)) ≡ printed y (now (f .1 .0))
-trace-settled κs a x y e f p q = p .0 ∙ sym (q .0)
+pub trace-settled : Settles 2 trace-kinds.ps trace-kinds.r Printing (λ κs x e. printed x (now (e .1 .0))) trace.Post
+trace-settled κs a x y e f p q = both (p .0) (q .0)

@@ -1,20 +1,18 @@
 // A stored job's bytes in, the bytes that a program prints out.
 use job::Job;
-use rules::Figures;
 use rules::Header;
 use rules::Printed;
-use rules::RunFigures;
 use rules::Verdict;
 ghost use mathlib.Core.Path.{_≡_};
 ghost use mathlib.Core.Logic.{_≢_};
 ghost use mathlib.Core.Bool.{cond};
-ghost use Prim.Native.Nat.{_+_, _≤_};
+ghost use Prim.Native.Nat.{_+_, _≤_, _<_};
 ghost use lib.ListN.{length, replicate};
 ghost use lib.IntN.{pos};
 ghost use Rattle.rules.specs.Job.{limitsOf, asJob};
-ghost use Rattle.rules.specs.Run.{noRunFigures};
 ghost use Rattle.rules.specs.Report.{refusal, «printed», intoRoom, prints};
 ghost use Rattle.rules.specs.Trace.{traces};
+ghost use Rattle.rules.specs.Theorems.{mostBytes};
 ghost use Rattle.stored.specs.Room.{roomOf};
 ghost use Rattle.stored.specs.Steps.{firstOf};
 ghost use Rattle.planner.specs.Answering.{runReport, passTrace, jobText, inputText, Answered, Within};
@@ -32,27 +30,6 @@ pub const TEXT_BYTES: usize = Job::MOST_FILES + 256;
 // No trace is longer: a line for each move and each scan, and a gain for each file.
 pub const TRACE_BYTES: usize = 512 + 128 * Job::MOST_FILES + 256 * Job::MOST_RECIPES;
 
-// A refusal: all other numbers are 0.
-fn refused(verdict: Verdict) -> RunFigures
-    ensures { λ r. ⌜ r ≡ noRunFigures verdict ⌝ }
-{
-    let figures = Figures {
-        verdict,
-        before: 0,
-        cut: 0,
-        size: 0,
-        tried: 0,
-        kept: 0,
-        scans: 0,
-        visits: 0,
-    };
-    RunFigures {
-        figures,
-        passes: 0,
-        settled: false,
-    }
-}
-
 // What reading refused is told as a refused run is.
 fn print_refusal(verdict: Verdict, out: &mut [u8]) -> Printed
     requires { ⌜ verdict .number ≢ 0 ⌝ }
@@ -60,7 +37,7 @@ fn print_refusal(verdict: Verdict, out: &mut [u8]) -> Printed
     ensures { λ r. do ⌜ Answered (← ⟦TEXT_BYTES⟧ .entry) r (now (out .entry)) ⌝ }
 {
     let none = [0u16; 1];
-    report::report(refused(verdict), &none, &none, out)
+    report::report(runs::refused(verdict), &none, &none, out)
 }
 
 // The run of a job, with lists of the planner's own for the gains, moves, scans and scratch, and its report.
@@ -228,10 +205,11 @@ fn print_first(
     )
 }
 
-// A stored job is read, and run or passed over once; what reading refuses is told as a refused run is.
+// A stored job is read, and run or passed over once; what reading refuses is told as a refused run is. INPUT_BYTES is more than any job has.
 fn answer(input: &[u8], out: &mut [u8], traced: bool) -> Printed
     ensures { λ r. do ⌜ «printed» r (now (out .exit)) ≡ intoRoom (inputText traced (limitsOf (← ⟦Job::MOST_FILES⟧ .entry) (← ⟦Job::MOST_RECIPES⟧ .entry) (← ⟦Job::MOST_PINS⟧ .entry) (← ⟦Job::MOST_DEN⟧ .entry)) (now (input .entry))) (now (out .entry)) ⌝ }
     ensures { λ r. do ⌜ Answered (cond traced (← ⟦TRACE_BYTES⟧ .entry) (← ⟦TEXT_BYTES⟧ .entry)) r (now (out .entry)) × Within (r .bytes) (now (out .exit)) ⌝ }
+    ensures { λ r. do ⌜ mostBytes (limitsOf (← ⟦Job::MOST_FILES⟧ .entry) (← ⟦Job::MOST_RECIPES⟧ .entry) (← ⟦Job::MOST_PINS⟧ .entry) 0) < (← ⟦INPUT_BYTES⟧ .entry) ⌝ }
 {
     let mut sizes = [0u16; Job::MOST_FILES];
     let mut sides = [0u16; Job::MOST_FILES];

@@ -12,12 +12,13 @@ use borrow.Author.Tests.{ltb-true}
 use mir.Syntax.{w32, w64}
 use mir.Val.{SFits, toZ, ofZ}
 use mir.Facts.{toZ-ofZ}
+use Rattle.rules.proofs.Machine.{wide-is}
 use Rattle.rules.proofs.Tests.{clash}
 use Rattle.rules.specs.Report.{digits}
 use Rattle.rules.specs.Trace.{signed, gainWords}
 use Rattle.report.specs.Laying.{Laid}
 use Rattle.report.proofs.Laying.{pieces, Laying, laying-none, laying-more, laying-end, laid-as}
-use Rattle.report.proofs.Digits.{long-digits}
+use Rattle.rules.proofs.Digits.{long-digits}
 
 -- ---- its magnitude, at eight bytes
 
@@ -25,16 +26,10 @@ module _ (g : ℤ) (f : SFits w32 g) where
   pub small-gain : natAbs g ≤ 2 ^ 31
   small-gain = natAbs-le g (f .sfits)
 
-  pub wide-fits : SFits w64 (toZ w32 (ofZ w32 g))
-  wide-fits = rw (toZ-ofZ f) (record { sfits = omega (arith, f .sfits) })
-
-  pub wide-is : toZ w64 (ofZ w64 (toZ w32 (ofZ w32 g))) ≡ g
-  wide-is = toZ-ofZ wide-fits ∙ toZ-ofZ f
-
   -- below zero
   module _ (low : ltZ (toZ w64 (ofZ w64 (toZ w32 (ofZ w32 g)))) (pos 0) ≡ true) where
     above : pos 0 -ℤ toZ w64 (ofZ w64 (toZ w32 (ofZ w32 g))) ≡ pos (natAbs g)
-    above = ap (λ (z : ℤ). pos 0 -ℤ z) wide-is ∙ turned g (rw wide-is at low)
+    above = ap (λ (z : ℤ). pos 0 -ℤ z) (wide-is g f) ∙ turned g (rw (wide-is g f) at low)
       where
         turned : (z : ℤ) → ltZ z (pos 0) ≡ true → pos 0 -ℤ z ≡ pos (natAbs z)
         turned (pos n) h = absurd (omega (arith, ltb-true n 0 h))
@@ -48,7 +43,7 @@ module _ (g : ℤ) (f : SFits w32 g) where
 
   -- not below zero
   pub not-low : ltZ (toZ w64 (ofZ w64 (toZ w32 (ofZ w32 g)))) (pos 0) ≡ false → T (nonNeg g)
-  not-low high = plain g (rw wide-is at high)
+  not-low high = plain g (rw (wide-is g f) at high)
     where
       plain : (z : ℤ) → ltZ z (pos 0) ≡ false → T (nonNeg z)
       plain (pos n) h = tt

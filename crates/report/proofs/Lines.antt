@@ -1,8 +1,8 @@
 -- The lines of a report: as pieces, and how long they can be. Assumes nothing.
-use mathlib.Core.Path.{_≡_, refl, sym, ap, _∙_}
-use Prim.Native.Nat.{ℕ, suc, _+_, _*_, _≤_, _<_}
+use mathlib.Core.Path.{_≡_, refl, sym, ap}
+use Prim.Native.Nat.{ℕ, _+_, _≤_, _<_}
 use Prim.Native.String.{String}
-use mathlib.Core.Bool.{Bool, true, false, cond}
+use mathlib.Core.Bool.{Bool, true, false}
 use mathlib.Core.List.{List, [], _∷_, _++_, map, append-nil, append-assoc}
 use native.Mathlib.Omega.{arith}
 use lib.ListN.{length, length-append, length-map}
@@ -15,7 +15,7 @@ use Rattle.rules.specs.Report.{text, digits, spaced, line, refusal, letter, siz
 use Rattle.report.specs.Laying.{Near, lineOf}
 use Rattle.report.specs.Steps.{cutLines, settledLine, countLines, runLines}
 use Rattle.report.proofs.Laying.{pieces}
-use Rattle.report.proofs.Digits.{Long, long-digits}
+use Rattle.rules.proofs.Digits.{Long, long-digits}
 
 -- ---- lists that are written entry by entry
 
@@ -28,11 +28,6 @@ pub letter-pieces : (sides : List ℕ) → pieces (λ s. letter s ∷ []) sides 
 unfolding pieces
 letter-pieces [] = refl
 letter-pieces (s ∷ sides) = ap (λ (l : List ℕ). letter s ∷ l) (letter-pieces sides)
-
-pub spaced-pieces : (ns : List ℕ) → pieces (λ n. 32 ∷ digits n) ns ≡ spaced ns
-unfolding pieces spaced
-spaced-pieces [] = refl
-spaced-pieces (n ∷ ns) = ap (λ (l : List ℕ). 32 ∷ (digits n ++ l)) (spaced-pieces ns)
 
 pub spaced-one : (n : ℕ) → 32 ∷ digits n ≡ spaced (n ∷ [])
 unfolding spaced

@@ -154,18 +154,10 @@ module _ (most : Limits) (sizes sides : List ℕ) (v : Verdict) (held : Bool) (l
       let lent = leb (length (toldText b)) (length room) in
       printing (cond b (splitVerdict most sizes sides (held && lent)) (refuseIf (not lent) 3 0)) (toldText b) room
 
-  refusal-told : (v .number ≡ 0 → ⊥) → answered (isDone v) ≡ printing (refuseIf (not (leb (length (refusal v)) (length room))) 3 0) (refusal v) room
-  refusal-told h = ap answered (ne-eqb (v .number) 0 h)
-
   lines-told : v .number ≡ 0 → answered (isDone v) ≡ printing (splitVerdict most sizes sides (held && leb (length lines) (length room))) lines room
   lines-told h = ap answered (eq-eqb (v .number) 0 h)
 
 module _ (most : Limits) (sizes : List ℕ) (r : RunFigures) (sides room : List ℕ) where
-  pub reporting-refusal : (r .figures .verdict .number ≡ 0 → ⊥)
-      → reporting most sizes r sides room ≡ printing (refuseIf (not (leb (length (refusal (r .figures .verdict))) (length room))) 3 0) (refusal (r .figures .verdict)) room
-  unfolding reporting report
-  reporting-refusal h = refusal-told most sizes sides (r .figures .verdict) true (figureLines (ofSizes sizes) r sides) room h
-
   pub reporting-figures : r .figures .verdict .number ≡ 0
       → reporting most sizes r sides room
       ≡ printing (figuresVerdict (most .files) sizes sides (leb (length (figureLines (ofSizes sizes) r sides)) (length room))) (figureLines (ofSizes sizes) r sides) room
@@ -176,11 +168,6 @@ module _ (most : Limits) (sizes : List ℕ) (r : RunFigures) (sides room : List 
       ∙ ap (λ (v : Verdict). printing v lines room) (split-parts most sizes sides (leb (length lines) (length room)))
 
 module _ (most : Limits) (sizes : List ℕ) (f : Figures) (sides : List ℕ) (l : Listing) (room : List ℕ) where
-  pub tracing-refusal : (f .verdict .number ≡ 0 → ⊥)
-      → tracing most sizes f sides l room ≡ printing (refuseIf (not (leb (length (refusal (f .verdict))) (length room))) 3 0) (refusal (f .verdict)) room
-  unfolding tracing trace
-  tracing-refusal h = refusal-told most sizes sides (f .verdict) (holdsPass sizes f l) (passLines (ofSizes sizes) f sides l) room h
-
   pub tracing-pass : f .verdict .number ≡ 0
       → tracing most sizes f sides l room
       ≡ printing (toldVerdict (most .files) sizes sides (holdsPass sizes f l) (leb (length (passLines (ofSizes sizes) f sides l)) (length room))) (passLines (ofSizes sizes) f sides l) room

@@ -11,7 +11,7 @@ use lib.IntN.{ℤ, pos}
 use mir.Syntax.{w32}
 use mir.Val.{SFits, toZ, ofZ}
 use mir.Facts.{toZ-ofZ}
-use borrow.Author.Tests.{ltb-false, leb-true, eqb-true, lt-ltb, le-ltb, not-true}
+use borrow.Author.Tests.{ltb-false, leb-true, eqb-true, not-true}
 use Rattle.rules.specs.declared.Figures.{Figures}
 use Rattle.rules.specs.Lists.{lowest, someBelow, upTo}
 use Rattle.rules.specs.Job.{Job}
@@ -19,12 +19,11 @@ use Rattle.rules.specs.Split.{sizeOn}
 use Rattle.rules.specs.Report.{text, spaced, line, sizeLine}
 use Rattle.rules.specs.Trace.{Listing, signed, scanLines, scansBefore, moveLines, movesLines, passLines, badEnd, holdsPass}
 use Rattle.rules.proofs.Tests.{or-no, and-yes}
-use Rattle.rules.proofs.Searches.{none-below}
-use Rattle.job.proofs.Search.{Passed, passed-none, passed-more, passed-hit, passed-end}
+use Rattle.rules.proofs.Searches.{none-below, Passed, passed-none, passed-more, passed-some, passed-no}
 use Rattle.report.specs.Laying.{Laid}
 use Rattle.report.specs.Steps.{cutLines}
 use Rattle.report.specs.Tracing.{scansOf, endsOf, movesOf, InOrder, MovesHeld, moveLine, gainsLine, tallyLines, tailLines}
-use Rattle.report.proofs.Digits.{Long}
+use Rattle.rules.proofs.Digits.{Long}
 use Rattle.report.proofs.Laying.{pieces, grows, Laying, laying-none, growing-more, growing-end, growing-stop, laid-as, laid-more}
 use Rattle.report.proofs.Lines.{Held, line-one, line-two, spaced-length}
 use Rattle.report.proofs.Gains.{signed-length}
@@ -204,14 +203,10 @@ module _ {l : Listing} {n i first : ℕ} (x : Ending l n i first) where
   }
 
   pub ending-hit : {b : Bool} → i < n → b ≡ judged → b ≡ true → false ≡ not (someBelow (badEnd l) n)
-  ending-hit h e k =
-      let at : i ≡ lowest (badEnd l) n = passed-hit (x .passed) h (sym is-judged ∙ sym e ∙ k) in
-      ap not (sym (lt-ltb (lowest (badEnd l) n) n (omega arith)))
+  ending-hit h e k = ap not (passed-some (x .passed) h (sym is-judged ∙ sym e ∙ k))
 
   pub ending-end : n ≤ i → true ≡ not (someBelow (badEnd l) n)
-  ending-end h =
-      let at : n ≡ lowest (badEnd l) n = passed-end (x .passed) h in
-      ap not (sym (le-ltb (lowest (badEnd l) n) n (omega arith)))
+  ending-end h = ap not (passed-no (x .passed) h)
 
 -- ---- a loop over the scans of a move
 

@@ -21,6 +21,7 @@ ghost use Rattle.report.specs.Tracing.{toldVerdict, EnoughTold};
 use figures::put_figures;
 use figures::put_refusal;
 use job::Job;
+use job::refuse_if;
 use pass::pass_verdict;
 use pass::put_pass;
 use rules::Figures;
@@ -28,7 +29,6 @@ use rules::Printed;
 use rules::RunFigures;
 use rules::Verdict;
 use verdict::lengths_verdict;
-use verdict::refuse_if;
 use verdict::room_verdict;
 
 // A refusal told: it needs room alone, since it tells of no split.

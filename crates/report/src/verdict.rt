@@ -1,22 +1,10 @@
 // Numbers for no: whether there is room, and whether what is told is a split of a job.
 use crate::split::first_bad_side;
 use job::Job;
+use job::refuse_if;
 use rules::Verdict;
 ghost use mathlib.Core.Path.{_≡_};
-ghost use Rattle.rules.specs.Check.{refuseIf};
 ghost use Rattle.report.specs.Steps.{lengthsVerdict, roomVerdict};
-
-pub(crate) fn refuse_if(test: bool, number: usize, place: usize) -> Verdict
-    ensures { λ r. ⌜ r ≡ refuseIf test number place ⌝ }
-{
-    if test {
-        return Verdict { number, place };
-    }
-    Verdict {
-        number: 0,
-        place: 0,
-    }
-}
 
 // 2, or 3 for sides that are not C long.
 pub(crate) fn lengths_verdict(sizes: &[u16], sides: &[u16]) -> Verdict

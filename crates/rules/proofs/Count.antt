@@ -1,18 +1,18 @@
--- Laws of sums and counts. Assumes nothing.
+-- Laws of sums, counts and the largest of numbers. Assumes nothing.
 use mathlib.Core.Path.{_≡_, refl, sym, ap, ap₂, _∙_}
 use mathlib.Core.Logic.{_≢_}
-use Prim.Native.Nat.{ℕ, zero, suc, _+_, _*_, _≤_, _<_}
+use Prim.Native.Nat.{ℕ, zero, suc, _+_, _*_, _≤_, _<_, max}
 use mathlib.Core.Bool.{Bool, true, false, _&&_}
 use mathlib.Core.List.{List, [], _∷_, _++_, map}
 use native.Mathlib.Decide.{ℕ-discrete}
 use native.Mathlib.Omega.{arith}
-use native.Mathlib.Nat.{add-zero, zero-add, suc-add, add-suc}
+use native.Mathlib.Nat.{add-zero, zero-add, suc-add, add-suc, mul-one, mul-add, max-le, le-max-left, le-max-right, zero-max, max-zero, le-trans, le-antisymm}
 use lib.Dec.{eqb}
 use native.Mathlib.Numerals.{add-one}
 use lib.ListN.{length, getD, take, length-append, List·getD-append, length-map}
 use lib.Seq.{getD-at}
 use borrow.Author.Tests.{eq-eqb, ne-eqb, ltb-true, ltb-false}
-use Rattle.rules.specs.Lists.{bit, total, count, upTo}
+use Rattle.rules.specs.Lists.{bit, total, count, largest, upTo}
 use Rattle.rules.specs.Split.{times, holds}
 
 pub hit-eq : {a b : ℕ} → a ≡ b → bit (eqb a b) ≡ 1
@@ -30,6 +30,14 @@ is0 n = ne-eqb (suc n) 0 (λ e. omega arith)
 
 pub is1 : (n : ℕ) → eqb (suc (suc n)) 1 ≡ false
 is1 n = ne-eqb (suc (suc n)) 1 (λ e. omega arith)
+
+pub bit-le : (b : Bool) → bit b ≤ 1
+bit-le true = omega arith
+bit-le false = omega arith
+
+pub bit-most : (b : Bool) (x : ℕ) → bit b * x ≤ x
+bit-most true x = omega arith
+bit-most false x = omega arith
 
 pub and-le : (a b : Bool) → bit (a && b) ≤ bit a
 and-le true true = omega arith
@@ -92,6 +100,11 @@ pub total-upTo : (w : ℕ → ℕ) (n : ℕ) → total w (upTo (suc n)) ≡ tota
 unfolding upTo total
 total-upTo w n = total-append w (upTo n) (n ∷ []) ∙ ap (λ (k : ℕ). total w (upTo n) + k) (add-zero (w n))
 
+pub count-le {ℓ} : {A : Type ℓ} (p : A → Bool) (l : List A) → count p l ≤ length l
+unfolding count total
+count-le p [] = omega arith
+count-le p (x ∷ l) = omega (arith, count-le p l, bit-le (p x))
+
 -- some number below n passes the test, where their count is not 0
 pub count-some : (p : ℕ → Bool) (n : ℕ) → count p (upTo n) ≢ 0 → (i : ℕ) × (i < n) × (p i ≡ true)
 unfolding count
@@ -132,7 +145,7 @@ holds-yes f r p h = omega (arith, ltb-true 0 (times f r) h)
 pub holds-no : (f : ℕ) (r : List ℕ) → holds r f ≡ false → times f r ≡ 0
 holds-no f r h = omega (arith, ltb-false 0 (times f r) h)
 
--- a list that nowhere has x holds it 0 times; one whose entries differ holds each number at most once; an entry is held
+-- a list that nowhere has x holds it 0 times; one whose entries differ holds each number at most once
 pub times-none : (x : ℕ) (r : List ℕ) → ((j : ℕ) → j < length r → getD r j 0 ≢ x) → times x r ≡ 0
 unfolding times count total
 times-none x [] h = refl
@@ -145,12 +158,6 @@ times-once (y ∷ r) h x = elim (ℕ-discrete y x) [
   | yes e ↦ omega (arith, hit-eq e, times-none x r (λ j l. rw (← e) (h 0 (suc j) (omega arith) (omega arith))))
   | no n ↦ omega (arith, hit-ne n, times-once r (λ i j a b. h (suc i) (suc j) (omega arith) (omega arith)) x)
 ]
-
-pub times-entry : (r : List ℕ) (j : ℕ) → j < length r → 1 ≤ times (getD r j 0) r
-unfolding times count total
-times-entry [] j h = absurd (omega arith)
-times-entry (y ∷ r) zero h = omega (arith, hit-self y)
-times-entry (y ∷ r) (suc j) h = omega (arith, times-entry r j (omega arith))
 
 -- upTo n holds each number below n once, and no other
 pub times-above : (x n : ℕ) → n ≤ x → times x (upTo n) ≡ 0
@@ -222,3 +229,51 @@ sumFrom-list w d (x ∷ l) v j h = ap₂ _+_ (ap v (sym (add-zero j)) ∙ h 0) (
 
 pub total-index {ℓ} : {A : Type ℓ} (w : A → ℕ) (d : A) (l : List A) → total (λ i. w (getD l i d)) (upTo (length l)) ≡ total w l
 total-index w d l = sym (sumFrom-upTo (λ i. w (getD l i d)) (length l)) ∙ sumFrom-list w d l (λ i. w (getD l i d)) 0 (λ i. ap (λ k. w (getD l k d)) (zero-add i))
+
+-- over the entries of a list, and over a list that is given by its entries
+pub count-entries : (p : ℕ → Bool) (l : List ℕ) → count (λ i. p (getD l i 0)) (upTo (length l)) ≡ count p l
+unfolding count
+count-entries p l = total-index (λ x. bit (p x)) 0 l
+
+pub count-mapped : (p : List ℕ → Bool) (h : ℕ → List ℕ) (n : ℕ) → count (λ j. p (h j)) (upTo n) ≡ count p (map h (upTo n))
+unfolding count
+count-mapped p h n = sym (total-map (λ x. bit (p x)) h (upTo n))
+
+-- ---- a loop that adds up: the sum of w below n has come to i, with x, and each number is at most b
+
+pub record Summed (w : ℕ → ℕ) (b n i x : ℕ) : Type 0 where
+  pub stop : i ≤ n
+  pub is : x ≡ total w (upTo i)
+  pub small : x ≤ b * i
+
+pub summed-none : {w : ℕ → ℕ} {b n : ℕ} → Summed w b n 0 0
+summed-none = record { stop = omega arith; is = unfold total upTo in refl; small = omega arith }
+
+module _ {w : ℕ → ℕ} {b n i x : ℕ} (s : Summed w b n i x) where
+  pub summed-more : (y : ℕ) → i < n → y ≡ x + w i → w i ≤ b → Summed w b n (i + 1) y
+  summed-more y h e l = record {
+    stop = omega arith;
+    is = e ∙ ap (λ (k : ℕ). k + w i) (s .is) ∙ sym (total-upTo w i) ∙ ap (λ (k : ℕ). total w (upTo k)) (sym (add-one i));
+    small = omega (arith, s .small, mul-add b i 1, mul-one b);
+  }
+
+  pub summed-end : n ≤ i → x ≡ total w (upTo n)
+  summed-end h = let e : i ≡ n = omega (arith, s .stop) in s .is ∙ ap (λ (k : ℕ). total w (upTo k)) e
+
+-- ---- the largest
+
+max-assoc : (a b c : ℕ) → max (max a b) c ≡ max a (max b c)
+max-assoc a b c =
+    le-antisymm
+    (max-le (max-le (le-max-left a (max b c)) (le-trans (le-max-left b c) (le-max-right a (max b c)))) (le-trans (le-max-right b c) (le-max-right a (max b c))))
+    (max-le (le-trans (le-max-left a b) (le-max-left (max a b) c)) (max-le (le-trans (le-max-right a b) (le-max-left (max a b) c)) (le-max-right (max a b) c)))
+
+largest-append : (w : ℕ → ℕ) (a b : List ℕ) → largest w (a ++ b) ≡ max (largest w a) (largest w b)
+unfolding largest
+largest-append w [] b = sym (zero-max (largest w b))
+largest-append w (x ∷ a) b = ap (max (w x)) (largest-append w a b) ∙ sym (max-assoc (w x) (largest w a) (largest w b))
+
+-- one number more, as a loop has it
+pub largest-upTo : (w : ℕ → ℕ) (n : ℕ) → largest w (upTo (suc n)) ≡ max (largest w (upTo n)) (w n)
+unfolding largest upTo
+largest-upTo w n = largest-append w (upTo n) (n ∷ []) ∙ ap (max (largest w (upTo n))) (max-zero (w n))

@@ -1,33 +1,25 @@
 -- An input longer than the largest job is refused for its length, whatever stands after its first bytes. Assumes nothing.
 use mathlib.Core.Path.{_≡_, refl, sym, ap, ap₂, _∙_}
 use mathlib.Core.Logic.{_≢_}
-use Prim.Native.Nat.{ℕ, _+_, _-_, _*_, _/_, _≤_, _<_}
-use mathlib.Core.Bool.{Bool, true, false, not, cond, _||_}
+use Prim.Native.Nat.{ℕ, _+_, _-_, _*_, _≤_, _<_}
+use mathlib.Core.Bool.{true, not}
 use mathlib.Core.List.{List}
-use native.Mathlib.Decide.{decLt, ℕ-discrete}
+use native.Mathlib.Decide.{decLt}
 use native.Mathlib.Omega.{arith}
 use lib.Dec.{ltb, eqb}
-use lib.ListN.{length, take, drop, length-take}
+use lib.ListN.{length, take, length-take}
 use lib.Seq.{take-all, take-take}
-use borrow.Author.Tests.{le-ltb, ltb-false, eqb-true, eq-eqb, ne-eqb}
+use borrow.Author.Tests.{le-ltb, ne-eqb}
 use Rattle.rules.specs.declared.Verdict.{Verdict}
 use Rattle.rules.specs.declared.Header.{Header}
 use Rattle.rules.specs.Job.{Limits}
-use Rattle.rules.specs.Check.{done, isDone, refuseIf, _orElse_, check1Of, check2Of, check4to6}
+use Rattle.rules.specs.Check.{refuseIf, _orElse_, check1Of, check2Of, check4to6}
 use Rattle.rules.specs.Stored.{blockCheck, word, blockAt, valueIn, headerOf, blocksFor, blockCount, kindOf, valuesIn, laidOut, blockVerdict, blocksVerdict, jobOf, Room, roomy, layoutVerdict, readVerdict}
 use Rattle.rules.specs.Report.{refusal, prints, allRoom}
 use Rattle.rules.specs.Trace.{traces}
 use Rattle.rules.specs.Theorems.{mostBytes, Longer}
-use Rattle.rules.proofs.Verdicts.{chain-stop, passes-both, not-refused}
-use Rattle.rules.proofs.Tests.{or-no, not-no}
-
--- what follows a link of a chain counts only where the link lets through
-same-after : (v w w' : Verdict) → (v .number ≡ 0 → w ≡ w') → (v orElse w) ≡ (v orElse w')
-same-after v w w' f = go (eqb (v .number) 0) refl
-  where
-    go : (b : Bool) → eqb (v .number) 0 ≡ b → (v orElse w) ≡ (v orElse w')
-    go true q = rw q (f (eqb-true (v .number) 0 q))
-    go false q = rw q refl
+use Rattle.rules.proofs.Verdicts.{chain-stop, chain-same, passes-both}
+use Rattle.rules.proofs.SoundJob.{ok2-of}
 
 -- blocks grow with what they hold
 blocks-grow : (a b : ℕ) → a ≤ b → (blocksFor 126 a ≤ blocksFor 126 b) × (blocksFor 253 a ≤ blocksFor 253 b)
@@ -61,17 +53,13 @@ module _ (most : Limits) (k : ℕ) (input : List ℕ) (more : mostBytes most < k
   -- what the most lets through is shorter
   short : (h : Header) → check2Of most (h .files) (h .recipes) (h .pins) .number ≡ 0 → 512 * blockCount h < k
   short h z =
-      let f = ltb (most .files) (h .files) in
-      let n = ltb (most .recipes) (h .recipes) in
-      let p = ltb (most .pins) (h .pins) in
-      let o = or-no (f || n) p (not-refused (f || n || p) 1 0 z) in
-      let q = or-no f n (o .0) in
+      let few = ok2-of most (h .files) (h .recipes) (h .pins) z in
       omega (
         arith,
         more,
-        blocks-grow (h .files) (most .files) (ltb-false (most .files) (h .files) (q .0)) .0,
-        blocks-grow (h .recipes + 1) (most .recipes + 1) (omega (arith, ltb-false (most .recipes) (h .recipes) (q .1))) .1,
-        blocks-grow (h .pins) (most .pins) (ltb-false (most .pins) (h .pins) (o .1)) .1,
+        blocks-grow (h .files) (most .files) (few .0) .0,
+        blocks-grow (h .recipes + 1) (most .recipes + 1) (omega (arith, few .1)) .1,
+        blocks-grow (h .pins) (most .pins) (few .2) .1,
       )
 
   -- a longer input is not as the header makes it
@@ -101,8 +89,8 @@ module _ (most : Limits) (k : ℕ) (input : List ℕ) (more : mostBytes most < k
       let ends : two .number ≡ 0 → last cut-off ≡ last input
       = λ z. unlike h cut-off (blocksVerdict h cut-off 1 (blockCount h - 1)) (omega (arith, short h z, cut-length)) ∙ sym (unlike h input (blocksVerdict h input 1 (blockCount h - 1)) (omega (arith, short h z))) in
       let figures : (one orElse two orElse three orElse last cut-off) ≡ (one orElse two orElse three orElse last input)
-      = same-after one (two orElse three orElse last cut-off) (two orElse three orElse last input)
-      (λ _. same-after two (three orElse last cut-off) (three orElse last input) (λ z. same-after three (last cut-off) (last input) (λ _. ends z))) in
+      = chain-same one (two orElse three orElse last cut-off) (two orElse three orElse last input)
+      (λ _. chain-same two (three orElse last cut-off) (three orElse last input) (λ z. chain-same three (last cut-off) (last input) (λ _. ends z))) in
       ap₂ (λ (v w : Verdict). v orElse w) enough (ap₂ (λ (v w : Verdict). v orElse w) (zeroth-same h) figures)
 
   layout-same : (room : Room) → layoutVerdict most cut-off room ≡ layoutVerdict most input room

@@ -1,10 +1,11 @@
 -- A lent list afterwards, entry by entry. Assumes nothing.
-use mathlib.Core.Path.{_≡_, sym, ap, _∙_}
-use Prim.Native.Nat.{ℕ, _+_, _-_, _≤_, _<_}
-use mathlib.Core.List.{List, _++_}
+use mathlib.Core.Path.{_≡_, refl, sym, ap, _∙_}
+use Prim.Native.Nat.{ℕ, zero, suc, _+_, _-_, _≤_, _<_}
+use mathlib.Core.List.{List, [], _∷_, _++_}
+use native.Mathlib.Numerals.{add-one}
 use native.Mathlib.Omega.{arith}
-use lib.ListN.{length, getD, drop, replicate, length-append, length-drop, length-replicate, getD-replicate, List·getD-append}
-use lib.Seq.{getD-append-add, getD-drop}
+use lib.ListN.{length, getD, set, take, drop, replicate, length-append, length-drop, length-replicate, getD-replicate, List·getD-append}
+use lib.Seq.{getD-append-add, getD-drop, drop-cons, drop-drop, drop-append-add, append-snoc, set-append-seam, take-append-seam, take-suc, take-all, length-take-le}
 use Rattle.rules.specs.Lists.{onto, padded, listed}
 use Rattle.rules.specs.Theorems.{Listed}
 
@@ -27,6 +28,53 @@ module _ {ℓ} {A : Type ℓ} (d : A) (xs old : List A) where
   onto-stays i h =
       let e : length xs + (i - length xs) ≡ i = omega arith in
       getD-past d xs (drop (length xs) old) i h ∙ getD-drop (length xs) old (i - length xs) d ∙ ap (λ (k : ℕ). getD old k d) e
+
+module _ {ℓ} {A : Type ℓ} where
+  pub onto-take : (xs old : List A) → take (length xs) (onto xs old) ≡ xs
+  unfolding onto
+  onto-take xs old = take-append-seam xs (drop (length xs) old)
+
+  pub onto-least : (xs old : List A) → length xs ≤ length (onto xs old)
+  unfolding onto
+  onto-least xs old = omega (arith, length-append xs (drop (length xs) old))
+
+  -- past the entries written the old ones stand
+  pub onto-drop : (xs old : List A) (n : ℕ) → length xs ≤ n → drop n (onto xs old) ≡ drop n old
+  unfolding onto
+  onto-drop xs old n h =
+      let e : length xs + (n - length xs) ≡ n = omega arith in
+      ap (λ (i : ℕ). drop i (xs ++ drop (length xs) old)) (sym e)
+      ∙ drop-append-add xs (drop (length xs) old) (n - length xs)
+      ∙ drop-drop (n - length xs) (length xs) old
+      ∙ ap (λ (i : ℕ). drop i old) e
+
+  -- one entry more
+  pub onto-set : (xs old : List A) (v : A) → length xs < length old → set (onto xs old) (length xs) v ≡ onto (xs ++ (v ∷ [])) old
+  unfolding onto
+  onto-set xs old v h =
+      ap (λ (t : List A). set (xs ++ t) (length xs) v) (drop-cons old (length xs) v h)
+      ∙ set-append-seam xs (getD old (length xs) v) (drop (suc (length xs)) old) v
+      ∙ sym (append-snoc xs v (drop (suc (length xs)) old))
+      ∙ ap (λ (n : ℕ). (xs ++ (v ∷ [])) ++ drop n old) (sym (length-append xs (v ∷ []) ∙ add-one (length xs)))
+
+  -- a list copied entry by entry: none, one more, and all
+  pub onto-none : (xs old : List A) → onto (take 0 xs) old ≡ old
+  unfolding onto
+  onto-none xs old = refl
+
+  pub onto-more : (d : A) (xs old : List A) (i : ℕ) → i < length xs → length xs ≤ length old → set (onto (take i xs) old) i (getD xs i d) ≡ onto (take (i + 1) xs) old
+  onto-more d xs old i h k =
+      let l : length (take i xs) ≡ i = length-take-le i xs (omega arith) in
+      ap (λ (n : ℕ). set (onto (take i xs) old) n (getD xs i d)) (sym l) ∙ onto-set (take i xs) old (getD xs i d) (omega arith)
+      ∙ ap (λ (t : List A). onto t old) (sym (ap (λ (n : ℕ). take n xs) (add-one i) ∙ take-suc xs i d h))
+
+  pub onto-all : (xs old : List A) (i : ℕ) → length xs ≤ i → onto (take i xs) old ≡ onto xs old
+  onto-all xs old i h = ap (λ (l : List A). onto l old) (take-all i xs h)
+
+  pub take-replicate : (n m : ℕ) (x : A) → n ≤ m → take n (replicate m x) ≡ replicate n x
+  take-replicate zero m x h = refl
+  take-replicate (suc n) zero x h = absurd (omega arith)
+  take-replicate (suc n) (suc m) x h = ap (λ (l : List A). x ∷ l) (take-replicate n m x (omega arith))
 
 module _ {ℓ} {A : Type ℓ} (n : ℕ) (z : A) (xs : List A) (fits : length xs ≤ n) where
   pub padded-length : length (padded n z xs) ≡ n
@@ -51,3 +99,11 @@ listed-holds n z xs old h k =
       then = λ d i l m. onto-in d p old i (omega arith) ∙ padded-past n z xs h d i l m;
       further = λ d i l. onto-stays d p old i (omega arith);
     }
+
+-- the second of two lists, each with z up to n, is all that stays
+pub listed-again {ℓ} : {A : Type ℓ} (n : ℕ) (z : A) (xs ys old : List A) → length xs ≤ n → length ys ≤ n → listed n z ys (listed n z xs old) ≡ listed n z ys old
+listed-again {A = A} n z xs ys old h k =
+    unfold onto in
+    ap (λ (t : List A). padded n z ys ++ t)
+    (onto-drop (padded n z xs) old (length (padded n z ys))
+    (omega (arith, padded-length n z xs h, padded-length n z ys k)))

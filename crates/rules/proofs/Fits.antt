@@ -4,7 +4,7 @@ use Prim.Native.Nat.{_*_, _≤_}
 use mathlib.Core.Bool.{true}
 use lib.ListN.{length}
 use lib.Dec.{leb, eqb}
-use borrow.Author.Tests.{leb-true, le-leb, eqb-true, eq-eqb}
+use borrow.Author.Tests.{leb-true, eqb-true}
 use Rattle.rules.specs.Job.{Job, fileCount, recipeCount, Lent, scratchFor, fits}
 use Rattle.rules.proofs.Tests.{and-yes}
 
@@ -37,7 +37,3 @@ roomy job l ok =
       scannedKinds = leb-true (4 * recipeCount job) (length (l .kinds)) (t7 .1);
       scratch = leb-true (scratchFor job) (length (l .scratch)) (t8 .1);
     }
-
-pub roomy-fits : {job : Job} {l : Lent} → Roomy job l → fits job l ≡ true
-roomy-fits {job} {l} r =
-    rw (eq-eqb (length (l .gains)) (fileCount job) (r .gains), le-leb (fileCount job) (length (l .tried)) (r .tried), le-leb (fileCount job) (length (l .gained)) (r .gained), le-leb (fileCount job) (length (l .cuts)) (r .cuts), le-leb (fileCount job) (length (l .ends)) (r .scansSoFar), le-leb (4 * recipeCount job) (length (l .recipes)) (r .scannedRecipes), le-leb (4 * recipeCount job) (length (l .kinds)) (r .scannedKinds), le-leb (scratchFor job) (length (l .scratch)) (r .scratch))

@@ -17,7 +17,8 @@ use Rattle.rules.specs.Move.{stepsBy, State, lockOf, free, moved, after,
 use Rattle.rules.specs.Pass.{gainsWhen, standing, gainsAfter, startGains}
 use Rattle.rules.specs.Theorems.{Binary, Distinct}
 use Rattle.rules.proofs.Count.{getD-tabled, length-tabled, hit-eq, hit-ne, total-append, total-map, total-law, holds-yes, holds-no}
-use Rattle.rules.proofs.Signed.{abs, abs-add, diff-add, diff-eq, diff-neg, diff-pos, diff-zero, step-diff}
+use Rattle.rules.proofs.Signed.{diff-add, diff-eq, diff-neg, diff-pos, diff-zero, step-diff}
+use Rattle.rules.proofs.Tests.{and-false}
 use Rattle.rules.proofs.OneMove.{Moves, move-of, was-free, stays-binary, law, recipe-law, cut-law}
 use Rattle.rules.proofs.Locked.{kinds-by}
 
@@ -26,7 +27,7 @@ at g x = getD g x (pos 0)
 
 -- ---- one scan over a recipe's pins, read at the file y
 
-scan-length : (st : State) (t k : ℕ) (r : List ℕ) (g : List ℤ) → length (scanPins st t k r g) ≡ length g
+pub scan-length : (st : State) (t k : ℕ) (r : List ℕ) (g : List ℤ) → length (scanPins st t k r g) ≡ length g
 unfolding scanPins
 scan-length st t k [] g = refl
 scan-length st t k (x ∷ r) g = scan-length st t k r _ ∙ go (touches st t k x)
@@ -84,19 +85,6 @@ scan-at st t k y r g o h = go (holds r y) refl
     go true e = scan-in st t k y r g (holds-yes y r o e) h ∙ ap (λ z. at g y +ℤ z) (step-diff (touches st t k y) (raises k))
     go false e = scan-out st t k y r g (holds-no y r e) ∙ sym (ap (λ z. at g y +ℤ z) diff-zero ∙ +ℤ-idr (at g y))
 
--- a scan gives or takes one, or nothing
-one-only : (a b c : Bool) → bit (a && (b && c)) + bit (a && (b && not c)) ≤ 1
-one-only true true true = omega arith
-one-only true true false = omega arith
-one-only true false c = omega arith
-one-only false b c = omega arith
-
-each-one : (rs : List (List ℕ)) (st : State) (t y : ℕ) (cs : List Scan)
-    → total (λ c. given st t y (c .kind) (getD rs (c .recipe) [])) cs + total (λ c. taken st t y (c .kind) (getD rs (c .recipe) [])) cs ≤ length cs
-unfolding total given taken
-each-one rs st t y [] = omega arith
-each-one rs st t y (c ∷ cs) = omega (arith, one-only (holds (getD rs (c .recipe) []) y) (touches st t (c .kind) y) (raises (c .kind)), each-one rs st t y cs)
-
 -- ---- scans one after the other
 
 module _ (rs : List (List ℕ)) (dis : Distinct rs) (st : State) (t : ℕ) where
@@ -118,16 +106,6 @@ module _ (rs : List (List ℕ)) (dis : Distinct rs) (st : State) (t : ℕ) where
       ∙ ap (λ z. z +ℤ diff U D) (scan-at st t (c .kind) y r g (dis (c .recipe) y) h)
       ∙ +ℤ-assoc (at g y) (diff (given st t y (c .kind) r) (taken st t y (c .kind) r)) (diff U D)
       ∙ ap (λ z. at g y +ℤ z) (diff-add (given st t y (c .kind) r) (taken st t y (c .kind) r) U D)
-
-  -- no entry goes further than there are scans: what a machine number must hold in between
-  pub all-near : (cs : List Scan) (g : List ℤ) (y : ℕ) → y < length g → abs (at (scanAll rs st t cs g) y) ≤ abs (at g y) + length cs
-  all-near cs g y h =
-      omega (
-        arith,
-        ap abs (all-sum cs g y h),
-        abs-add (at g y) (total (λ c. given st t y (c .kind) (getD rs (c .recipe) [])) cs) (total (λ c. taken st t y (c .kind) (getD rs (c .recipe) [])) cs),
-        each-one rs st t y cs,
-      )
 
 -- a sum over the scans of a move, by recipes: `look` finds a recipe by its number
 pub total-scans : (st : State) (f : ℕ) (W : ℕ → List ℕ → ℕ) (look : ℕ → List ℕ) (rs : List (List ℕ)) (j : ℕ)
@@ -160,11 +138,7 @@ unfolding total
 untouched st t y rs up [] l = refl
 untouched st t y rs up (c ∷ cs) l =
     let e : free st y ≡ false = ne-eqb (lockOf st y) 0 (λ e. omega arith) in
-    omega (arith, untouched st t y rs up cs l, ap (λ b. bit (holds (getD rs (c .recipe) []) y && ((b && reaches (onSide (st .sides) t y) (onSide (st .sides) (other t) y) (c .kind)) && up (c .kind)))) e ∙ ap bit (and-no (holds (getD rs (c .recipe) []) y)))
-  where
-    and-no : (b : Bool) → (b && false) ≡ false
-    and-no true = refl
-    and-no false = refl
+    omega (arith, untouched st t y rs up cs l, ap (λ b. bit (holds (getD rs (c .recipe) []) y && ((b && reaches (onSide (st .sides) t y) (onSide (st .sides) (other t) y) (c .kind)) && up (c .kind)))) e ∙ ap bit (and-false (holds (getD rs (c .recipe) []) y)))
 
 module _ (rs : List (List ℕ)) (dis : Distinct rs) (st : State) (f : ℕ) (m : Moves st (moved st f) f) where
   -- the scans of a move turn the gain of a file that stays free into its gain after the move

@@ -1,10 +1,15 @@
+pub mod Settling
 pub mod Tests
 pub mod Searches
 pub mod Fits
 pub mod Verdicts
 pub mod Count
 pub mod Signed
+pub mod Machine
+pub mod Digits
 pub mod Entries
+pub mod Views
+pub mod Blocks
 pub mod Locked
 pub mod OneMove
 pub mod GainKept
@@ -20,3 +25,4 @@ pub mod Reading
 pub mod CutOff
 pub mod Proved
 pub mod Told
+pub mod Reports

@@ -2,7 +2,7 @@
 use mathlib.Core.Path.{_≡_, refl, sym, ap, _∙_}
 use mathlib.Core.Logic.{_≢_}
 use Prim.Native.Nat.{ℕ, zero, suc, _≤_, _<_}
-use mathlib.Core.Bool.{Bool, true, false}
+use mathlib.Core.Bool.{false}
 use mathlib.Core.List.{List, [], _∷_}
 use mathlib.Core.Option.{Option, none, some}
 use native.Mathlib.Decide.{ℕ-discrete}
@@ -11,12 +11,12 @@ use lib.Dec.{eqb}
 use lib.ListN.{length, getD, set, take, length-set}
 use lib.Seq.{getD-set-same, getD-set-other}
 use borrow.Author.Tests.{eqb-true}
-use Rattle.rules.specs.Lists.{bit, total, count}
+use Rattle.rules.specs.Lists.{total, count}
 use Rattle.rules.specs.Job.{Job, fileCount}
 use Rattle.rules.specs.Split.{times, balanced}
 use Rattle.rules.specs.Move.{stepsBy, State, lockOf, free, moved, after, Frees, stop, move, sizeAfter, legal, choose, movesBy, moves}
 use Rattle.rules.specs.Theorems.{Chosen}
-use Rattle.rules.proofs.Count.{hit-eq, hit-ne}
+use Rattle.rules.proofs.Count.{hit-eq, hit-ne, count-le}
 use Rattle.rules.proofs.Tests.{and-yes}
 use Rattle.rules.proofs.Choice.{chosen, nothing-left}
 
@@ -57,15 +57,6 @@ unfolding count total
 set-less [] f h e = absurd (omega arith)
 set-less (x ∷ l) zero h e = omega (arith, hit-eq e)
 set-less (x ∷ l) (suc f) h e = omega (arith, set-less l f (omega arith) e)
-
-count-le {ℓ} : {A : Type ℓ} (p : A → Bool) (l : List A) → count p l ≤ length l
-unfolding count total
-count-le p [] = omega arith
-count-le p (x ∷ l) = omega (arith, count-le p l, bit-le (p x))
-  where
-    bit-le : (b : Bool) → bit b ≤ 1
-    bit-le true = omega arith
-    bit-le false = omega arith
 
 pub record Long (n : ℕ) (st : State) : Type 0 where
   pub sides : length (st .sides) ≡ n

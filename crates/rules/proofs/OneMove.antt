@@ -14,6 +14,7 @@ use Rattle.rules.specs.Lists.{bit, total, count}
 use Rattle.rules.specs.Split.{sideOf, onSide, countOn, isCut, times, holds, alone, together}
 use Rattle.rules.specs.Move.{State, lockOf, free, moved, reaches, touches, raises}
 use Rattle.rules.specs.Theorems.{Binary}
+use Rattle.rules.proofs.Tests.{and-false}
 use Rattle.rules.proofs.Locked.{lockedOn, kindsBy}
 use Rattle.rules.proofs.Count.{is0, is1, hit-self, hit-ne, and-le, total-out, total-move, total-has, total-zero, holds-yes, holds-no}
 
@@ -160,10 +161,6 @@ module _ {st st' : State} {f : ℕ} (m : Moves st st' f) where
   and-true : (b : Bool) → (b && true) ≡ b
   and-true true = refl
   and-true false = refl
-
-  and-false : (b : Bool) → (b && false) ≡ false
-  and-false true = refl
-  and-false false = refl
 
   move-locked : (u : ℕ) (r : List ℕ) → times f r ≡ 1 → lockedOn st' u r ≡ lockedOn st u r + bit (eqb (1 - sideOf (st .sides) f) u)
   unfolding lockedOn count lk

@@ -3,7 +3,7 @@ use mathlib.Core.Path.{_≡_, refl, sym, ap, _∙_}
 use Prim.Native.Nat.{ℕ, suc, _+_, _*_, _/_, _%_, _<_}
 use mathlib.Core.Bool.{Bool, true, false, not, _&&_}
 use mathlib.Core.List.{List, map}
-use native.Mathlib.Decide.{decLt}
+use native.Mathlib.Decide.{ℕ-discrete, decLt}
 use native.Mathlib.Omega.{arith}
 use native.Mathlib.Nat.{div-le-self, mod-le}
 use lib.Dec.{eqb, ltb}
@@ -14,7 +14,7 @@ use Rattle.rules.specs.declared.Header.{Header}
 use Rattle.rules.specs.Lists.{upTo, allBelow}
 use Rattle.rules.specs.Job.{Job, Limits, TwoByte, fileCount, recipeCount, pinCount}
 use Rattle.rules.specs.Check.{refuseIf, _orElse_, check1Of, check2Of, check1, check2, check3, check4to6, check1to6, check}
-use Rattle.rules.specs.Stored.{value, headerOf, boundsAt, pinsAt, blockVerdict, jobOf, Room, roomy, layoutVerdict, readVerdict, reading}
+use Rattle.rules.specs.Stored.{value, headerOf, boundsAt, pinsAt, blockVerdict, jobOf, Room, roomy, layoutVerdict, readVerdict, Reading, reading}
 use Rattle.rules.specs.Theorems.{ReadHolds, Written}
 use Rattle.rules.proofs.Verdicts.{passes-both, both-pass, not-refused, chain-go}
 use Rattle.rules.proofs.Tests.{not-no}
@@ -22,24 +22,29 @@ use Rattle.rules.proofs.Count.{length-tabled, getD-tabled}
 use Rattle.rules.proofs.Entries.{onto-length, onto-in, onto-stays}
 use Rattle.rules.proofs.SoundJob.{sound}
 
+-- ---- its lists are as long as the header says
+
 module _ (bytes : List ℕ) where
-  read-files : fileCount (jobOf bytes) ≡ headerOf bytes .files
+  pub read-files : fileCount (jobOf bytes) ≡ headerOf bytes .files
   unfolding jobOf
   read-files = length-tabled _ (headerOf bytes .files)
 
-  read-sides : length (jobOf bytes .sides) ≡ headerOf bytes .files
+  pub read-sides : length (jobOf bytes .sides) ≡ headerOf bytes .files
   unfolding jobOf
   read-sides = length-tabled _ (headerOf bytes .files)
 
-  read-marks : length (jobOf bytes .marks) ≡ headerOf bytes .files
+  pub read-marks : length (jobOf bytes .marks) ≡ headerOf bytes .files
   unfolding jobOf
   read-marks = length-tabled _ (headerOf bytes .files)
 
-  read-recipes : recipeCount (jobOf bytes) ≡ headerOf bytes .recipes
+  pub read-bounds : length (jobOf bytes .bounds) ≡ headerOf bytes .recipes + 1
   unfolding jobOf
-  read-recipes = omega (arith, length-tabled (λ i. value bytes (boundsAt (headerOf bytes) + i / 253) (i % 253)) (headerOf bytes .recipes + 1))
+  read-bounds = length-tabled _ (headerOf bytes .recipes + 1)
 
-  read-pins : pinCount (jobOf bytes) ≡ headerOf bytes .pins
+  read-recipes : recipeCount (jobOf bytes) ≡ headerOf bytes .recipes
+  read-recipes = omega (arith, read-bounds)
+
+  pub read-pins : pinCount (jobOf bytes) ≡ headerOf bytes .pins
   unfolding jobOf
   read-pins = length-tabled _ (headerOf bytes .pins)
 
@@ -119,6 +124,13 @@ read-holds most bytes room = record {
   adds = λ e. sym (chain-go refl (read-passes most bytes room e) refl);
   small = read-small bytes;
 }
+
+-- the verdict is given with the answer, refused or not
+pub reading-verdict : (most : Limits) (bytes : List ℕ) (room : Room) → reading most bytes room .answer .verdict ≡ readVerdict most bytes room
+reading-verdict most bytes room = elim (ℕ-discrete (readVerdict most bytes room .number) 0) [
+  | yes z ↦ ap (λ (x : Reading). x .answer .verdict) (read-holds most bytes room .reads z)
+  | no n ↦ ap (λ (x : Reading). x .answer .verdict) (read-holds most bytes room .refused n)
+]
 
 pub written-holds : (xs old : List ℕ) → Written xs old
 written-holds xs old = record { long = onto-length 0 xs old; holds = onto-in 0 xs old; stays = onto-stays 0 xs old }

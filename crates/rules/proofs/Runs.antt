@@ -3,9 +3,10 @@ use mathlib.Core.Path.{_≡_, refl, sym, ap, _∙_}
 use mathlib.Core.Logic.{_≢_}
 use Prim.Native.Nat.{ℕ, zero, suc, _≤_, _<_}
 use mathlib.Core.Bool.{Bool, true, false}
-use mathlib.Core.List.{List, [], _∷_}
+use mathlib.Core.List.{List, [], _∷_, _++_}
 use native.Mathlib.Omega.{arith}
-use lib.ListN.{length, getD}
+use lib.ListN.{length, getD, take}
+use lib.Seq.{take-suc}
 use borrow.Author.Tests.{eqb-false, eq-eqb, ne-eqb}
 use Rattle.rules.specs.Job.{Job, recipes}
 use Rattle.rules.specs.Split.{cut, sizeA}
@@ -154,3 +155,14 @@ pub come-some : (job : Job) (try : List ℕ → List ℕ) {n : ℕ} {sides : Lis
 come-some job try out h = absurd (omega arith)
 come-some job try (ended e) h = omega arith
 come-some job try (on e rest) h = omega arith
+
+-- ---- the last of passes
+
+pub last-more : (first : Pass) (ps : List Pass) (p : Pass) → lastOf first (ps ++ (p ∷ [])) ≡ p
+unfolding lastOf
+last-more first [] p = refl
+last-more first (q ∷ ps) p = last-more q ps p
+
+-- among the first k + 1, the one at k
+pub last-at : (first d : Pass) (ps : List Pass) (k : ℕ) → k < length ps → lastOf first (take (suc k) ps) ≡ getD ps k d
+last-at first d ps k h = ap (lastOf first) (take-suc ps k d h) ∙ last-more first (take k ps) (getD ps k d)

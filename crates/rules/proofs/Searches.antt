@@ -1,13 +1,13 @@
--- The lowest number that passes a test, and the least and shortest of costs. Assumes nothing.
+-- The lowest number that passes a test, a loop that goes up to it, and the least and shortest of costs. Assumes nothing.
 use mathlib.Core.Path.{_≡_, refl, sym, ap, _∙_}
-use Prim.Native.Nat.{ℕ, zero, suc, _≤_, _<_}
+use Prim.Native.Nat.{ℕ, zero, suc, _+_, _≤_, _<_}
 use mathlib.Core.Bool.{Bool, true, false, cond, _||_}
 use native.Mathlib.Decide.{ℕ-discrete, decLt}
 use native.Mathlib.Omega.{arith}
 use lib.Dec.{ltb}
-use borrow.Author.Tests.{ltb-true, ltb-false, lt-ltb}
+use borrow.Author.Tests.{ltb-true, ltb-false, lt-ltb, le-ltb}
 use Rattle.rules.specs.Lists.{lowest, someBelow, displaces, bestUpTo}
-use Rattle.rules.proofs.Tests.{clash}
+use Rattle.rules.proofs.Tests.{clash, contra'}
 
 pub lowest-le : (p : ℕ → Bool) (n : ℕ) → lowest p n ≤ n
 unfolding lowest
@@ -74,6 +74,52 @@ lowest-none p n low = elim (decLt (lowest p n) n) [
   | yes l ↦ clash (sym (lowest-passes p n l) ∙ low (lowest p n) l)
   | no g ↦ omega (arith, lowest-le p n)
 ]
+
+pub some-here : (p : ℕ → Bool) (n i : ℕ) → i < n → p i ≡ true → someBelow p n ≡ true
+some-here p n i h e = contra' (someBelow p n) (λ z. clash (sym e ∙ none-below p n z i h))
+
+pub some-none : (p : ℕ → Bool) (n : ℕ) → ((i : ℕ) → i < n → p i ≡ false) → someBelow p n ≡ false
+some-none p n low = le-ltb (lowest p n) n (omega (arith, lowest-none p n low))
+
+-- where only j can pass, some number below n passes if j does
+pub some-at : (p : ℕ → Bool) (n j : ℕ) → j < n → ((i : ℕ) → i < n → (i ≡ j → ⊥) → p i ≡ false) → someBelow p n ≡ p j
+some-at p n j h off = go (p j) refl
+  where
+    go : (b : Bool) → p j ≡ b → someBelow p n ≡ p j
+    go true e = some-here p n j h e ∙ sym e
+    go false e = some-none p n (λ k l. elim (ℕ-discrete k j) [ yes q ↦ ap p q ∙ e | no z ↦ off k l z ]) ∙ sym e
+
+-- ---- a loop that goes up: the search up to n has come to i, and the test held nowhere so far
+
+pub record Passed (p : ℕ → Bool) (n i : ℕ) : Type 0 where
+  pub stop : i ≤ n
+  pub miss : (k : ℕ) → k < i → p k ≡ false
+
+pub passed-none : {p : ℕ → Bool} {n : ℕ} → Passed p n 0
+passed-none = record { stop = omega arith; miss = λ k l. absurd (omega arith) }
+
+module _ {p : ℕ → Bool} {n i : ℕ} (x : Passed p n i) where
+  pub passed-more : i < n → p i ≡ false → Passed p n (i + 1)
+  passed-more h e = record {
+    stop = omega arith;
+    miss = λ k l. elim (ℕ-discrete k i) [
+      | yes q ↦ ap p q ∙ e
+      | no z ↦ x .miss k (omega arith)
+    ];
+  }
+
+  pub passed-hit : i < n → p i ≡ true → i ≡ lowest p n
+  passed-hit h e = sym (lowest-is p n i h e (x .miss))
+
+  pub passed-end : n ≤ i → n ≡ lowest p n
+  passed-end h = sym (lowest-none p n (λ k l. x .miss k (omega arith)))
+
+  -- whether any passes
+  pub passed-some : i < n → p i ≡ true → true ≡ someBelow p n
+  passed-some h e = sym (some-here p n i h e)
+
+  pub passed-no : n ≤ i → false ≡ someBelow p n
+  passed-no h = sym (some-none p n (λ k l. x .miss k (omega arith)))
 
 -- ---- the best prefix
 

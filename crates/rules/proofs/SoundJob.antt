@@ -5,20 +5,22 @@ use Prim.Native.Nat.{ℕ, zero, suc, _+_, _-_, _≤_, _<_}
 use mathlib.Core.Bool.{Bool, false, not, _&&_, _||_}
 use mathlib.Core.List.{List, [], map}
 use native.Mathlib.Decide.{decLt}
+use native.Mathlib.Numerals.{add-one}
 use native.Mathlib.Omega.{arith}
 use lib.Dec.{eqb, leb, ltb}
 use lib.ListN.{length, getD, take, drop, length-take, length-drop, List·getD-eq-default}
 use lib.Seq.{getD-take, getD-drop}
 use borrow.Author.Tests.{ltb-false, leb-false, eqb-true, eqb-false, lt-ltb, le-leb}
 use Rattle.rules.specs.Lists.{total, count, upTo, lowest, someBelow}
-use Rattle.rules.specs.Job.{Job, Limits, fileCount, recipeCount, pinCount, bound, pin, viewOf, view, views, recipes}
+use Rattle.rules.specs.Job.{Job, Limits, fileCount, recipeCount, pinCount, bound, pin, view, views, recipes}
 use Rattle.rules.specs.Split.{sizeOf, times}
-use Rattle.rules.specs.Check.{refuseIf, refuseAt, _orElse_, short, repeatsIn, badPin, badFile, check1, check2, check3, check4, check5, check6, check4to6, check1to6}
+use Rattle.rules.specs.Check.{refuseIf, refuseAt, _orElse_, short, repeatsIn, badPin, badFile, check1Of, check2Of, check1, check2, check3, check4, check5, check6, check4to6, check1to6}
 use Rattle.rules.specs.Theorems.{Distinct, Sound}
 use Rattle.rules.proofs.Count.{total-map, total-upTo, getD-tabled, length-tabled, times-once}
 use Rattle.rules.proofs.Tests.{or-no, and-yes, and-no, not-no}
 use Rattle.rules.proofs.Searches.{none-below}
 use Rattle.rules.proofs.Verdicts.{passes-both, not-refused}
+use Rattle.rules.proofs.Views.{is-part}
 
 small : (l : List ℕ) (n : ℕ) → length l ≡ n → ((i : ℕ) → i < n → getD l i 0 ≤ 1) → (i : ℕ) → getD l i 0 ≤ 1
 small l n e h i = elim (decLt i n) [
@@ -28,24 +30,31 @@ small l n e h i = elim (decLt i n) [
 
 -- ---- each check, passed
 
+-- 1 and 2, of a job's counts and of a stored job's header
+pub ok1-of : (c n : ℕ) → check1Of c n .number ≡ 0 → (1 ≤ c) × (1 ≤ n)
+ok1-of c n h =
+    let r = or-no (eqb c 0) (eqb n 0) (not-refused (eqb c 0 || eqb n 0) 0 0 h) in
+    let a : c ≢ 0 = eqb-false c 0 (r .0) in
+    let b : n ≢ 0 = eqb-false n 0 (r .1) in
+    (omega arith, omega arith)
+
+pub ok2-of : (most : Limits) (c n p : ℕ) → check2Of most c n p .number ≡ 0 → (c ≤ most .files) × (n ≤ most .recipes) × (p ≤ most .pins)
+ok2-of most c n p h =
+    let x = ltb (most .files) c in
+    let y = ltb (most .recipes) n in
+    let z = ltb (most .pins) p in
+    let r = or-no (x || y) z (not-refused (x || y || z) 1 0 h) in
+    let q = or-no x y (r .0) in
+    (ltb-false (most .files) c (q .0), ltb-false (most .recipes) n (q .1), ltb-false (most .pins) p (r .1))
+
 module _ (job : Job) where
   pub ok1 : check1 job .number ≡ 0 → (1 ≤ fileCount job) × (1 ≤ recipeCount job)
   unfolding check1
-  ok1 h =
-      let r = or-no (eqb (fileCount job) 0) (eqb (recipeCount job) 0) (not-refused (eqb (fileCount job) 0 || eqb (recipeCount job) 0) 0 0 h) in
-      let a : fileCount job ≢ 0 = eqb-false (fileCount job) 0 (r .0) in
-      let b : recipeCount job ≢ 0 = eqb-false (recipeCount job) 0 (r .1) in
-      (omega arith, omega arith)
+  ok1 h = ok1-of (fileCount job) (recipeCount job) h
 
   pub ok2 : (most : Limits) → check2 most job .number ≡ 0 → (fileCount job ≤ (most .files)) × (recipeCount job ≤ (most .recipes)) × (pinCount job ≤ (most .pins))
   unfolding check2
-  ok2 most h =
-      let a = ltb (most .files) (fileCount job) in
-      let b = ltb (most .recipes) (recipeCount job) in
-      let c = ltb (most .pins) (pinCount job) in
-      let r = or-no (a || b) c (not-refused (a || b || c) 1 0 h) in
-      let q = or-no a b (r .0) in
-      (ltb-false (most .files) (fileCount job) (q .0), ltb-false (most .recipes) (recipeCount job) (q .1), ltb-false (most .pins) (pinCount job) (r .1))
+  ok2 most h = ok2-of most (fileCount job) (recipeCount job) (pinCount job) h
 
   pub ok3 : (lent : Bool) → check3 job lent .number ≡ 0 → (length (job .sides) ≡ fileCount job) × (length (job .marks) ≡ fileCount job)
   unfolding check3
@@ -136,19 +145,23 @@ sound most job lent ok =
 
 -- ---- what a sound job has
 
-module _ (most : Limits) (job : Job) (s : Sound most job) where
-  rises : (d j : ℕ) → j + d ≡ recipeCount job → bound job j ≤ bound job (recipeCount job)
-  rises zero j e = let q : j ≡ recipeCount job = omega arith in omega (arith, ap (bound job) q)
-  rises (suc d) j e = omega (arith, s .two j (omega arith), rises d (suc j) (omega arith))
+-- bounds of which each is 2 or more past the one before rise
+module _ (job : Job) (two : (j : ℕ) → j < recipeCount job → 2 + bound job j ≤ bound job (suc j)) where
+  rises : (d i j : ℕ) → i + d ≡ j → j ≤ recipeCount job → bound job i ≤ bound job j
+  rises zero i j e h = let q : i ≡ j = omega arith in omega (arith, ap (bound job) q)
+  rises (suc d) i j e h = omega (arith, two i (omega arith), rises d (suc i) j (omega arith) h)
 
+  pub bounds-rise : (i j : ℕ) → i ≤ j → j ≤ recipeCount job → bound job i ≤ bound job j
+  bounds-rise i j l h = rises (j - i) i j (omega arith) h
+
+module _ (most : Limits) (job : Job) (s : Sound most job) where
   pub bound-le : (j : ℕ) → j ≤ recipeCount job → bound job j ≤ pinCount job
-  bound-le j h = omega (arith, rises (recipeCount job - j) j (omega arith), s .last)
+  bound-le j h = omega (arith, bounds-rise job (s .two) j (recipeCount job) h (omega arith), s .last)
 
   -- the view of a recipe that is there
   pub view-is : (j : ℕ) → j < recipeCount job → view job j ≡ take (bound job (suc j) - bound job j) (drop (bound job j) (job .pins))
-  unfolding viewOf
   view-is j h =
-      rw (lt-ltb (suc j) (length (job .bounds)) (omega arith), le-leb (bound job j) (bound job (suc j)) (omega (arith, s .two j h)), le-leb (bound job (suc j)) (pinCount job) (bound-le (suc j) h)) refl
+      sym (is-part (job .bounds) (job .pins) j (bound job j) (bound job (suc j)) h refl (ap (bound job) (sym (add-one j))) (omega (arith, s .two j h)) (bound-le (suc j) h))
 
   pub view-length : (j : ℕ) → j < recipeCount job → length (view job j) ≡ bound job (suc j) - bound job j
   view-length j h =

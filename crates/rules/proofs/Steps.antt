@@ -4,29 +4,14 @@ use Prim.Native.Nat.{ℕ, zero, suc, _+_, _≤_, _<_}
 use mathlib.Core.List.{List, [], _∷_, _++_, map, append-assoc}
 use native.Mathlib.Omega.{arith}
 use native.Mathlib.Nat.{add-zero, zero-add, suc-add, add-suc}
-use mathlib.Core.Bool.{Bool, true, false, not, cond, _&&_}
+use mathlib.Core.Bool.{Bool, true, false, cond}
 use lib.IntN.{ℤ, pos, _+ℤ_}
 use lib.ListN.{length, getD, set, take, length-append}
 use lib.Seq.{getD-set-same, set-set, set-getD}
-use Rattle.rules.specs.Lists.{bit, total, count, diff}
-use Rattle.rules.specs.Split.{other, sideOf, onSide, countOn, holds, alone, together, gain, cut}
-use Rattle.rules.specs.Move.{stepsBy, State, moved, after, Scan, scansOf, scans, scanAll, endsFrom, free, kindsIn, kindsOf, scansFrom, touches, change, scanPins}
+use Rattle.rules.specs.Split.{other, sideOf, holds, gain, cut}
+use Rattle.rules.specs.Move.{stepsBy, State, moved, after, Scan, scansOf, scans, scanAll, endsFrom, kindsIn, kindsOf, scansFrom, touches, change, scanPins}
 use Rattle.rules.specs.Pass.{gainsWhen, cutsAfter, cutAt}
-use Rattle.rules.proofs.Locked.{lockedOn}
 use Rattle.rules.proofs.GainKept.{keptUp}
-use Rattle.rules.proofs.Count.{total-take, count-take}
-use Rattle.rules.proofs.Signed.{diff-add}
-
--- one pin more of a recipe, where a loop tested it
-pub countOn-more : (sides : List ℕ) (u : ℕ) (r : List ℕ) (i : ℕ) {b : Bool} → i < length r → onSide sides u (getD r i 0) ≡ b
-    → countOn sides u (take (i + 1) r) ≡ countOn sides u (take i r) + bit b
-unfolding countOn
-countOn-more sides u r i h e = count-take (onSide sides u) 0 r i h e
-
-pub lockedOn-more : (st : State) (u : ℕ) (r : List ℕ) (i : ℕ) {b : Bool} → i < length r → (onSide (st .sides) u (getD r i 0) && not (free st (getD r i 0))) ≡ b
-    → lockedOn st u (take (i + 1) r) ≡ lockedOn st u (take i r) + bit b
-unfolding lockedOn
-lockedOn-more st u r i h e = count-take (λ x. onSide (st .sides) u x && not (free st x)) 0 r i h e
 
 -- one pin more of a scan
 pub scan-more : (st : State) (t k : ℕ) (r : List ℕ) (x : ℕ) (g : List ℤ)
@@ -34,14 +19,6 @@ pub scan-more : (st : State) (t k : ℕ) (r : List ℕ) (x : ℕ) (g : List ℤ)
 unfolding scanPins
 scan-more st t k [] x g = refl
 scan-more st t k (y ∷ r) x g = scan-more st t k r x _
-
--- one recipe more of a gain
-pub gain-more : (sides : List ℕ) (rs : List (List ℕ)) (f j : ℕ) → j < length rs
-    → gain sides (take (suc j) rs) f ≡ gain sides (take j rs) f +ℤ diff (bit (alone sides f (getD rs j []))) (bit (together sides f (getD rs j [])))
-unfolding gain count
-gain-more sides rs f j h =
-    ap₂ diff (total-take (λ r. bit (alone sides f r)) [] rs j h) (total-take (λ r. bit (together sides f r)) [] rs j h)
-    ∙ sym (diff-add (total (λ r. bit (alone sides f r)) (take j rs)) (total (λ r. bit (together sides f r)) (take j rs)) (bit (alone sides f (getD rs j []))) (bit (together sides f (getD rs j []))))
 
 -- the numbers of the recipes that hold f, rising, those of rs counted from j
 unfoldable pub recipesFrom : ℕ → ℕ → List (List ℕ) → List ℕ

@@ -1,4 +1,4 @@
--- Tests taken apart. Assumes nothing.
+-- Tests taken apart and put together. Assumes nothing.
 use mathlib.Core.Path.{_≡_, refl, sym, ap, _∙_}
 use Prim.Native.Nat.{ℕ}
 use mathlib.Core.Bool.{Bool, true, false, not, _&&_, _||_}
@@ -17,6 +17,13 @@ and-yes false b h = clash (sym h)
 
 pub and-no : (a b : Bool) → (a && b) ≡ false → a ≡ true → b ≡ false
 and-no a b h e = sym (ap (λ (t : Bool). t && b) e) ∙ h
+
+pub and-both : {a b : Bool} → a ≡ true → b ≡ true → (a && b) ≡ true
+and-both {a} {b} e z = ap (λ (t : Bool). t && b) e ∙ z
+
+pub and-false : (b : Bool) → (b && false) ≡ false
+and-false true = refl
+and-false false = refl
 
 pub not-no : (a : Bool) → not a ≡ false → a ≡ true
 not-no true h = refl

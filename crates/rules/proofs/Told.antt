@@ -1,24 +1,23 @@
 -- A pass that was made is told whole: the lists that it leaves hold all that a trace shows. Assumes nothing.
-use mathlib.Core.Path.{_≡_, refl, sym, ap, ap₂, _∙_}
+use mathlib.Core.Path.{_≡_, refl, ap, _∙_}
 use Prim.Native.Nat.{ℕ, zero, suc, _+_, _*_, _≤_, _<_}
-use mathlib.Core.Bool.{Bool, true, false, not, _&&_, _||_}
-use mathlib.Core.List.{List, [], _∷_, map}
+use mathlib.Core.Bool.{true, false}
+use mathlib.Core.List.{List, [], _∷_}
 use native.Mathlib.Omega.{arith}
 use native.Mathlib.Nat.{add-zero}
-use lib.ListN.{length, getD, length-append, length-map}
-use lib.Dec.{leb, ltb, eqb}
-use borrow.Author.Tests.{le-ltb, le-leb, leb-true, eq-eqb}
-use Rattle.rules.specs.declared.Figures.{Figures}
-use Rattle.rules.specs.Lists.{lowest, someBelow, total}
-use Rattle.rules.specs.Job.{Job, Limits, fileCount, recipeCount, recipes, Lent, scratchFor, fits}
+use lib.ListN.{length, getD, length-append}
+use lib.Dec.{ltb}
+use borrow.Author.Tests.{le-ltb, le-leb, eq-eqb}
+use Rattle.rules.specs.Lists.{someBelow, total}
+use Rattle.rules.specs.Job.{Job, Limits, fileCount, recipeCount, recipes, Lent, fits}
 use Rattle.rules.specs.Check.{done}
-use Rattle.rules.specs.Move.{State, moved, Scan, scansOf, scans, endsFrom, start}
+use Rattle.rules.specs.Move.{State, moved, scansOf, scans, endsFrom, start}
 use Rattle.rules.specs.Pass.{Pass, passOf, tries, pass, leaves}
 use Rattle.rules.specs.Run.{figuresOf}
 use Rattle.rules.specs.Trace.{Listing, listing, scansBefore, badEnd, holdsPass}
 use Rattle.rules.specs.Theorems.{Sound, MovesHold, Left}
 use Rattle.rules.proofs.Proved.{pass-holds, left, given-sides}
-use Rattle.rules.proofs.Searches.{lowest-none}
+use Rattle.rules.proofs.Searches.{some-none}
 use Rattle.rules.proofs.Steps.{ends-length}
 use Rattle.rules.proofs.Fits.{roomy}
 
@@ -84,7 +83,7 @@ module _ (most : Limits) (job : Job) (s : Sound most job) (l : Lent) (ok : fits 
   pass-told =
       let f = roomy job l ok in
       let n = length (tries job (job .sides)) in
-      let ends : someBelow (badEnd told) n ≡ false = ap (λ (i : ℕ). ltb i n) (lowest-none (badEnd told) n no-bad-end) ∙ le-ltb n n (omega arith) in
+      let ends : someBelow (badEnd told) n ≡ false = some-none (badEnd told) n no-bad-end in
       let gains : length (told .gains) ≡ fileCount job = ap length (there .gains) ∙ moves .all in
       rw (
         tried-told,

@@ -1,15 +1,18 @@
 -- A chain of checks: the first refusal is the answer, and what a check that lets through tells. Assumes nothing.
 use mathlib.Core.Path.{_≡_, refl, sym, ap, _∙_}
 use mathlib.Core.Logic.{_≢_}
-use Prim.Native.Nat.{ℕ, suc, _<_}
-use mathlib.Core.Bool.{Bool, true, false, cond}
+use Prim.Native.Nat.{ℕ, suc, _≤_, _<_}
+use mathlib.Core.Bool.{Bool, true, false, not, cond, _&&_, _||_}
 use native.Mathlib.Omega.{arith}
-use lib.Dec.{eqb}
-use borrow.Author.Tests.{ltb-true, eqb-true, eqb-false, eq-eqb, ne-eqb}
+use lib.Dec.{ltb, eqb}
+use lib.ListN.{length}
+use borrow.Author.Tests.{ltb-true, le-ltb, eqb-true, eqb-false, eq-eqb, ne-eqb}
 use Rattle.rules.specs.declared.Verdict.{Verdict}
 use Rattle.rules.specs.Lists.{lowest, someBelow}
-use Rattle.rules.specs.Check.{done, refuseIf, _orElse_}
+use Rattle.rules.specs.Job.{Job, Limits, fileCount, recipeCount, pinCount}
+use Rattle.rules.specs.Check.{done, isDone, refuseIf, _orElse_, check1, check2, check3, check4to6, check1to6, measure}
 use Rattle.rules.specs.Theorems.{AtLowest}
+use Rattle.rules.proofs.Tests.{and-both}
 use Rattle.rules.proofs.Searches.{none-below, lowest-passes, below-lowest}
 
 -- a is what the check v answered: the chain stops at it, or goes on
@@ -21,6 +24,21 @@ zero-of e z = sym (ap (λ (y : Verdict). y .number) e) ∙ z
 
 pub chain-go : {a v w r : Verdict} → a ≡ v → a .number ≡ 0 → r ≡ w → r ≡ (v orElse w)
 chain-go {a} {v} e z r = r ∙ simp (eq-eqb (v .number) 0 (zero-of e z))
+
+-- what follows a check counts only where it lets through
+pub chain-same : (v w w' : Verdict) → (v .number ≡ 0 → w ≡ w') → (v orElse w) ≡ (v orElse w')
+chain-same v w w' f = go (eqb (v .number) 0) refl
+  where
+    go : (b : Bool) → eqb (v .number) 0 ≡ b → cond b w v ≡ cond b w' v
+    go true e = f (eqb-true (v .number) 0 e)
+    go false e = refl
+
+-- a test that refuses, in a chain
+pub refuse-stop : {t : Bool} {r : Verdict} (n p : ℕ) (w : Verdict) → t ≡ true → r ≡ refuseIf true (suc n) p → r ≡ (refuseIf t (suc n) p orElse w)
+refuse-stop n p w e z = chain-stop w (z ∙ ap (λ (b : Bool). refuseIf b (suc n) p) (sym e)) (λ q. omega (arith, ap (λ (v : Verdict). v .number) z))
+
+pub refuse-go : {t : Bool} {w r : Verdict} (n p : ℕ) → t ≡ false → r ≡ w → r ≡ (refuseIf t n p orElse w)
+refuse-go n p e z = chain-go {a = done} (ap (λ (b : Bool). refuseIf b n p) (sym e)) refl z
 
 pub passes-both : (v w : Verdict) → (v orElse w) .number ≡ 0 → (v .number ≡ 0) × (w .number ≡ 0)
 passes-both v w h = go (eqb (v .number) 0) refl h
@@ -59,3 +77,26 @@ at-lowest k test n = record {
         × (test (refuseIf b (suc k) (lowest test n) .place) ≡ true) × ((i : ℕ) → i < refuseIf b (suc k) (lowest test n) .place → test i ≡ false)
     go true e h = let l = ltb-true (lowest test n) n e in (refl, l, lowest-passes test n l, below-lowest test n)
     go false e h = absurd (h refl)
+
+-- ---- the measure
+
+pub measure-verdict : (most : Limits) (job : Job) → measure most job .verdict ≡ check1to6 most job true
+unfolding measure
+measure-verdict most job = go (isDone (check1to6 most job true)) refl
+  where
+    go : (b : Bool) → isDone (check1to6 most job true) ≡ b → measure most job .verdict ≡ check1to6 most job true
+    go true e = rw (e, measure)
+    go false e = rw (e, measure)
+
+-- of a job that passes 1 to 3
+module _ (most : Limits) (job : Job) where
+  pub first-three : 1 ≤ fileCount job → 1 ≤ recipeCount job → fileCount job ≤ most .files → recipeCount job ≤ most .recipes → pinCount job ≤ most .pins
+      → length (job .sides) ≡ fileCount job → length (job .marks) ≡ fileCount job → check1to6 most job true ≡ check4to6 job
+  unfolding check1to6 check1 check2 check3
+  first-three c n few-files few-recipes few-pins sides marks =
+      let none : (eqb (fileCount job) 0 || eqb (recipeCount job) 0) ≡ false = simp (ne-eqb (fileCount job) 0 (λ e. omega arith), ne-eqb (recipeCount job) 0 (λ e. omega arith)) in
+      let over : (ltb (most .files) (fileCount job) || ltb (most .recipes) (recipeCount job) || ltb (most .pins) (pinCount job)) ≡ false =
+      simp (le-ltb (most .files) (fileCount job) few-files, le-ltb (most .recipes) (recipeCount job) few-recipes, le-ltb (most .pins) (pinCount job) few-pins) in
+      let long : (eqb (length (job .sides)) (fileCount job) && eqb (length (job .marks)) (fileCount job) && true) ≡ true =
+      and-both (and-both (eq-eqb (length (job .sides)) (fileCount job) sides) (eq-eqb (length (job .marks)) (fileCount job) marks)) refl in
+      sym (refuse-go 1 0 none (refuse-go 2 0 over (refuse-go 3 0 (ap not long) refl)))

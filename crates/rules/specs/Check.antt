@@ -9,7 +9,6 @@ use Rattle.rules.specs.Lists.{count, lowest, someBelow}
 use Rattle.rules.specs.Job.{Job, Limits, fileCount, recipeCount, pinCount, bound, pin, files, recipes}
 use Rattle.rules.specs.Split.{sizeOf, sizeA, balanced, cut}
 
--- number 0, place 0
 abbrev pub done : Verdict
 done = record { number = 0; place = 0 }
 

@@ -55,7 +55,7 @@ pub record Accepted (most : Limits) (job : Job) : Type 0 where
   pub free : (f : ℕ) × (f < fileCount job) × (getD (job .marks) f 0 ≡ 0)
   pub balanced : balanced job (sizeA job (job .sides)) ≡ true
 
--- sides that a pass may start from
+-- sides that a pass may start from (Proved `given-sides`, and `MovesHold.next`)
 pub record Sides (job : Job) (sides : List ℕ) : Type 0 where
   pub long : length sides ≡ fileCount job
   pub binary : Binary sides
@@ -107,7 +107,7 @@ pub record MovesHold (job : Job) (sides ms : List ℕ) : Type 0 where
 
 -- ---- what a lent list holds afterwards, entry by entry
 
--- the first n entries hold xs, then z; further entries stay
+-- the first n entries hold xs, then z; further entries stay (Entries `listed-holds`)
 pub record Listed {ℓ} {A : Type ℓ} (n : ℕ) (z : A) (xs old new : List A) : Type ℓ where
   pub long : length new ≡ length old
   pub holds : (d : A) (i : ℕ) → i < length xs → getD new i d ≡ getD xs i d
@@ -127,7 +127,7 @@ pub record Left (job : Job) (l : Lent) (p : Pass) : Type 0 where
 
 -- ---- one pass (Proved `pass-holds`, of a sound job and sides that a pass may start from)
 
--- f is legal, and no legal move comes before it: none has a greater gain; of those with no less a gain none is nearer, and those of lower number are further
+-- f is legal, and no legal move comes before it: none has a greater gain; of those with no less a gain none is nearer, and those of lower number are further (Choice `chosen`)
 pub record Chosen (job : Job) (st : State) (f : ℕ) : Type 0 where
   pub below : f < fileCount job
   pub lawful : legal job st f ≡ true
@@ -171,7 +171,7 @@ pub record RunHolds (job : Job) : Type 0 where
 
 -- ---- the answers (Proved `answers`, of any input)
 
--- a number with a place stands at the lowest that passes the test, and is given only if one does
+-- a number with a place stands at the lowest that passes the test, and is given only if one does (Verdicts `at-lowest`)
 pub record AtLowest (k : ℕ) (test : ℕ → Bool) (n : ℕ) : Type 0 where
   pub given : refuseAt k test n .number ≢ 0 →
       (refuseAt k test n .number ≡ k) × (refuseAt k test n .place < n) × (test (refuseAt k test n .place) ≡ true)

@@ -2,31 +2,21 @@
 use mathlib.Core.Path.{_≡_, sym, ap, _∙_}
 use Prim.Native.Nat.{ℕ, _*_, _≤_}
 use mathlib.Core.Bool.{true, _&&_}
-use mathlib.Core.List.{List, [], _++_, map}
+use mathlib.Core.List.{List, [], map}
 use native.Mathlib.Omega.{arith}
 use lib.Dec.{leb, eqb}
 use lib.IntN.{pos}
 use lib.ListN.{length, length-map}
-use Rattle.rules.specs.Lists.{onto, padded, listed}
 use Rattle.rules.specs.Job.{Job, Limits, fileCount, recipeCount, recipes, Lent, lentOf, scratchFor, fits}
 use Rattle.rules.specs.Move.{start, scans, endsFrom}
 use Rattle.rules.specs.Pass.{gainsWhen, cutsAfter, passOf, tries, pass, leaves}
 use Rattle.rules.specs.Theorems.{Sound, Sides, MovesHold, Left}
-use Rattle.rules.proofs.Entries.{padded-length}
+use Rattle.rules.proofs.Entries.{listed-again}
 use Rattle.rules.proofs.Proved.{left, pass-holds}
 use Rattle.rules.proofs.Steps.{gains-length, cuts-length, ends-length}
 use Rattle.rules.proofs.Fits.{roomy}
-use Rattle.split.proofs.LentLists.{onto-drop}
 
 -- ---- the lists after two passes are the second's
-
--- the second of two lists, each with z up to n, is all that stays
-listed-again {ℓ} : {A : Type ℓ} (n : ℕ) (z : A) (xs ys old : List A) → length xs ≤ n → length ys ≤ n → listed n z ys (listed n z xs old) ≡ listed n z ys old
-listed-again {A = A} n z xs ys old h k =
-    unfold onto in
-    ap (λ (t : List A). padded n z ys ++ t)
-    (onto-drop (padded n z xs) old (length (padded n z ys))
-    (omega (arith, padded-length n z xs h, padded-length n z ys k)))
 
 module _ (job : Job) (l : Lent) (x y ms ns : List ℕ) (a : MovesHold job x ms) (b : MovesHold job y ns) where
   pub leaves-again : leaves job (leaves job l (passOf job x ms)) (passOf job y ns) ≡ leaves job l (passOf job y ns)

@@ -21,19 +21,14 @@ use Rattle.rules.specs.Run.{Ended, endedOf, settles, run, lastOf, figuresOf, ru
 use Rattle.rules.specs.Theorems.{Sound, Accepted, Sides, RunHolds}
 use Rattle.rules.proofs.Count.{total-append}
 use Rattle.rules.proofs.Proved.{pass-holds, run-holds, given-sides}
-use Rattle.rules.proofs.Runs.{pass-size}
+use Rattle.rules.proofs.Runs.{pass-size, last-more, last-at}
 use Rattle.rules.proofs.Tests.{clash, and-yes}
 use Rattle.split.specs.Playing.{passLeft}
-use Rattle.split.proofs.Accepting.{Narrow}
+use Rattle.tables.proofs.Accepted.{Narrow}
 use Rattle.split.proofs.Bounds.{cut-few}
 use Rattle.runs.specs.Running.{plusOf, follows, SumsFit, withSides, lastAt, Running, runLeft}
 use Rattle.runs.proofs.SameJob.{leaves-same, pass-same}
 use Rattle.runs.proofs.PassAfterPass.{Alike, leaves-again, leaves-alike}
-
-last-more : (first : Pass) (ps : List Pass) (p : Pass) → lastOf first (ps ++ (p ∷ [])) ≡ p
-unfolding lastOf
-last-more first [] p = refl
-last-more first (q ∷ ps) p = last-more q ps p
 
 total-more : (w : Pass → ℕ) (ps : List Pass) (p : Pass) → total w (ps ++ (p ∷ [])) ≡ total w ps + (w p + 0)
 unfolding total
@@ -94,7 +89,7 @@ module _ {most : Limits} {job : Job} (ok : Accepted most job) (l : Lent) where
 
   -- the last of the first passes is the one at their number less one
   last-is : (k : ℕ) → k < length (run job) → lastAt job (suc k) ≡ getD (run job) k (pass job (job .sides))
-  last-is k h = ap (lastOf (pass job (job .sides))) (take-more k h) ∙ last-more (pass job (job .sides)) (take k (run job)) (getD (run job) k (pass job (job .sides)))
+  last-is k h = last-at (pass job (job .sides)) (pass job (job .sides)) (run job) k h
 
   starts-next : (before : List ℕ) → Starts job before → Starts job (pass job before .sidesAfter)
   starts-next before w = record {

@@ -22,7 +22,7 @@ use Rattle.rules.specs.Theorems.{Accepted}
 use Rattle.rules.proofs.Proved.{accepted, answers, run-holds}
 use Rattle.rules.proofs.Tests.{clash}
 use Rattle.split.specs.Playing.{passLeft}
-use Rattle.split.proofs.Accepting.{Narrow}
+use Rattle.tables.proofs.Accepted.{Narrow}
 use Rattle.runs.specs.Running.{plusOf, withPass, follows, goesOn, SumsFit, withSides, Running}
 use Rattle.runs.proofs.AnswerSoFar.{with-none, with-first, with-more, stops-refused, goes-where, first-goes}
 use Rattle.runs.proofs.SameJob.{check-again}

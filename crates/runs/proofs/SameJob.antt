@@ -7,13 +7,13 @@ use native.Mathlib.Omega.{arith}
 use lib.ListN.{length, getD}
 use borrow.Author.Tests.{eq-eqb, ne-eqb, le-ltb}
 use Rattle.rules.specs.Lists.{lowest}
-use Rattle.rules.specs.Job.{Job, Limits, fileCount, files, views, recipes, Lent}
+use Rattle.rules.specs.Job.{Job, Limits, fileCount, files, views, Lent}
 use Rattle.rules.specs.Split.{sizeOf, weight, smax, sizeOn, sizeA, balanced}
 use Rattle.rules.specs.Check.{refuseIf, _orElse_, check1, check2, check3, check4, badPin, check5, badFile, check6, check7, check8, check9, check4to6, check1to6, check7to9, check}
 use Rattle.rules.specs.Move.{sizeAfter, legal, distAfter, choose, moves}
 use Rattle.rules.specs.Pass.{Pass, passOf, tries, pass, leaves}
 use Rattle.rules.specs.Theorems.{Sound, Sides}
-use Rattle.rules.proofs.Searches.{lowest-none}
+use Rattle.rules.proofs.Searches.{some-none}
 use Rattle.rules.proofs.Verdicts.{zero-of, passes-both, both-pass}
 use Rattle.rules.proofs.SoundJob.{sound}
 use Rattle.runs.specs.Running.{withSides}
@@ -76,9 +76,8 @@ module _ (job : Job) (sides : List ℕ) where
     sixth-passes : check6 (withSides job sides) .number ≡ 0
     unfolding check6
     sixth-passes =
-        let n : lowest (badFile (withSides job sides)) (fileCount job) ≡ fileCount job = lowest-none (badFile (withSides job sides)) (fileCount job) file-fine in
         ap (λ (b : Bool). refuseIf b 6 (lowest (badFile (withSides job sides)) (fileCount job)) .number)
-        (le-ltb (lowest (badFile (withSides job sides)) (fileCount job)) (fileCount job) (omega arith))
+        (some-none (badFile (withSides job sides)) (fileCount job) file-fine)
 
   ninth-passes : balanced job (sizeA job sides) ≡ true → check9 (withSides job sides) .number ≡ 0
   unfolding check9

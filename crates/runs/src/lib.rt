@@ -5,6 +5,7 @@ use job::Job;
 use rules::RunFigures;
 use sums::goes_on;
 use sums::no_pass;
+pub use sums::refused;
 use sums::with_pass;
 ghost use mathlib.Core.Path.{_≡_};
 ghost use Rattle.rules.specs.Job.{limitsOf, asJob, lentOf};

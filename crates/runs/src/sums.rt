@@ -8,29 +8,25 @@ use rules::Figures;
 use rules::RunFigures;
 use rules::Verdict;
 
-// Before the first pass.
-pub(crate) fn no_pass() -> RunFigures
-    ensures { λ r. ⌜ r ≡ noRunFigures done ⌝ }
+// A refusal: all other numbers are 0.
+pub fn refused(verdict: Verdict) -> RunFigures
+    ensures { λ r. ⌜ r ≡ noRunFigures verdict ⌝ }
 {
-    let verdict = Verdict {
-        number: 0,
-        place: 0,
-    };
-    let figures = Figures {
-        verdict,
-        before: 0,
-        cut: 0,
-        size: 0,
-        tried: 0,
-        kept: 0,
-        scans: 0,
-        visits: 0,
-    };
     RunFigures {
-        figures,
+        figures: split::refused(verdict),
         passes: 0,
         settled: false,
     }
+}
+
+// Before the first pass: zeros, as of a refusal, and none yet.
+pub(crate) fn no_pass() -> RunFigures
+    ensures { λ r. ⌜ r ≡ noRunFigures done ⌝ }
+{
+    refused(Verdict {
+        number: 0,
+        place: 0,
+    })
 }
 
 // One pass more in the sums.

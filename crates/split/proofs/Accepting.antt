@@ -1,38 +1,32 @@
--- What the survey of a pass tells: a job that it lets through may be played, of one that it refuses nothing changes.
+-- What the answer before the moves tells: a job that is let through may be played, of one that is refused nothing changes.
 -- Assumes nothing.
 use mathlib.Core.Path.{_≡_, sym, ap, _∙_}
 use mathlib.Core.Logic.{_≢_}
 use Prim.Native.Nat.{ℕ, zero, suc, _*_, _≤_, _<_, _^_}
-use mathlib.Core.Bool.{Bool}
+use mathlib.Core.List.{List}
 use native.Mathlib.Omega.{arith}
-use native.Mathlib.Decide.{ℕ-discrete}
 use native.Mathlib.Nat.{max-le}
-use borrow.Author.Tests.{eq-eqb, ne-eqb}
+use lib.IntN.{ℤ}
 use Rattle.rules.specs.declared.Verdict.{Verdict}
 use Rattle.rules.specs.declared.Figures.{Figures}
 use Rattle.rules.specs.Lists.{total, largest, upTo}
-use Rattle.rules.specs.Job.{Job, Limits, fileCount, recipeCount, pinCount, files, recipes, Lent, fits}
-use Rattle.rules.specs.Split.{sizeOf, weight, smax, cut, sizeA}
+use Rattle.rules.specs.Job.{Job, Limits, fileCount, files, Lent, lentOf, fits}
+use Rattle.rules.specs.Split.{sizeOf, weight, smax}
 use Rattle.rules.specs.Check.{check}
 use Rattle.rules.specs.Run.{endedOf, Ended, noFigures, passEnds}
 use Rattle.rules.specs.Theorems.{Accepted}
-use Rattle.rules.proofs.Count.{total-upTo}
+use Rattle.rules.proofs.Count.{total-upTo, largest-upTo}
 use Rattle.rules.proofs.Verdicts.{zero-of}
 use Rattle.rules.proofs.Proved.{accepted, answers}
 use Rattle.job.specs.declared.figures.Survey.{Survey}
-use Rattle.job.specs.Survey.{surveyOf}
-use Rattle.job.proofs.AddingUp.{largest-upTo}
+use Rattle.tables.specs.LayingOut.{LaysOut}
+use Rattle.tables.proofs.Accepted.{Narrow, verdict-is, survey-is}
 use Rattle.split.specs.declared.choice.Window.{Window}
-use Rattle.split.specs.Playing.{Playable, sizeAtStart, cutAtStart, passLeft}
-use Rattle.split.specs.LentFits.{WordOn, windowOf}
-use Rattle.split.proofs.LentWord.{word-late}
-
--- limits within which entries are two-byte numbers
-pub record Narrow (most : Limits) : Type 0 where
-  pub files : most .files < 65536
-  pub recipes : 4 * most .recipes < 65536
-  pub pins : most .pins < 65535
-  pub den : most .den < 65536
+use Rattle.split.specs.declared.progress.Progress.{Progress}
+use Rattle.split.specs.Choosing.{windowOf}
+use Rattle.split.specs.Moving.{begun}
+use Rattle.split.specs.Playing.{passLeft}
+use Rattle.split.proofs.Playable.{Playable, sizeAtStart, cutAtStart}
 
 -- ---- W and smax of two-byte sizes
 
@@ -53,66 +47,44 @@ module _ (job : Job) (two : (i : ℕ) → sizeOf job i < 65536) where
   unfolding smax files
   smax-most = largest-most (sizeOf job) two (fileCount job)
 
--- ---- the survey's fields
-
-module _ (most : Limits) (job : Job) (word : Bool) where
-  verdict-is : surveyOf most job word .verdict ≡ check most job word
-  unfolding surveyOf
-  verdict-is = elim (ℕ-discrete (check most job word .number) 0) [
-    | yes e ↦ rw (eq-eqb (check most job word .number) 0 e, surveyOf)
-    | no n ↦ rw (ne-eqb (check most job word .number) 0 n, surveyOf)
-  ]
-
-  survey-is : check most job word .number ≡ 0
-      → surveyOf most job word ≡ record { verdict = check most job word; weight = weight job; largest = smax job; size = sizeA job (job .sides); cut = cut (job .sides) (recipes job) }
-  unfolding surveyOf
-  survey-is e = rw (eq-eqb (check most job word .number) 0 e, surveyOf)
-
--- s is the survey's answer, told a word on the lent lists that is right for a job within its limits; sizes are two-byte numbers
-pub record Surveyed (most : Limits) (job : Job) (l : Lent) (s : Survey) : Type 0 where
+-- s answers for the job and the lists lent, and g and z are then the gains and the scratch; sizes are two-byte numbers
+pub record Surveyed (most : Limits) (job : Job) (l : Lent) (g : List ℤ) (z : List ℕ) (s : Survey) : Type 0 where
   pub narrow : Narrow most
   pub sizes : (i : ℕ) → sizeOf job i < 65536
-  pub word : Bool
-  pub worded : WordOn (most .files) (most .recipes) (most .pins) (fileCount job) (recipeCount job) (pinCount job) word (fits job l)
-  pub answered : s ≡ surveyOf most job word
+  pub lays : LaysOut most job (fits job l) (l .gains) (l .scratch) g z s
 
--- from what the steps before it promise
-pub surveyed : {s : Survey} (most : Limits) (job : Job) (l : Lent) (word : Bool) → Narrow most → ((i : ℕ) → sizeOf job i < 65536)
-    → WordOn (most .files) (most .recipes) (most .pins) (fileCount job) (recipeCount job) (pinCount job) word (fits job l) → s ≡ surveyOf most job word → Surveyed most job l s
-surveyed most job l word narrow sizes on e = record { narrow = narrow; sizes = sizes; word = word; worded = on; answered = e }
+-- from what the step promises
+pub surveyed : (most : Limits) (job : Job) (l : Lent) {g : List ℤ} {z : List ℕ} {s : Survey} → LaysOut most job (fits job l) (l .gains) (l .scratch) g z s
+    → Narrow most → ((i : ℕ) → sizeOf job i < 65536) → Surveyed most job l g z s
+surveyed most job l lays narrow sizes = record { narrow = narrow; sizes = sizes; lays = lays }
 
-module _ {most : Limits} {job : Job} {l : Lent} {s : Survey} (a : Surveyed most job l s) where
-  same-check : check most job (a .word) ≡ check most job (fits job l)
-  same-check = word-late most job (a .word) (fits job l) (a .worded)
-
+module _ {most : Limits} {job : Job} {l : Lent} {g : List ℤ} {z : List ℕ} {s : Survey} (a : Surveyed most job l g z s) where
   told : s .verdict ≡ check most job (fits job l)
-  told = ap (λ (x : Survey). x .verdict) (a .answered) ∙ verdict-is most job (a .word) ∙ same-check
+  told = ap (λ (x : Survey). x .verdict) (a .lays .answer) ∙ verdict-is most job (fits job l)
 
   -- ---- refused
 
-  module _ (n : s .verdict .number ≢ 0) where
-    refuses : check most job (fits job l) .number ≢ 0
-    refuses z = n (ap (λ (v : Verdict). v .number) told ∙ z)
-
-    pub pass-refused : {r : Figures} → r ≡ noFigures (s .verdict) → endedOf r (job .sides) l ≡ passEnds most job l
-    pass-refused {r} e =
-        ap (λ (f : Figures). endedOf f (job .sides) l) (e ∙ ap (λ (v : Verdict). noFigures v) told)
-        ∙ sym (answers most job l .passRefused refuses)
+  pub pass-refused : {r : Figures} → s .verdict .number ≢ 0 → r ≡ noFigures (s .verdict)
+      → endedOf r (job .sides) (lentOf g (l .tried) (l .gained) (l .cuts) (l .ends) (l .recipes) (l .kinds) z) ≡ passEnds most job l
+  pass-refused n e =
+      let refuses : check most job (fits job l) .number ≢ 0 = λ q. n (ap (λ (v : Verdict). v .number) told ∙ q) in
+      let stay = a .lays .refused n in
+      rw (stay .0, stay .1, e, told) (sym (answers most job l .passRefused refuses))
 
   -- ---- let through
 
-  module _ (z : s .verdict .number ≡ 0) where
+  module _ (d : s .verdict .number ≡ 0) where
     done : check most job (fits job l) .number ≡ 0
-    done = zero-of told z
+    done = zero-of told d
 
-    found : s ≡ record { verdict = check most job (a .word); weight = weight job; largest = smax job; size = sizeA job (job .sides); cut = cut (job .sides) (recipes job) }
-    found = a .answered ∙ survey-is most job (a .word) (ap (λ (v : Verdict). v .number) same-check ∙ done)
-
-    pub size-is : s .size ≡ sizeAtStart job
-    size-is = ap (λ (x : Survey). x .size) found
+    found : s ≡ record { verdict = check most job (fits job l); weight = weight job; largest = smax job; size = sizeAtStart job; cut = cutAtStart job }
+    found = a .lays .answer ∙ survey-is most job (fits job l) done
 
     pub cut-is : s .cut ≡ cutAtStart job
     cut-is = ap (λ (x : Survey). x .cut) found
+
+    pub begins-as : {p : Progress} → p ≡ begun (s .size) (s .cut) → p ≡ begun (sizeAtStart job) (cutAtStart job)
+    begins-as e = e ∙ ap (λ (x : Survey). begun (x .size) (x .cut)) found
 
     pub pass-done : {x : Ended Figures} → x ≡ passLeft job l → x ≡ passEnds most job l
     pass-done e = e ∙ sym (answers most job l .passDone done)

@@ -15,7 +15,7 @@ use Rattle.rules.specs.Pass.{cutAt, keeps, tries}
 use Rattle.rules.proofs.Searches.{best-le}
 use Rattle.split.specs.declared.progress.Progress.{Progress}
 use Rattle.split.specs.Moving.{countedOn}
-use Rattle.split.specs.Going.{begins, made, stands}
+use Rattle.split.proofs.Going.{begins, made, stands}
 
 best-same : (cost cost' : ℕ → ℕ) (n : ℕ) → ((i : ℕ) → i ≤ n → cost i ≡ cost' i) → bestUpTo cost n ≡ bestUpTo cost' n
 unfolding bestUpTo
@@ -69,3 +69,12 @@ module _ (cost : ℕ → ℕ) (k : ℕ) (p : Progress) (cutNow : p .cut ≡ cost
       go : (b : Bool) → cond b (cost (suc k)) (cost (bestUpTo cost k)) ≡ cost (cond b (suc k) (bestUpTo cost k))
       go true = refl
       go false = refl
+
+-- a figure of the best prefix so far, where it is known of each prefix
+pub counted-figure : (of : ℕ → ℕ) (p : Progress) → p .size ≡ of (p .moves + 1) → p .atbest ≡ of (p .best) → countedOn p .atbest ≡ of (countedOn p .best)
+unfolding countedOn
+counted-figure of p now best = go (ltb (p .cut) (p .least))
+  where
+    go : (b : Bool) → cond b (p .size) (p .atbest) ≡ of (cond b (p .moves + 1) (p .best))
+    go true = now
+    go false = best

@@ -5,19 +5,17 @@ use mathlib.Core.Bool.{Bool, true, false, cond}
 use mathlib.Core.List.{List, [], _∷_, map}
 use native.Mathlib.Decide.{decLt}
 use native.Mathlib.Omega.{arith}
-use lib.Dec.{leb, eqb}
+use lib.Dec.{eqb}
 use lib.IntN.{ℤ, pos, negsuc, _-ℤ_}
 use lib.ListN.{length, getD, length-map, List·getD-eq-default}
-use borrow.Author.Tests.{leb-true, eqb-true, le-leb, eq-eqb}
-use Rattle.rules.specs.Lists.{bit, count, upTo, diff}
-use Rattle.rules.specs.Job.{Job, Limits, fileCount, recipeCount, pinCount, views, recipes, Lent, scratchFor, fits}
+use Rattle.rules.specs.Lists.{upTo, diff}
+use Rattle.rules.specs.Job.{Job, Limits, fileCount, recipeCount, pinCount, views, recipes, Lent, fits}
 use Rattle.rules.specs.Split.{isCut, cut, holds, gain, weight, sizeA}
 use Rattle.rules.specs.Move.{State, free, moved, scans, endsFrom, visits}
 use Rattle.rules.specs.Pass.{gainsWhen, cutsAfter, standing, gainsAfter}
 use Rattle.rules.specs.Theorems.{Sound}
 use Rattle.rules.proofs.Fits.{Roomy, roomy}
-use Rattle.rules.proofs.Tests.{and-yes}
-use Rattle.rules.proofs.Count.{total-le, total-const, getD-tabled, length-tabled}
+use Rattle.rules.proofs.Count.{getD-tabled, length-tabled, count-le}
 use Rattle.rules.proofs.Signed.{up, down, abs, diff-key}
 use Rattle.rules.proofs.Entries.{onto-length}
 use Rattle.rules.proofs.GainKept.{gains-kept, cut-moved}
@@ -26,30 +24,20 @@ use Rattle.rules.proofs.FourScans.{all-scans, all-visits}
 use Rattle.rules.proofs.Sizes.{sizes-add, gain-abs}
 use Rattle.rules.proofs.SoundJob.{recipes-distinct, recipes-length, views-total}
 use Rattle.split.specs.Moving.{Board}
-use Rattle.split.specs.Going.{begins, made, stands, Going}
+use Rattle.split.proofs.Going.{begins, made, stands, Going}
 use Rattle.split.proofs.NextMove.{Next, stands-long, stands-binary, made-free, few-moves}
 use Rattle.split.proofs.BestSoFar.{made-length}
 use Rattle.split.proofs.ChoiceNow.{gainsNow, gains-long, gains-fresh}
 
--- ---- the lent lists are long enough
-
 -- ---- gains and cuts are no more than recipes
-
-count-few {ℓ} : {A : Type ℓ} (p : A → Bool) (xs : List A) → count p xs ≤ length xs
-unfolding count
-count-few p xs = omega (arith, total-le (λ x. 1) (λ x. bit (p x)) (λ x. bit-le (p x)) xs, total-const 1 xs)
-  where
-    bit-le : (b : Bool) → bit b ≤ 1
-    bit-le true = omega arith
-    bit-le false = omega arith
 
 standing-abs : (rs : List (List ℕ)) (st : State) (ms : List ℕ) (f : ℕ) → abs (standing rs st ms f) ≤ length rs
 unfolding standing
-standing-abs rs st [] f = omega (arith, gain-abs (st .sides) rs f, count-few (λ r. holds r f) rs)
+standing-abs rs st [] f = omega (arith, gain-abs (st .sides) rs f, count-le (λ r. holds r f) rs)
 standing-abs rs st (m ∷ ms) f = go (eqb m f) (standing-abs rs (moved st m) ms f)
   where
     go : (b : Bool) → abs (standing rs (moved st m) ms f) ≤ length rs → abs (cond b (gain (st .sides) rs f) (standing rs (moved st m) ms f)) ≤ length rs
-    go true ih = omega (arith, gain-abs (st .sides) rs f, count-few (λ r. holds r f) rs)
+    go true ih = omega (arith, gain-abs (st .sides) rs f, count-le (λ r. holds r f) rs)
     go false ih = ih
 
 gains-abs : (rs : List (List ℕ)) (n : ℕ) (st : State) (ms : List ℕ) (f : ℕ) → abs (getD (gainsAfter rs n st ms) f (pos 0)) ≤ length rs
@@ -78,7 +66,7 @@ module _ (most : Limits) (job : Job) (s : Sound most job) (k : ℕ) where
 
   pub cut-few : cut (stands job k .sides) (recipes job) ≤ recipeCount job
   unfolding cut
-  cut-few = omega (arith, count-few (isCut (stands job k .sides)) (recipes job), recipes-length most job s)
+  cut-few = omega (arith, count-le (isCut (stands job k .sides)) (recipes job), recipes-length most job s)
 
   pub size-few : sizeA job (stands job k .sides) ≤ weight job
   size-few = omega (arith, sizes-add job (stands job k .sides) (stands-binary most job s k))

@@ -25,10 +25,10 @@ use Rattle.rules.proofs.MovesEnd.{Long}
 use Rattle.rules.proofs.GainKept.{Fresh, keptUp, kept-length, gain-kept, start-fresh}
 use Rattle.rules.proofs.Choice.{choose-listed}
 use Rattle.split.specs.declared.choice.Window.{Window}
-use Rattle.split.specs.Zones.{locksAt, part}
+use Rattle.tables.specs.Zones.{locksAt, part}
 use Rattle.split.specs.Choosing.{sizeBy, distIn, legalIn, Holds, chosenIn}
 use Rattle.split.specs.Moving.{Board}
-use Rattle.split.specs.Going.{begins, made, stands, Going}
+use Rattle.split.proofs.Going.{begins, made, stands, Going}
 use Rattle.split.proofs.NextMove.{stands-long, stands-binary, made-free}
 
 -- ---- balanced is near enough

@@ -3,13 +3,14 @@ use mathlib.Core.Path.{sym, ap, _∙_}
 use native.Mathlib.Omega.{arith}
 use Rattle.rules.specs.Lists.{total, bestUpTo, onto}
 use Rattle.rules.specs.Job.{Job, recipes, Lent}
+use Rattle.rules.specs.Split.{sizeA}
 use Rattle.rules.specs.Move.{stepsBy, scans, endsFrom, visits}
 use Rattle.rules.specs.Pass.{gainsWhen, cutsAfter, cutAt, keeps}
 use Rattle.rules.proofs.GainKept.{keptUp}
 use Rattle.split.specs.declared.progress.Progress.{Progress}
 use Rattle.split.specs.Moving.{Board}
-use Rattle.split.specs.Going.{begins, made, Going}
-use Rattle.split.specs.Treats.{Begun}
+use Rattle.split.proofs.Going.{begins, made, stands, Going}
+use Rattle.split.proofs.Treats.{Begun}
 
 pub goes-first : {job : Job} {l : Lent} {b : Board} → Begun job l b → Going job l 0 b
 unfolding stepsBy onto keptUp gainsWhen cutsAfter endsFrom scans keeps bestUpTo cutAt visits total
@@ -36,6 +37,9 @@ goes-first {job} g = record {
     least =
         ap (λ (p : Progress). p .least) (g .progress)
         ∙ sym (ap (λ (p : Progress). cutAt (recipes job) (begins job) (made job 0) (p .best)) (g .progress));
+    atbest =
+        ap (λ (p : Progress). p .atbest) (g .progress)
+        ∙ sym (ap (λ (p : Progress). sizeA job (stands job (p .best) .sides)) (g .progress));
     scanned = ap (λ (p : Progress). p .scans) (g .progress);
     visited = ap (λ (p : Progress). p .visits) (g .progress);
   };

@@ -7,24 +7,25 @@ use native.Mathlib.Omega.{arith}
 use lib.IntN.{pos}
 use lib.ListN.{length, getD, take, drop, replicate, length-map}
 use lib.Seq.{take-length}
-use Rattle.rules.specs.Lists.{onto, listed, allBelow}
+use Rattle.rules.specs.Lists.{onto, listed}
 use Rattle.rules.specs.Job.{Job, Limits, fileCount, recipeCount, views, recipes, Lent, scratchFor}
+use Rattle.rules.specs.Split.{sizeA}
 use Rattle.rules.specs.Move.{State, Scan, scans, endsFrom, visits}
 use Rattle.rules.specs.Pass.{gainsWhen, cutsAfter, cutAt, keeps, gainsAfter, passOf, tries, pass, leaves}
-use Rattle.rules.specs.Theorems.{Binary, Sound}
+use Rattle.rules.specs.Theorems.{Sound}
 use Rattle.rules.proofs.Entries.{onto-in}
 use Rattle.rules.proofs.MovesEnd.{Long}
 use Rattle.rules.proofs.GainKept.{gains-kept}
 use Rattle.rules.proofs.Steps.{move-back, gains-length, cuts-length, ends-length}
 use Rattle.rules.proofs.Runs.{keeps-le}
 use Rattle.rules.proofs.SoundJob.{recipes-distinct}
-use Rattle.split.specs.Ending.{turned, backTo}
+use Rattle.tables.specs.Ending.{turned, backTo}
 use Rattle.split.specs.Moving.{Board}
-use Rattle.split.specs.Going.{begins, made, stands, Going}
-use Rattle.split.specs.Treats.{cleared}
+use Rattle.split.proofs.Going.{begins, made, stands, Going}
+use Rattle.tables.specs.Clearing.{cleared}
 use Rattle.split.proofs.NextMove.{Next, next-at, stands-long, stands-binary, made-free, few-moves}
 use Rattle.split.proofs.Bounds.{scans-few}
-use Rattle.split.proofs.LentLists.{onto-take, listed-of, listed-none}
+use Rattle.split.proofs.LentLists.{listed-of, listed-none}
 
 -- the moves beyond `best` taken back
 back-to : (most : Limits) (job : Job) → Sound most job → (tried : List ℕ) (best d : ℕ) → best + d ≤ length (tries job (job .sides))
@@ -49,17 +50,15 @@ fill-in n z xs ys old now k e i m h = rw (e, i, m) (listed-of n z ys old h)
 
 -- what the end of a pass finds
 pub record Finished (job : Job) (l : Lent) (b : Board) : Type 0 where
-  -- there is room for the zeros, and moves can be taken back
-  pub order : b .rest .scanned .progress .best ≤ b .rest .scanned .progress .moves
+  -- there is room for the zeros, and the moves beyond the best prefix are taken back
   pub early : b .rest .scanned .progress .moves ≤ fileCount job
   pub few : b .rest .scanned .progress .scans ≤ 4 * recipeCount job
-  pub files : allBelow (length (b .sides)) (take (b .rest .scanned .progress .moves) (b .tried))
-  pub binary : Binary (b .sides)
   pub back : backTo (b .tried) (b .rest .scanned .progress .best) (b .rest .scanned .progress .moves - b .rest .scanned .progress .best) (b .sides)
       ≡ pass job (job .sides) .sidesAfter
   -- the figures are the pass's
   pub best : b .rest .scanned .progress .best ≡ pass job (job .sides) .kept
   pub least : b .rest .scanned .progress .least ≡ pass job (job .sides) .cutAfter
+  pub size : b .rest .scanned .progress .atbest ≡ pass job (job .sides) .sizeAfter
   pub moves : b .rest .scanned .progress .moves ≡ length (pass job (job .sides) .tried)
   pub scanned : b .rest .scanned .progress .scans ≡ length (pass job (job .sides) .scanned)
   pub visited : b .rest .scanned .progress .visits ≡ pass job (job .sides) .visited
@@ -82,13 +81,6 @@ module _ (most : Limits) (job : Job) (s : Sound most job) {l : Lent} {k : ℕ} {
 
   counted : b .rest .scanned .progress .moves ≡ length (made job k)
   counted = g .progress .moves ∙ end ∙ sym (ap length all-made)
-
-  -- every move is of a file
-  moves-files : allBelow (length (b .sides)) (take (b .rest .scanned .progress .moves) (b .tried))
-  moves-files i h =
-      let e : take (b .rest .scanned .progress .moves) (b .tried) ≡ tries job (job .sides)
-      = ap₂ (λ (n : ℕ) (x : List ℕ). take n x) counted (g .tried) ∙ onto-take (made job k) (l .tried) ∙ all-made in
-      rw (e, g .sides, stands-long most job s k .sides) (next-at most job s i (rw e at h) .below)
 
   tried-at : (i : ℕ) → i < k → getD (b .tried) i 0 ≡ getD (tries job (job .sides)) i 0
   tried-at i h =
@@ -114,17 +106,15 @@ module _ (most : Limits) (job : Job) (s : Sound most job) {l : Lent} {k : ℕ} {
       let scanned : scans rs (begins job) (made job k) ≡ scans rs (begins job) ms = ap (λ (x : List ℕ). scans rs (begins job) x) all-made in
       let some : length (scans rs (begins job) ms) ≤ 4 * recipeCount job = rw all-made at (scans-few most job s k) in
       record {
-        order = rw (kept, g .progress .moves) (omega (arith, keeps-le rs (begins job) ms));
         early = omega (arith, g .progress .moves);
         few = rw (g .progress .scanned) (scans-few most job s k);
-        files = moves-files;
-        binary = rw (g .sides) (stands-binary most job s k);
         back = goes-back;
         best = kept;
         least =
             g .progress .least
             ∙ ap₂ (λ (x : List ℕ) (i : ℕ). cutAt rs (begins job) x i) all-made kept
             ∙ (unfold cutAt in refl);
+        size = g .progress .atbest ∙ ap (λ (i : ℕ). sizeA job (stands job i .sides)) kept;
         moves = g .progress .moves ∙ end;
         scanned = g .progress .scanned ∙ ap length scanned;
         visited = g .progress .visited ∙ ap (λ (x : List Scan). visits (views job) x) scanned;

@@ -11,10 +11,11 @@ use lib.ListN.{length, set, length-set}
 use Rattle.rules.specs.Move.{State, scanPins}
 use Rattle.split.specs.declared.progress.Progress.{Progress}
 use Rattle.split.specs.declared.scan.Way.{Way}
-use Rattle.split.proofs.Parts.{part-set-above}
-use Rattle.split.specs.Zones.{part}
-use Rattle.split.specs.Scanning.{scannedBy, Scanned, scanned, scanIf, Room, RoomFor, Fits, kindThere, kindLeft, countT, lockedT, countF, lockedF, Treated, recount, treatOne, Treatable}
-use Rattle.split.proofs.ScanLaws.{scan-length, scan-abs}
+use Rattle.rules.proofs.GainKept.{scan-length}
+use Rattle.tables.proofs.Parts.{part-set-above}
+use Rattle.tables.specs.Zones.{part}
+use Rattle.split.specs.Scanning.{scannedBy, Scanned, scanned, scanIf, Room, RoomFor, Fits, kindThere, countT, lockedT, countF, Treated, recount, treatOne, Treatable}
+use Rattle.split.proofs.ScanLaws.{scan-abs}
 
 -- ---- what comes later: lists as long, and no fewer scans and visits
 
@@ -129,22 +130,11 @@ module _ (way : Way) (j : ℕ) (z : List ℕ) where
       ∙ part-set-above at n z (way .left + j) (countF way j z) (omega (arith, t .above))
 
 module _ (st : State) (way : Way) (j : ℕ) (r z : List ℕ) (x : Scanned) where
-  abbrev pub first : Scanned
+  abbrev first : Scanned
   first = scanIf st (way .side) j r (kindThere (countT way j z) (lockedT way j z)) x
-
-  abbrev pub second : Scanned
-  second = scanIf st (way .side) j r (kindLeft (countF way j z) (lockedF way j z)) first
 
   abbrev both : Treated
   both = treatOne st way j r (record { scratch = z; scanned = x })
-
-  pub treat-scans : both .scanned ≡ second
-  unfolding treatOne
-  treat-scans = refl
-
-  pub treat-both : {z' : List ℕ} {y : Scanned} → z' ≡ recount way j z → y ≡ second → _≡_ {A = Treated} (record { scratch = z'; scanned = y }) both
-  unfolding treatOne
-  treat-both e f = ap₂ (λ (u : List ℕ) (s : Scanned). record { scratch = u; scanned = s }) e f
 
   pub later-one : Later x (both .scanned)
   unfolding treatOne
@@ -153,7 +143,3 @@ module _ (st : State) (way : Way) (j : ℕ) (r z : List ℕ) (x : Scanned) where
   pub near-one : Near x → Near (both .scanned)
   unfolding treatOne
   near-one h = near-if st (way .side) j r _ first (near-if st (way .side) j r _ x h)
-
-  pub fits-first : Fits (both .scanned) → Fits first
-  unfolding treatOne
-  fits-first f = fits-earlier (later-if st (way .side) j r _ first) f

@@ -1,39 +1,14 @@
 -- Lists written over the first entries of a lent list. Assumes nothing.
 use mathlib.Core.Path.{_≡_, sym, ap, ap₂, _∙_}
-use Prim.Native.Nat.{ℕ, suc, _+_, _-_, _≤_, _<_}
-use mathlib.Core.List.{List, [], _∷_, _++_, append-assoc}
-use native.Mathlib.Numerals.{add-one}
+use Prim.Native.Nat.{ℕ, _-_, _≤_}
+use mathlib.Core.List.{List, [], _++_, append-assoc}
 use native.Mathlib.Omega.{arith}
-use lib.ListN.{length, getD, set, take, drop, replicate, length-append}
-use lib.Seq.{drop-cons, append-snoc, set-append-seam, take-append-seam, drop-append-add, drop-drop}
+use lib.ListN.{length, drop, replicate}
 use Rattle.rules.specs.Lists.{onto, padded, listed}
-use Rattle.rules.proofs.Entries.{padded-length}
-use Rattle.split.specs.Treats.{cleared}
+use Rattle.rules.proofs.Entries.{padded-length, onto-take, onto-drop}
+use Rattle.tables.specs.Clearing.{cleared}
 
 module _ {ℓ} {A : Type ℓ} where
-  -- one entry more
-  pub onto-set : (xs old : List A) (v : A) → length xs < length old → set (onto xs old) (length xs) v ≡ onto (xs ++ (v ∷ [])) old
-  unfolding onto
-  onto-set xs old v h =
-      ap (λ (t : List A). set (xs ++ t) (length xs) v) (drop-cons old (length xs) v h)
-      ∙ set-append-seam xs (getD old (length xs) v) (drop (suc (length xs)) old) v
-      ∙ sym (append-snoc xs v (drop (suc (length xs)) old))
-      ∙ ap (λ (n : ℕ). (xs ++ (v ∷ [])) ++ drop n old) (sym (length-append xs (v ∷ []) ∙ add-one (length xs)))
-
-  -- past the entries written the old ones stand
-  pub onto-drop : (xs old : List A) (n : ℕ) → length xs ≤ n → drop n (onto xs old) ≡ drop n old
-  unfolding onto
-  onto-drop xs old n h =
-      let e : length xs + (n - length xs) ≡ n = omega arith in
-      ap (λ (i : ℕ). drop i (xs ++ drop (length xs) old)) (sym e)
-      ∙ drop-append-add xs (drop (length xs) old) (n - length xs)
-      ∙ drop-drop (n - length xs) (length xs) old
-      ∙ ap (λ (i : ℕ). drop i old) e
-
-  pub onto-take : (xs old : List A) → take (length xs) (onto xs old) ≡ xs
-  unfolding onto
-  onto-take xs old = take-append-seam xs (drop (length xs) old)
-
   -- z filled in after the entries, up to n
   pub listed-of : (n : ℕ) (z : A) (xs old : List A) → length xs ≤ n
       → cleared (length xs) n z (onto xs old) ≡ listed n z xs old

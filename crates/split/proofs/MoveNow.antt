@@ -1,6 +1,6 @@
 -- The move of the chosen file: what its code may count on, and what it leaves. Assumes nothing.
 use mathlib.Core.Path.{_≡_, sym, ap, ap₂, _∙_, subst}
-use Prim.Native.Nat.{ℕ, suc, _+_, _*_, _≤_, _<_}
+use Prim.Native.Nat.{ℕ, suc, _+_, _*_, _≤_, _<_, _^_}
 use mathlib.Core.Bool.{true}
 use mathlib.Core.List.{List, [], _∷_, _++_, map, map-append, append-nil}
 use native.Mathlib.Omega.{arith}
@@ -17,22 +17,23 @@ use Rattle.rules.proofs.Entries.{onto-length}
 use Rattle.rules.proofs.SoundJob.{bound-le, view-length, view-below, recipes-distinct, recipes-length}
 use Rattle.rules.proofs.Steps.{recipesOf, scans-append}
 use Rattle.split.specs.declared.progress.Progress.{Progress}
-use Rattle.split.specs.Zones.{locksAt, countsAt, part, stateIn, Counts}
+use Rattle.tables.specs.Zones.{locksAt, countsAt, part, stateIn, Counts}
 use Rattle.split.specs.Scanning.{Treated, treated, treatAll, Fits, Ready}
 use Rattle.split.specs.Choosing.{sizeBy}
-use Rattle.split.specs.Ending.{turned}
+use Rattle.tables.specs.Ending.{turned}
 use Rattle.split.specs.Moving.{Board, cellsOf, cutBy, shiftedTo, countedOn, wayTo, treatFrom, treatMove, moveOne}
-use Rattle.split.specs.Movable.{Small, Movable, Turns}
-use Rattle.split.specs.Going.{begins, made, stands, Going}
-use Rattle.split.specs.Treats.{Shifted, MoveTreated}
+use Rattle.split.specs.Movable.{Movable}
+use Rattle.split.proofs.Playable.{Small}
+use Rattle.split.proofs.Going.{begins, made, stands, Going}
+use Rattle.split.proofs.Treats.{Shifted, MoveTreated}
 use Rattle.rules.proofs.Fits.{Roomy, roomy}
 use Rattle.split.proofs.Bounds.{BoardLong, board-long, cut-few, Safe, safe}
 use Rattle.split.proofs.NextBoard.{goes-on}
 use Rattle.split.proofs.ChoiceNow.{holds-now}
-use Rattle.split.proofs.NextMove.{Next, stands-binary}
+use Rattle.split.proofs.NextMove.{Next}
 use Rattle.split.proofs.Recount.{beside-entry, beside-part}
-use Rattle.split.proofs.Parts.{part-set-above}
-use Rattle.split.proofs.LentParts.{cells-same}
+use Rattle.tables.proofs.Parts.{part-set-above}
+use Rattle.tables.proofs.LentParts.{cells-same}
 use Rattle.split.proofs.Treating.{wayOf, TreatedMove, move-treated, move-ready}
 
 -- ---- one entry set, seen from elsewhere in the list
@@ -51,6 +52,16 @@ counts-set {rs} {st} {at} {n} {z} i v h c = record {
         lockedB = getD-set-other z i (at + 3 * n + j) v 0 (λ e. omega arith) ∙ o .lockedB;
       };
 }
+
+-- there is room for the entries of the move of f, which are two-byte numbers
+pub record Turns (sizes bounds pins : List ℕ) (f : ℕ) (b : Board) : Type 0 where
+  pub tried : b .rest .scanned .progress .moves < length (b .tried)
+  pub gained : b .rest .scanned .progress .moves < length (b .gained)
+  pub cuts : b .rest .scanned .progress .moves < length (b .cuts)
+  pub ends : b .rest .scanned .progress .moves < length (b .ends)
+  pub cut : treatMove sizes bounds pins f b .scanned .progress .cut < 65536
+  pub scans : treatMove sizes bounds pins f b .scanned .progress .scans < 65536
+  pub moves : treatMove sizes bounds pins f b .scanned .progress .moves < 2 ^ 32
 
 module _ (most : Limits) (job : Job) (s : Sound most job) (small : Small job) {l : Lent} (ok : fits job l ≡ true) {k f : ℕ} {b : Board} (g : Going job l k b) (x : Next job k f) where
   abbrev rs : List (List ℕ)
@@ -146,6 +157,7 @@ module _ (most : Limits) (job : Job) (s : Sound most job) (small : Small job) {l
         moves = ap (λ (q : Progress). q .moves) e;
         best = ap (λ (q : Progress). q .best) e;
         least = ap (λ (q : Progress). q .least) e;
+        atbest = ap (λ (q : Progress). q .atbest) e;
         scanned = ap (λ (q : Progress). q .scans) e
             ∙ omega (arith, g .progress .scanned, ap length more, length-append (scans rs (begins job) (made job k)) (scansOf rs st f));
         visited = ap (λ (q : Progress). q .visits) e
@@ -159,9 +171,9 @@ module _ (most : Limits) (job : Job) (s : Sound most job) (small : Small job) {l
   scans-fit = omega (arith, care .scanning, g .progress .scanned, ap length more, length-append (scans rs (begins job) (made job k)) (scansOf rs st f))
 
   -- what the code of the move leaves
-  pub move-made : MoveTreated job l k f b (treatMove (job .sizes) (job .bounds) (job .pins) f b)
+  pub recipes-treated : MoveTreated job l k f b (treatMove (job .sizes) (job .bounds) (job .pins) f b)
   unfolding shiftedTo
-  move-made =
+  recipes-treated =
       let r : Roomy job l = roomy job l ok in
       let y : Treated = treatMove (job .sizes) (job .bounds) (job .pins) f b in
       record {
@@ -205,8 +217,8 @@ module _ (most : Limits) (job : Job) (s : Sound most job) (small : Small job) {l
   fitting =
       let r : Roomy job l = roomy job l ok in
       record {
-        recipes = omega (arith, shifted .scanned, care .scanning, ap length (move-made .scannedRecipes) ∙ as-long (λ u. u .recipe) (l .recipes) (r .scannedRecipes), r .scannedRecipes);
-        kinds = omega (arith, shifted .scanned, care .scanning, ap length (move-made .scannedKinds) ∙ as-long (λ u. u .kind) (l .kinds) (r .scannedKinds), r .scannedKinds);
+        recipes = omega (arith, shifted .scanned, care .scanning, ap length (recipes-treated .scannedRecipes) ∙ as-long (λ u. u .recipe) (l .recipes) (r .scannedRecipes), r .scannedRecipes);
+        kinds = omega (arith, shifted .scanned, care .scanning, ap length (recipes-treated .scannedKinds) ∙ as-long (λ u. u .kind) (l .kinds) (r .scannedKinds), r .scannedKinds);
         visits = omega (arith, shifted .visited, care .visiting, small .pins);
       }
 
@@ -220,7 +232,6 @@ module _ (most : Limits) (job : Job) (s : Sound most job) (small : Small job) {l
         gainsLong = m .gains;
         scratchLong = omega (arith, room);
         few = (small .files, small .bounds, omega (arith, small .pins));
-        binary = rw (g .sides) (stands-binary most job s k);
         order = g .cells .order f (x .below);
         inside = g .cells .inside f (x .below);
         ready = ready;
@@ -237,7 +248,7 @@ module _ (most : Limits) (job : Job) (s : Sound most job) (small : Small job) {l
 
   -- so the pass goes on
   pub move-goes : Going job l (suc k) (moveOne (job .sizes) (job .bounds) (job .pins) f b)
-  move-goes = goes-on most job s ok g x move-made
+  move-goes = goes-on most job s ok g x recipes-treated
 
   cut-now : treatMove (job .sizes) (job .bounds) (job .pins) f b .scanned .progress .cut ≡ cut (stands job (suc k) .sides) rs
   unfolding moveOne countedOn

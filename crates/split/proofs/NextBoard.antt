@@ -13,20 +13,20 @@ use Rattle.rules.specs.Split.{cut, gain, sizeOf, sizeA, sideOf}
 use Rattle.rules.specs.Move.{State, moved, sizeAfter, scans, endsFrom}
 use Rattle.rules.specs.Pass.{gainsWhen, cutsAfter, cutAt, startGains}
 use Rattle.rules.specs.Theorems.{Sound}
+use Rattle.rules.proofs.Entries.{onto-set}
 use Rattle.rules.proofs.GainKept.{keptUp, scanned}
 use Rattle.rules.proofs.Steps.{kept-snoc, gains-snoc, cuts-snoc, ends-snoc, gains-length, cuts-length, ends-length}
 use Rattle.split.specs.declared.progress.Progress.{Progress}
 use Rattle.split.specs.Choosing.{sizeBy}
-use Rattle.split.specs.Ending.{turned}
+use Rattle.tables.specs.Ending.{turned}
 use Rattle.split.specs.Moving.{Board, countedOn, cutBy, treatMove, moveOne}
-use Rattle.split.specs.Going.{begins, made, stands, InProgress, Going}
-use Rattle.split.specs.Treats.{Shifted, MoveTreated}
+use Rattle.split.proofs.Going.{begins, made, stands, InProgress, Going}
+use Rattle.split.proofs.Treats.{Shifted, MoveTreated}
 use Rattle.split.proofs.NextMove.{Next}
 use Rattle.split.proofs.ChoiceNow.{gainsNow, size-moved-by}
-use Rattle.split.proofs.BestSoFar.{costs, cost-now, made-length, keeps-made, least-made, counted-best, counted-least}
+use Rattle.split.proofs.BestSoFar.{costs, cost-now, made-length, keeps-made, least-made, counted-best, counted-least, counted-figure}
 use Rattle.rules.proofs.Fits.{Roomy, roomy}
 use Rattle.split.proofs.Bounds.{gain-now, cut-next}
-use Rattle.split.proofs.LentLists.{onto-set}
 
 -- one entry more in a list that holds one for each move made
 one-more {ℓ} : {A : Type ℓ} (xs xs' old now : List A) (k : ℕ) (v v' : A) → now ≡ onto xs old → k ≡ length xs → v ≡ v' → xs' ≡ xs ++ (v' ∷ []) → length xs < length old
@@ -71,6 +71,8 @@ module _ (most : Limits) (job : Job) (s : Sound most job) {l : Lent} (ok : fits 
       let best : q .best ≡ bestUpTo (costs job) k = t .best ∙ g .progress .best ∙ keeps-made job k (g .few) in
       let least : q .least ≡ costs job (bestUpTo (costs job) k)
       = t .least ∙ g .progress .least ∙ ap (λ (i : ℕ). cutAt (recipes job) (begins job) (made job k) i) (g .progress .best) ∙ least-made job k (g .few) in
+      let sizeAt : ℕ → ℕ = λ i. sizeA job (stands job i .sides) in
+      let next : suc k ≡ q .moves + 1 = omega arith in
       let kept = counted-best (costs job) k q now moves best least ∙ sym (keeps-made job (suc k) (n .few)) in
       record {
         size = t .size ∙ size-on;
@@ -80,6 +82,7 @@ module _ (most : Limits) (job : Job) (s : Sound most job) {l : Lent} (ok : fits 
         least =
             counted-least (costs job) k q now moves best least
             ∙ sym (ap (λ (i : ℕ). cutAt (recipes job) (begins job) (made job (suc k)) i) kept ∙ least-made job (suc k) (n .few));
+        atbest = counted-figure sizeAt q (t .size ∙ size-on ∙ ap sizeAt next) (t .atbest ∙ g .progress .atbest ∙ ap sizeAt (sym (t .best)));
         scanned = t .scanned;
         visited = t .visited;
       }

@@ -20,7 +20,7 @@ use Rattle.rules.proofs.OneMove.{Moves, move-of}
 use Rattle.rules.proofs.GainKept.{frees-take, after-binary}
 use Rattle.rules.proofs.Steps.{after-snoc}
 use Rattle.rules.proofs.Proved.{tries-free, given-sides}
-use Rattle.split.specs.Going.{begins, made, stands}
+use Rattle.split.proofs.Going.{begins, made, stands}
 
 -- f is move k of the pass
 pub record Next (job : Job) (k f : ℕ) : Type 0 where

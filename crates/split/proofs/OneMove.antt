@@ -12,15 +12,16 @@ use mir.Facts.{toZ-ofZ, toZ-pos}
 use Rattle.rules.specs.Lists.{diff}
 use Rattle.rules.specs.Job.{viewOf}
 use Rattle.rules.specs.Split.{sideOf}
+use Rattle.rules.proofs.Machine.{wide-is}
 use Rattle.rules.proofs.Signed.{up, down, diff-eq, diff-pos}
 use Rattle.split.specs.declared.progress.Progress.{Progress}
 use Rattle.split.specs.declared.scan.Way.{Way}
-use Rattle.split.specs.Zones.{locksAt, part, stateOf}
+use Rattle.tables.specs.Zones.{locksAt, part, stateOf}
 use Rattle.split.specs.Scanning.{Room, Fits, Treated, treated, treatAll, Ready}
-use Rattle.split.specs.Ending.{turned}
+use Rattle.tables.specs.Ending.{turned}
 use Rattle.split.specs.Moving.{shiftedTo, shiftOf, countedOn, cutBy, wayTo, cellsOf, Locked, Board, board, treatFrom, treatMove, moveOne}
 use Rattle.split.specs.Movable.{Movable}
-use Rattle.split.proofs.Parts.{part-set-above}
+use Rattle.tables.proofs.Parts.{part-set-above}
 
 -- ---- the cut less a gain, at eight bytes
 
@@ -30,11 +31,8 @@ less-by cut (pos n) h = diff-eq cut n (cut + 0 - n) 0 (omega arith) ∙ sym (dif
 less-by cut (negsuc n) h = let e : cut + suc n ≡ cut + suc n - 0 = omega arith in ap pos e
 
 module _ (cut : ℕ) (g : ℤ) (h : up g ≤ cut) (k : cut + down g < 2 ^ 32) (f : SFits w32 g) where
-  pub gain-wide : SFits w64 (toZ w32 (ofZ w32 g))
-  gain-wide = rw (toZ-ofZ f) (record { sfits = omega (arith, f .sfits) })
-
   less : toZ w64 cut -ℤ toZ w64 (ofZ w64 (toZ w32 (ofZ w32 g))) ≡ pos (cutBy cut g)
-  less = ap₂ _-ℤ_ (toZ-pos w64 {n = cut} (omega arith)) (toZ-ofZ gain-wide ∙ toZ-ofZ f) ∙ less-by cut g h
+  less = ap₂ _-ℤ_ (toZ-pos w64 {n = cut} (omega arith)) (wide-is g f) ∙ less-by cut g h
 
   pub less-fits : SFits w64 (toZ w64 cut -ℤ toZ w64 (ofZ w64 (toZ w32 (ofZ w32 g))))
   less-fits = rw less (record { sfits = omega arith })
@@ -106,7 +104,7 @@ module _ {sizes bounds pins : List ℕ} {f : ℕ} {sides : List ℕ} {y : Treate
 
 -- ---- the board
 
-pub move-made : (sizes bounds pins : List ℕ) (f : ℕ) (b : Board) {sides tried cuts ends : List ℕ} {gained : List ℤ} {y : Treated} {r : Progress}
+pub steps-move : (sizes bounds pins : List ℕ) (f : ℕ) (b : Board) {sides tried cuts ends : List ℕ} {gained : List ℤ} {y : Treated} {r : Progress}
     → sides ≡ turned (b .sides) f → tried ≡ set (b .tried) (b .rest .scanned .progress .moves) f
     → gained ≡ set (b .gained) (b .rest .scanned .progress .moves) (getD (b .rest .scanned .gains) f (pos 0))
     → y ≡ treatMove sizes bounds pins f b
@@ -115,4 +113,4 @@ pub move-made : (sizes bounds pins : List ℕ) (f : ℕ) (b : Board) {sides trie
     → r ≡ countedOn (y .scanned .progress)
     → board sides tried gained cuts ends (y .scratch) (y .scanned .gains) (y .scanned .recipes) (y .scanned .kinds) r ≡ moveOne sizes bounds pins f b
 unfolding moveOne
-move-made sizes bounds pins f b d t g e u v w = rw (d, t, g, u, v, w, e)
+steps-move sizes bounds pins f b d t g e u v w = rw (d, t, g, u, v, w, e)

@@ -2,122 +2,146 @@
 use mathlib.Core.Path.{_≡_, refl, sym, ap, subst, _∙_}
 use Prim.Native.Nat.{ℕ, _+_, _*_, _≤_, _<_}
 use mathlib.Core.List.{List}
+use native.Mathlib.Nat.{add-zero}
 use native.Mathlib.Omega.{arith}
-use lib.ListN.{length, take}
+use lib.ListN.{length, drop}
+use lib.Seq.{drop-drop}
 use lib.IntN.{ℤ, pos}
 use Rattle.rules.specs.declared.Figures.{Figures}
-use Rattle.rules.specs.Lists.{allBelow}
-use Rattle.rules.specs.Job.{Job, files, fileCount, recipeCount, pinCount, Lent, lentOf, scratchFor}
-use Rattle.rules.specs.Split.{sizeOn, sizeA}
-use Rattle.rules.specs.Pass.{tries}
-use Rattle.rules.specs.Theorems.{Binary}
+use Rattle.rules.specs.Lists.{total}
+use Rattle.rules.specs.Job.{Job, Limits, fileCount, recipeCount, pinCount, views, Lent, lentOf, scratchFor}
+use Rattle.rules.specs.Check.{done}
+use Rattle.rules.specs.Pass.{tries, Pass, pass}
+use Rattle.rules.specs.Run.{endedOf, lastOf, figuresOf}
+use Rattle.rules.specs.Theorems.{Sound}
+use Rattle.rules.proofs.Fits.{Roomy, roomy}
+use Rattle.rules.proofs.Runs.{pass-from}
+use Rattle.tables.specs.Zones.{countsAt}
+use Rattle.tables.specs.Clearing.{clearedIn}
+use Rattle.tables.specs.LayingOut.{Prepared}
+use Rattle.tables.proofs.Filled.{cleared-front, cleared-in}
 use Rattle.split.specs.declared.choice.Window.{Window}
 use Rattle.split.specs.declared.progress.Progress.{Progress}
-use Rattle.split.specs.Zones.{countsAt}
-use Rattle.split.specs.Building.{Laid}
 use Rattle.split.specs.Moving.{Board, board, begun}
-use Rattle.split.specs.Going.{Going}
-use Rattle.split.specs.Treats.{cleared}
-use Rattle.rules.specs.Run.{endedOf}
-use Rattle.split.specs.Playing.{Playable, Prepared, KeptBest, sizeAtStart, cutAtStart, passLeft}
-use Rattle.rules.proofs.Fits.{Roomy, roomy}
+use Rattle.split.specs.Playing.{KeptBest, passLeft}
+use Rattle.split.proofs.Going.{Going}
+use Rattle.split.proofs.Treats.{Begun}
+use Rattle.split.proofs.Playable.{Playable, sizeAtStart, cutAtStart}
 use Rattle.split.proofs.Bounds.{BoardLong, board-long}
 use Rattle.split.proofs.FirstMove.{goes-first}
 use Rattle.split.proofs.LastMove.{Finished, finished}
-use Rattle.split.proofs.WholePass.{laid-out, begins-here, pass-left}
+use Rattle.split.proofs.Played.{Underway}
 
 -- ---- before the first move
 
--- what the builders ask
-pub prepare-safe : {job : Job} {l : Lent} {w : Window} → Playable job l w
-    → Laid (job .bounds) (job .pins) (length (job .sides))
-    × (((length (l .gains) ≡ length (job .sides)) × (length (job .marks) ≡ length (job .sides)))
-    × ((countsAt (length (job .sides)) (pinCount job) + 4 * recipeCount job ≤ length (l .scratch)) × Binary (job .sides)))
-prepare-safe {job} {l} y =
-    let s = y .sound in
-    let r : Roomy job l = roomy job l (y .fitting) in (
-      subst (λ (m : ℕ). Laid (job .bounds) (job .pins) m) (sym (s .sidesLong)) (laid-out (y .most) job s (y .small)),
-      (
-        (r .gains ∙ sym (s .sidesLong), s .marksLong ∙ sym (s .sidesLong)),
-        (omega (arith, r .scratch, s .sidesLong), s .binary),
-      ),
-    )
+-- the gains and the scratch are prepared, the other lists as lent
+abbrev pub boardOn : Job → Lent → List ℤ → List ℕ → Progress → Board
+boardOn job l g z p = board (job .sides) (l .tried) (l .gained) (l .cuts) (l .ends) z g (l .recipes) (l .kinds) p
 
--- what stands before the first move: the gains and the scratch are prepared
-abbrev pub boardOn : Job → Lent → List ℕ → List ℤ → Progress → Board
-boardOn job l z g p = board (job .sides) (l .tried) (l .gained) (l .cuts) (l .ends) z g (l .recipes) (l .kinds) p
+-- what is prepared stands before the first move; l has the lists as lent, which need not be the prepared gains and scratch
+begins-here : (most : Limits) (job : Job) → Sound most job → (l : Lent) (g : List ℤ) (z : List ℕ)
+    → Prepared (job .bounds) (job .pins) (job .sides) (job .marks) (l .scratch) z g (recipeCount job)
+    → Begun job l (boardOn job l g z (begun (sizeAtStart job) (cutAtStart job)))
+unfolding views
+begins-here most job s l g z d =
+    let e : length (job .sides) ≡ fileCount job = s .sidesLong in
+    record {
+      sides = refl;
+      locks = rw (← e) (d .locks);
+      cells = rw (← e) (d .cells);
+      counts = rw (← e) (d .counts);
+      long = d .long;
+      beyond =
+          let b : drop (countsAt (fileCount job) (pinCount job) + 4 * recipeCount job) z ≡ drop (countsAt (fileCount job) (pinCount job) + 4 * recipeCount job) (l .scratch)
+          = rw e at (d .beyond) in
+          sym (drop-drop 16 (countsAt (fileCount job) (pinCount job) + 4 * recipeCount job) z) ∙ ap (drop 16) b
+          ∙ drop-drop 16 (countsAt (fileCount job) (pinCount job) + 4 * recipeCount job) (l .scratch);
+      gains = rw (← e) (d .starting);
+      tried = refl;
+      gained = refl;
+      cuts = refl;
+      scansSoFar = refl;
+      scannedRecipes = refl;
+      scannedKinds = refl;
+      progress = refl;
+    }
 
-module _ {job : Job} {l : Lent} {w : Window} (y : Playable job l w) (z : List ℕ) (g : List ℤ)
-    (d : Prepared (job .bounds) (job .pins) (job .sides) (job .marks) (l .scratch) z g (recipeCount job)) where
-  first : Going job l 0 (boardOn job l z g (begun (sizeAtStart job) (cutAtStart job)))
-  first = goes-first (begins-here (y .most) job (y .sound) l z g d)
-
-  -- what the moves ask
-  pub moves-safe : (p : Progress) → p ≡ begun (sizeAtStart job) (cutAtStart job) → Going job l (p .moves) (boardOn job l z g p)
-  moves-safe p e = subst (λ (q : Progress). Going job l (q .moves) (boardOn job l z g q)) (sym e) first
+pub first-under : {job : Job} {l : Lent} {w : Window} {g : List ℤ} {z : List ℕ} {p : Progress} → Playable job l w
+    → Prepared (job .bounds) (job .pins) (job .sides) (job .marks) (l .scratch) z g (recipeCount job)
+    → p ≡ begun (sizeAtStart job) (cutAtStart job) → Underway job l w (boardOn job l g z p)
+first-under {job} {l} {w} {g} {z} y d e =
+    subst (λ (q : Progress). Underway job l w (boardOn job l g z q)) (sym e)
+    (record { playable = y; going = goes-first (begins-here (y .most) job (y .sound) l g z d) })
 
 -- ---- after the last
 
+-- C, N and P as the code has them
+pub few-numbers : {job : Job} {l : Lent} {w : Window} {n : ℕ} → Playable job l w → n ≡ recipeCount job → (fileCount job < 65536) × (n < 65536) × (pinCount job < 65536)
+few-numbers y e = (y .small .files, omega (arith, y .small .bounds), omega (arith, y .small .pins))
+
 module _ {job : Job} {l : Lent} {w : Window} (y : Playable job l w) {b : Board} (going : Going job l (length (tries job (job .sides))) b) where
-  pub ended : Finished job l b
+  abbrev q : Progress
+  q = b .rest .scanned .progress
+
+  ended : Finished job l b
   ended = finished (y .most) job (y .sound) going refl
 
-  pub ended-long : BoardLong job l b
-  ended-long = board-long (y .most) job (y .sound) (y .fitting) going
-
-  -- what the end asks
-  pub record Endable : Type 0 where
-    pub back : (b .rest .scanned .progress .best ≤ b .rest .scanned .progress .moves) × (b .rest .scanned .progress .moves ≤ length (b .tried))
-    pub files : allBelow (length (b .sides)) (take (b .rest .scanned .progress .moves) (b .tried))
-    pub binary : Binary (b .sides)
-    pub added : (length (b .sides) ≡ fileCount job) × (fileCount job < 65536)
-    pub moves : b .rest .scanned .progress .moves ≤ fileCount job
-    pub tried : fileCount job ≤ length (b .tried)
-    pub gained : fileCount job ≤ length (b .gained)
-    pub cuts : fileCount job ≤ length (b .cuts)
-    pub scansSoFar : fileCount job ≤ length (b .ends)
-    pub scans : b .rest .scanned .progress .scans ≤ 4 * recipeCount job
-    pub recipes : 4 * recipeCount job ≤ length (b .rest .scanned .recipes)
-    pub kinds : 4 * recipeCount job ≤ length (b .rest .scanned .kinds)
-    pub scratch : scratchFor job ≤ length (b .rest .scratch)
-    pub few : (fileCount job < 65536) × (length (job .bounds) < 65536) × (pinCount job < 65536)
-
-  pub endable : Endable
-  endable =
-      let r : Roomy job l = roomy job l (y .fitting) in
-      let m = ended-long in
-      let f = ended in
-      record {
-        back = (f .order, omega (arith, f .early, m .tried, r .tried));
-        files = f .files;
-        binary = f .binary;
-        added = (m .sides, y .small .files);
-        moves = f .early;
-        tried = omega (arith, m .tried, r .tried);
-        gained = omega (arith, m .gained, r .gained);
-        cuts = omega (arith, m .cuts, r .cuts);
-        scansSoFar = omega (arith, m .scansSoFar, r .scansSoFar);
-        scans = f .few;
-        recipes = omega (arith, m .scannedRecipes, r .scannedRecipes);
-        kinds = omega (arith, m .scannedKinds, r .scannedKinds);
-        scratch = omega (arith, m .scratch, r .scratch);
-        few = (y .small .files, y .small .bounds, omega (arith, y .small .pins));
-      }
-
-  -- what the pass leaves
-  pub pass-ends : (before : ℕ) (r : Figures) (sides tried : List ℕ) (gained : List ℤ) (cuts ends rs kinds scratch : List ℕ)
+  -- what the pass leaves; n, scans and numbers as the code has them
+  pub pass-ends : {before n scans numbers : ℕ} {r : Figures} {sides tried : List ℕ} {gained : List ℤ} {cuts ends rs kinds scratch : List ℕ}
       → before ≡ cutAtStart job
-      → KeptBest (job .sizes) (b .tried) before (b .rest .scanned .progress) (b .sides) sides r
-      → (tried ≡ cleared (b .rest .scanned .progress .moves) (fileCount job) 0 (b .tried))
-      × (gained ≡ cleared (b .rest .scanned .progress .moves) (fileCount job) (pos 0) (b .gained))
-      × (cuts ≡ cleared (b .rest .scanned .progress .moves) (fileCount job) 0 (b .cuts))
-      × (ends ≡ cleared (b .rest .scanned .progress .moves) (fileCount job) 0 (b .ends))
-      → (rs ≡ cleared (b .rest .scanned .progress .scans) (4 * recipeCount job) 0 (b .rest .scanned .recipes))
-      × (kinds ≡ cleared (b .rest .scanned .progress .scans) (4 * recipeCount job) 0 (b .rest .scanned .kinds))
-      × (scratch ≡ cleared 0 (scratchFor job) 0 (b .rest .scratch))
+      → KeptBest (b .tried) before q (b .sides) sides r
+      → (tried ≡ clearedIn (q .moves) (fileCount job) 0 (b .tried))
+      × (gained ≡ clearedIn (q .moves) (fileCount job) (pos 0) (b .gained))
+      × (cuts ≡ clearedIn (q .moves) (fileCount job) 0 (b .cuts))
+      × (ends ≡ clearedIn (q .moves) (fileCount job) 0 (b .ends))
+      → n ≡ recipeCount job
+      → (scans ≡ 4 * n) × (numbers ≡ pinCount job + 4 * fileCount job + 4 * n + 16)
+      → (rs ≡ clearedIn (q .scans) scans 0 (b .rest .scanned .recipes))
+      × (kinds ≡ clearedIn (q .scans) scans 0 (b .rest .scanned .kinds))
+      × (scratch ≡ clearedIn 0 numbers 0 (b .rest .scratch))
       → endedOf r sides (lentOf (b .rest .scanned .gains) tried gained cuts ends rs kinds scratch) ≡ passLeft job l
-  pass-ends before r sides tried gained cuts ends rs kinds scratch be k m n =
-      let si : k .size ≡ sizeA job sides = unfold sizeOn files in k .added in
-      ap (λ (x : Figures). endedOf x sides (lentOf (b .rest .scanned .gains) tried gained cuts ends rs kinds scratch)) (k .told)
-      ∙ pass-left ended before (k .size) sides tried gained cuts ends rs kinds scratch be (k .back) si
-      (m .0) (m .1) (m .2) (m .3) (n .0) (n .1) (n .2)
+  unfolding figuresOf lastOf total
+  pass-ends {scans = scans} {numbers = numbers} be k m ne ro s =
+      let p : Pass = pass job (job .sides) in
+      let c : ℕ = fileCount job in
+      let d : Finished job l b = ended in
+      let o : Roomy job l = roomy job l (y .fitting) in
+      let long : BoardLong job l b = board-long (y .most) job (y .sound) (y .fitting) going in
+      let early : q .moves ≤ c = d .early in
+      let most : scans ≡ 4 * recipeCount job = ro .0 ∙ ap (λ (i : ℕ). 4 * i) ne in
+      let all : numbers ≡ scratchFor job = ro .1 ∙ ap (λ (i : ℕ). pinCount job + 4 * c + 4 * i + 16) ne in
+      let back = k .back ∙ d .back in
+      let tr = m .0 ∙ cleared-in (q .moves) c 0 (b .tried) early (omega (arith, long .tried, o .tried)) ∙ d .tried in
+      let ga = m .1 ∙ cleared-in (q .moves) c (pos 0) (b .gained) early (omega (arith, long .gained, o .gained)) ∙ d .gained in
+      let cu = m .2 ∙ cleared-in (q .moves) c 0 (b .cuts) early (omega (arith, long .cuts, o .cuts)) ∙ d .cuts in
+      let en = m .3 ∙ cleared-in (q .moves) c 0 (b .ends) early (omega (arith, long .scansSoFar, o .scansSoFar)) ∙ d .scansSoFar in
+      let re = s .0 ∙ ap (λ (i : ℕ). clearedIn (q .scans) i 0 (b .rest .scanned .recipes)) most
+      ∙ cleared-in (q .scans) (4 * recipeCount job) 0 (b .rest .scanned .recipes) (d .few) (omega (arith, long .scannedRecipes, o .scannedRecipes)) ∙ d .scannedRecipes in
+      let ki = s .1 ∙ ap (λ (i : ℕ). clearedIn (q .scans) i 0 (b .rest .scanned .kinds)) most
+      ∙ cleared-in (q .scans) (4 * recipeCount job) 0 (b .rest .scanned .kinds) (d .few) (omega (arith, long .scannedKinds, o .scannedKinds)) ∙ d .scannedKinds in
+      let sc = s .2 ∙ ap (λ (i : ℕ). clearedIn 0 i 0 (b .rest .scratch)) all
+      ∙ cleared-in 0 (scratchFor job) 0 (b .rest .scratch) (omega arith) (omega (arith, long .scratch, o .scratch))
+      ∙ cleared-front 0 (scratchFor job) (b .rest .scratch) ∙ d .scratch in
+      λ i. record {
+        answer = (k .told ∙ λ j. record {
+          verdict = done;
+          before = (be ∙ sym (pass-from job (tries job) (job .sides))) j;
+          cut = d .least j;
+          size = d .size j;
+          tried = (d .moves ∙ sym (add-zero (length (p .tried)))) j;
+          kept = (d .best ∙ sym (add-zero (p .kept))) j;
+          scans = (d .scanned ∙ sym (add-zero (length (p .scanned)))) j;
+          visits = (d .visited ∙ sym (add-zero (p .visited))) j;
+        }) i;
+        sides = back i;
+        lent = record {
+          gains = d .gains i;
+          tried = tr i;
+          gained = ga i;
+          cuts = cu i;
+          ends = en i;
+          recipes = re i;
+          kinds = ki i;
+          scratch = sc i;
+        };
+      }

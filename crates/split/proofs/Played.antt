@@ -6,22 +6,22 @@ use mathlib.Core.Option.{Option, none, some}
 use native.Mathlib.Omega.{arith}
 use lib.ListN.{length, getD}
 use lib.IntN.{ℤ, pos}
-use Rattle.rules.specs.Job.{Job, fileCount, pinCount, Lent, scratchFor}
+use Rattle.rules.specs.Job.{Job, fileCount, pinCount, Lent}
 use Rattle.rules.specs.Move.{choose}
 use Rattle.rules.specs.Pass.{tries}
 use Rattle.split.specs.declared.choice.Window.{Window}
 use Rattle.split.specs.declared.choice.Best.{Best}
-use Rattle.split.specs.Zones.{locksAt, part}
+use Rattle.tables.specs.Zones.{locksAt, part}
 use Rattle.split.specs.Choosing.{Holds, fileOr, chosenIn}
 use Rattle.split.specs.Best.{bestOf, bestIn}
 use Rattle.split.specs.Moving.{Board, moveOne}
-use Rattle.split.specs.Movable.{Movable, Turns}
-use Rattle.split.specs.Going.{stands, Going}
-use Rattle.split.specs.Playing.{Playable, Origin, jobFrom, Underway}
+use Rattle.split.specs.Movable.{Movable}
+use Rattle.split.proofs.Going.{stands, Going}
+use Rattle.split.proofs.Playable.{Playable}
 use Rattle.rules.proofs.Fits.{roomy}
 use Rattle.split.proofs.Bounds.{BoardLong, board-long, size-few}
 use Rattle.split.proofs.ChoiceNow.{choice-now, holds-now}
-use Rattle.split.proofs.MoveNow.{move-safe, move-turns, move-goes}
+use Rattle.split.proofs.MoveNow.{Turns, move-safe, move-turns, move-goes}
 use Rattle.split.proofs.NextMove.{Next, next-move, no-move}
 
 -- ---- numbers, for where many lists are known
@@ -50,10 +50,10 @@ chosenNow job w b = chosenIn w (b .rest .scanned .progress .size) (job .sizes) (
 abbrev pub bestNow : Job → Window → Board → Best
 bestNow job w b = bestIn w (b .rest .scanned .progress .size) (job .sizes) (b .sides) (locksIn job b) (b .rest .scanned .gains)
 
--- the pass after its moves so far, and the best move next
-pub record Playing (job : Job) (l : Lent) (w : Window) (best : Best) (b : Board) : Type 0 where
+-- between two moves
+pub record Underway (job : Job) (l : Lent) (w : Window) (b : Board) : Type 0 where
+  pub playable : Playable job l w
   pub going : Going job l (movesOf b) b
-  pub chosen : best ≡ bestNow job w b
 
 -- what the choice may count on
 pub record Choosable (job : Job) (w : Window) (b : Board) : Type 0 where
@@ -82,65 +82,77 @@ kept-gain : (gain : ℕ → ℤ) (dist : ℕ → ℕ) (n : ℕ) (o : Option ℕ)
 kept-gain gain dist n none h = absurd (omega arith)
 kept-gain gain dist n (some f) h = refl
 
-module _ {job : Job} {l : Lent} {w : Window} (y : Playable job l w) where
-  pub choosable : {k : ℕ} {b : Board} → Going job l k b → Choosable job w b
-  choosable {k} {b} g =
-      let m : BoardLong job l b = board-long (y .most) job (y .sound) (y .fitting) g in
+module _ {job : Job} {l : Lent} {w : Window} {b : Board} (u : Underway job l w b) where
+  abbrev y : Playable job l w
+  y = u .playable
+
+  abbrev g : Going job l (movesOf b) b
+  g = u .going
+
+  -- the lists are as long as lent
+  pub under-long : BoardLong job l b
+  under-long = board-long (y .most) job (y .sound) (y .fitting) g
+
+  pub sides-stay : length (b .sides) ≡ length (job .sides)
+  sides-stay = under-long .sides ∙ sym (y .sound .sidesLong)
+
+  pub gains-stay : length (b .rest .scanned .gains) ≡ length (l .gains)
+  gains-stay = under-long .gains ∙ sym (roomy job l (y .fitting) .gains)
+
+  pub choosable : Choosable job w b
+  choosable =
+      let m : BoardLong job l b = under-long in
       record {
         sides = m .sides;
         gains = m .gains;
         locks = omega (arith, roomy job l (y .fitting) .scratch, m .scratch);
         den = omega (arith, y .measured .den, y .measured .small);
-        size = omega (arith, g .progress .size, size-few (y .most) job (y .sound) k, y .small .weight);
+        size = omega (arith, g .progress .size, size-few (y .most) job (y .sound) (movesOf b), y .small .weight);
         holds = holds-now g;
       }
 
-  choice : {k : ℕ} {b : Board} → Going job l k b → chosenNow job w b ≡ choose job (stands job k)
-  choice {k} g = choice-now (y .most) job (y .sound) k w (y .measured .den) (y .measured .aim) (y .measured .span) g
+  choice : chosenNow job w b ≡ choose job (stands job (movesOf b))
+  choice = choice-now (y .most) job (y .sound) (movesOf b) w (y .measured .den) (y .measured .aim) (y .measured .span) g
 
-  module _ {best : Best} {b : Board} (t : Playing job l w best b) where
+  -- once the best move is chosen
+  module _ {best : Best} (chosen : best ≡ bestNow job w b) where
     abbrev f : ℕ
     f = best .file
 
     file : f ≡ fileOr (fileCount job) (chosenNow job w b)
-    file = ap (λ (x : Best). x .file) (t .chosen) ∙ kept-file _ _ (fileCount job) (chosenNow job w b)
+    file = ap (λ (x : Best). x .file) chosen ∙ kept-file _ _ (fileCount job) (chosenNow job w b)
 
-    -- a file is chosen: the next move
+    -- it is a file: the next move
     module _ (h : f < fileCount job) where
       pub playing-next : Next job (movesOf b) f
-      playing-next =
-          next-move (y .most) job (y .sound) (movesOf b) f (t .going .few) (sym (choice (t .going)) ∙ file-some (fileCount job) f (chosenNow job w b) file h)
+      playing-next = next-move (y .most) job (y .sound) (movesOf b) f (g .few) (sym choice ∙ file-some (fileCount job) f (chosenNow job w b) file h)
 
       pub playing-gain : best .gain ≡ getD (b .rest .scanned .gains) f (pos 0)
-      playing-gain = subst (λ (x : Best). x .file < fileCount job → x .gain ≡ getD (b .rest .scanned .gains) (x .file) (pos 0)) (sym (t .chosen))
+      playing-gain = subst (λ (x : Best). x .file < fileCount job → x .gain ≡ getD (b .rest .scanned .gains) (x .file) (pos 0)) (sym chosen)
           (kept-gain _ _ (fileCount job) (chosenNow job w b)) h
 
       pub playing-safe : Movable (job .sizes) (job .bounds) (job .pins) f (b .sides) (b .rest)
-      playing-safe = move-safe (y .most) job (y .sound) (y .small) (y .fitting) (t .going) playing-next
+      playing-safe = move-safe (y .most) job (y .sound) (y .small) (y .fitting) g playing-next
 
       pub playing-turns : Turns (job .sizes) (job .bounds) (job .pins) f b
-      playing-turns = move-turns (y .most) job (y .sound) (y .small) (y .fitting) (t .going) playing-next
+      playing-turns = move-turns (y .most) job (y .sound) (y .small) (y .fitting) g playing-next
 
       module _ {b' : Board} (e : b' ≡ moveOne (job .sizes) (job .bounds) (job .pins) f b) where
         goes : Going job l (suc (movesOf b)) b'
-        goes = subst (Going job l (suc (movesOf b))) (sym e) (move-goes (y .most) job (y .sound) (y .small) (y .fitting) (t .going) playing-next)
+        goes = subst (Going job l (suc (movesOf b))) (sym e) (move-goes (y .most) job (y .sound) (y .small) (y .fitting) g playing-next)
 
         -- one move more
         pub playing-more : movesOf b' ≡ suc (movesOf b)
         playing-more = goes .progress .moves
 
-        pub playing-goes : Going job l (movesOf b') b'
-        playing-goes = subst (λ (k : ℕ). Going job l k b') (sym playing-more) goes
+        pub playing-goes : Underway job l w b'
+        playing-goes = record { playable = y; going = subst (λ (k : ℕ). Going job l k b') (sym playing-more) goes }
 
-    -- none is chosen: the moves have ended
+    -- none is: the moves have ended
     pub playing-end : fileCount job ≤ f → Going job l (length (tries job (job .sides))) b
     playing-end h =
         let below : (x : ℕ) → chosenNow job w b ≡ some x → x < fileCount job
-        = λ x e. next-move (y .most) job (y .sound) (movesOf b) x (t .going .few) (sym (choice (t .going)) ∙ e) .below in
+        = λ x e. next-move (y .most) job (y .sound) (movesOf b) x (g .few) (sym choice ∙ e) .below in
         let end : movesOf b ≡ length (tries job (job .sides))
-        = no-move (y .most) job (y .sound) (movesOf b) (t .going .few) (sym (choice (t .going)) ∙ file-none (fileCount job) f (chosenNow job w b) below file h) in
-        subst (λ (k : ℕ). Going job l k b) end (t .going)
-
--- the lists are as long as lent
-pub under-long : {sizes bounds pins : List ℕ} {w : Window} {o : Origin} {b : Board} → Underway sizes bounds pins w o b → BoardLong (jobFrom sizes bounds pins o) (o .lent) b
-under-long {sizes} {bounds} {pins} {o = o} u = board-long (u .playable .most) (jobFrom sizes bounds pins o) (u .playable .sound) (u .playable .fitting) (u .going)
+        = no-move (y .most) job (y .sound) (movesOf b) (g .few) (sym choice ∙ file-none (fileCount job) f (chosenNow job w b) below file h) in
+        subst (λ (k : ℕ). Going job l k b) end g

@@ -12,10 +12,10 @@ use Rattle.rules.specs.Move.{State}
 use Rattle.rules.proofs.Locked.{lockedOn}
 use Rattle.rules.proofs.OneMove.{Moves, left-count, there-count, left-locked, there-locked}
 use Rattle.split.specs.declared.scan.Way.{Way}
-use Rattle.split.specs.Zones.{countsAt, sideAt, part, CountsOf}
+use Rattle.tables.specs.Zones.{countsAt, sideAt, part, CountsOf}
 use Rattle.split.specs.Scanning.{countT, lockedT, countF, recount}
 use Rattle.split.specs.Moving.{wayTo}
-use Rattle.split.proofs.Parts.{front-entry, front-part}
+use Rattle.tables.proofs.Parts.{front-entry, front-part}
 
 -- ---- the zones of a way
 

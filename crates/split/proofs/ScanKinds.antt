@@ -1,20 +1,39 @@
 -- The kinds that the code scans a recipe for are those of document 01. Assumes nothing.
 use mathlib.Core.Path.{_≡_, refl, sym, _∙_}
-use Prim.Native.Nat.{ℕ, zero, suc}
+use mathlib.Core.Logic.{_≢_}
+use Prim.Native.Nat.{ℕ, zero, suc, _+_}
 use mathlib.Core.Bool.{cond, _&&_}
 use mathlib.Core.List.{List, [], _∷_, _++_, map, append-assoc}
 use native.Mathlib.Omega.{arith}
 use lib.ListN.{length, getD, set}
 use lib.Dec.{eqb}
+use borrow.Author.Tests.{eq-eqb, ne-eqb}
 use Rattle.rules.specs.Split.{other, sideOf, countOn, times}
 use Rattle.rules.specs.Move.{State, moved, kindIf, kindsIn, scanPins}
 use Rattle.rules.proofs.Count.{is0, is1}
 use Rattle.rules.proofs.Locked.{lockedOn, kindsBy, kinds-by}
 use Rattle.rules.proofs.OneMove.{Moves, left-count, left-locked}
-use Rattle.split.specs.Zones.{countsAt, CountsOf}
-use Rattle.split.specs.Scanning.{Scanned, scanned, scannedBy, scanIf, kindThere, kindLeft, countT, lockedT, countF, lockedF}
+use Rattle.tables.specs.Zones.{countsAt, CountsOf}
+use Rattle.split.specs.Scanning.{Scanned, scanned, scannedBy, scanIf, kindBy, kindThere, kindLeft, countT, lockedT, countF, lockedF}
 use Rattle.split.specs.Moving.{wayTo}
 use Rattle.split.proofs.Recount.{counts-seen}
+
+-- ---- the cases of a kind by its counts
+
+module _ (k count locked : ℕ) where
+  pub kind-none : count ≡ 0 → k ≡ kindBy k count locked
+  kind-none e = simp (eq-eqb count 0 e)
+
+  pub kind-many : count ≢ 0 → count ≢ 1 → 0 ≡ kindBy k count locked
+  kind-many m n = simp (ne-eqb count 0 m, ne-eqb count 1 n)
+
+  pub kind-locked : count ≡ 1 → locked ≢ 0 → 0 ≡ kindBy k count locked
+  kind-locked e n = rw e (simp (ne-eqb locked 0 n))
+
+  pub kind-free : count ≡ 1 → locked ≡ 0 → k + 1 ≡ kindBy k count locked
+  kind-free e f = rw (e, f) refl
+
+-- ---- the scans that they ask for
 
 -- one scan, of recipe j, whose files are r
 unfoldable pub scanOne : State → ℕ → ℕ → List ℕ → ℕ → Scanned → Scanned

@@ -1,4 +1,4 @@
--- One scan over the pins of a recipe: one pin more, the list's length, and how far an entry goes. Assumes nothing.
+-- One scan over the pins of a recipe: one pin more, and how far an entry goes. Assumes nothing.
 use mathlib.Core.Path.{_≡_, refl, sym, ap, _∙_}
 use Prim.Native.Nat.{ℕ, zero, suc, _+_, _-_, _≤_, _<_, _^_}
 use mathlib.Core.Bool.{Bool, true, false, cond}
@@ -6,7 +6,7 @@ use mathlib.Core.List.{List, [], _∷_, _++_}
 use native.Mathlib.Numerals.{add-one}
 use native.Mathlib.Omega.{arith}
 use lib.IntN.{ℤ, pos, _+ℤ_}
-use lib.ListN.{length, getD, set, take, length-set, length-take}
+use lib.ListN.{length, getD, set, take, length-take}
 use lib.Seq.{take-suc, set-getD}
 use Rattle.rules.specs.Move.{State, touches, change, scanPins}
 use Rattle.rules.proofs.Signed.{abs}
@@ -30,15 +30,6 @@ scan-pin st t k r i g {h} l e =
     ∙ ap (λ (y : List ℤ). cond (touches st t k x) (set y x (getD y x (pos 0) +ℤ change k)) y) e
     ∙ sym (scan-more st t k (take i r) x g)
     ∙ sym q
-
-cond-length : (b : Bool) (g : List ℤ) (x : ℕ) (v : ℤ) → length (cond b (set g x v) g) ≡ length g
-cond-length true g x v = length-set g x v
-cond-length false g x v = refl
-
-pub scan-length : (st : State) (t k : ℕ) (r : List ℕ) (g : List ℤ) → length (scanPins st t k r g) ≡ length g
-unfolding scanPins
-scan-length st t k [] g = refl
-scan-length st t k (x ∷ r) g = scan-length st t k r _ ∙ cond-length (touches st t k x) g x _
 
 set-abs : (g : List ℤ) (x f k : ℕ) → abs (getD (set g x (getD g x (pos 0) +ℤ change k)) f (pos 0)) ≤ abs (getD g f (pos 0)) + 1
 set-abs [] x f k = omega arith

@@ -29,6 +29,7 @@ withScans q n v = record {
   moves = q .moves;
   best = q .best;
   least = q .least;
+  atbest = q .atbest;
   scans = n;
   visits = v;
 }

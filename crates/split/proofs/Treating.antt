@@ -7,16 +7,16 @@ use native.Mathlib.Decide.{ℕ-discrete}
 use native.Mathlib.Omega.{arith}
 use native.Mathlib.Nat.{add-zero, zero-add, suc-add, add-suc}
 use lib.ListN.{length, getD}
-use Rattle.rules.specs.Lists.{bit, total, count, allBelow}
+use Rattle.rules.specs.Lists.{allBelow}
 use Rattle.rules.specs.Split.{other, sideOf, onSide, countOn, times, holds}
 use Rattle.rules.specs.Move.{State, moved, Scan, kindsIn, scansOf, scanAll, visits}
 use Rattle.rules.specs.Theorems.{Distinct}
-use Rattle.rules.proofs.Count.{total-le, total-const, total-append, total-map, holds-yes, holds-no}
+use Rattle.rules.proofs.Count.{holds-yes, holds-no, count-le}
 use Rattle.rules.proofs.Locked.{locked-le}
 use Rattle.rules.proofs.OneMove.{Moves, left-count, out-count, out-locked}
 use Rattle.rules.proofs.Steps.{recipesFrom, recipesOf, scansOver, scans-cells}
 use Rattle.split.specs.declared.scan.Way.{Way}
-use Rattle.split.specs.Zones.{countsAt, CountsOf, Counts}
+use Rattle.tables.specs.Zones.{countsAt, CountsOf, Counts}
 use Rattle.split.specs.Scanning.{Treated, treatOne, treatAll, Treatable, Ready, none, next}
 use Rattle.split.specs.Moving.{wayTo}
 use Rattle.split.proofs.Recount.{laid, places, counts-seen, Beside, beside-self, beside-then, Recounted, recounted}
@@ -28,13 +28,9 @@ abbrev pub wayOf : ℕ → ℕ → ℕ → State → ℕ → Way
 wayOf c n p st f = wayTo c n p (other (sideOf (st .sides) f))
 
 -- a recipe has no more files on a side than files
-pub countOn-le : (sides : List ℕ) (u : ℕ) (r : List ℕ) → countOn sides u r ≤ length r
-unfolding countOn count
-countOn-le sides u r = omega (arith, total-le (λ x. 1) (λ x. bit (onSide sides u x)) (λ x. bit-le (onSide sides u x)) r, total-const 1 r)
-  where
-    bit-le : (b : Bool) → bit b ≤ 1
-    bit-le true = omega arith
-    bit-le false = omega arith
+countOn-le : (sides : List ℕ) (u : ℕ) (r : List ℕ) → countOn sides u r ≤ length r
+unfolding countOn
+countOn-le sides u r = count-le (onSide sides u) r
 
 -- ---- the recipes of f, one after the other
 
@@ -216,18 +212,3 @@ module _ (rs : List (List ℕ)) (dis : Distinct rs) (st : State) (f : ℕ) (m : 
       → ((j : ℕ) → j < n → allBelow c (look j)) → ((j : ℕ) → j < n → length (getD rs j []) < 65535)
       → Ready (wayOf c n p st f) look (recipesOf rs f) z
   move-ready z fits k below short = ready-turns rs st f m c n p look sees below short (turns rs dis f n long) z fits (start-between k)
-
--- ---- the visits, by the recipes that look finds
-
-module _ (rs : List (List ℕ)) (dis : Distinct rs) (st : State) (f n : ℕ) (long : length rs ≡ n) (look : ℕ → List ℕ)
-    (sees : (j : ℕ) → j < n → look j ≡ getD rs j []) where
-  looked-turns : {b : ℕ} {js : List ℕ} → Turns rs f n b js
-      → total (λ s. length (look (s .recipe))) (scansIn rs st f js) ≡ total (λ s. length (getD rs (s .recipe) [])) (scansIn rs st f js)
-  unfolding scansOver
-  looked-turns (over e) = unfold total in refl
-  looked-turns (without h o ts) = looked-turns ts
-  looked-turns (within {b} h o ts) = simp (total-append, total-map, sees b h, looked-turns ts)
-
-  pub visits-looked : total (λ s. length (look (s .recipe))) (scansOf rs st f) ≡ visits rs (scansOf rs st f)
-  unfolding visits
-  visits-looked = rw (scans-cells rs st f) (looked-turns (turns rs dis f n long))

@@ -9,9 +9,10 @@ use lib.Seq.{drop-cons}
 use Rattle.rules.specs.Lists.{allBelow}
 use Rattle.rules.specs.Move.{State}
 use Rattle.split.specs.declared.scan.Way.{Way}
-use Rattle.split.specs.Zones.{part}
-use Rattle.split.specs.Scanning.{Fits, Treated, recount, treatOne, treatAll, Treatable, Ready, next}
-use Rattle.split.proofs.Lasting.{Later, later-same, later-then, fits-earlier, Near, recount-length, recount-part, later-one, near-one}
+use Rattle.split.specs.declared.scan.Kinds.{Kinds}
+use Rattle.tables.specs.Zones.{part, stateOf}
+use Rattle.split.specs.Scanning.{Fits, Scanned, scanIf, Treated, recount, kindsBy, treatOne, treatAll, Treatable, Ready, next}
+use Rattle.split.proofs.Lasting.{Later, later-same, later-then, fits-earlier, Near, later-if, near-if, recount-length, recount-part, later-one, near-one}
 
 -- the cells from i up to e: the first, and those after it
 part-cons : (i e : ℕ) (z : List ℕ) → i < e → e ≤ length z → part i (e - i) z ≡ getD z i 0 ∷ part (i + 1) (e - (i + 1)) z
@@ -33,14 +34,6 @@ ready-now (next t r) = t
 ready-then : {way : Way} {look : ℕ → List ℕ} {j : ℕ} {js z : List ℕ} → Ready way look (j ∷ js) z → Ready way look js (recount way j z)
 ready-then (next t r) = r
 
--- the files of the recipe, as the code has them
-pub treatable-own : {way : Way} {look : ℕ → List ℕ} {z : List ℕ} {j : ℕ} (r : List ℕ) → r ≡ look j → Treatable way look z j → Treatable way (λ (_ : ℕ). r) z j
-treatable-own {way} r e t = record {
-  counts = t .counts;
-  above = t .above;
-  below = subst (allBelow (way .files)) (sym e) (t .below);
-}
-
 module _ (st : State) (way : Way) where
   pub treat-scratch : (j : ℕ) (r : List ℕ) (y : Treated) → treatOne st way j r y .scratch ≡ recount way j (y .scratch)
   unfolding treatOne
@@ -50,28 +43,6 @@ module _ (st : State) (way : Way) where
   unfolding treatAll
   later-all look [] y = later-same (y .scanned)
   later-all look (j ∷ js) y = later-then (later-one st way j (look j) (y .scratch) (y .scanned)) (later-all look js (treatOne st way j (look j) y))
-
-  -- the gains stay within the visits made and some more
-  pub near-all : (look : ℕ → List ℕ) (js : List ℕ) (y : Treated) → Near (y .scanned) → Near (treatAll st way look js y .scanned)
-  unfolding treatAll
-  near-all look [] y h = h
-  near-all look (j ∷ js) y h = near-all look js (treatOne st way j (look j) y) (near-one st way j (look j) (y .scratch) (y .scanned) h)
-
-  pub length-all : (look : ℕ → List ℕ) (js : List ℕ) (y : Treated) → length (treatAll st way look js y .scratch) ≡ length (y .scratch)
-  unfolding treatAll
-  length-all look [] y = refl
-  length-all look (j ∷ js) y =
-      length-all look js (treatOne st way j (look j) y) ∙ ap length (treat-scratch j (look j) y) ∙ recount-length way j (y .scratch)
-
-  -- what lies below the counts stays, the locks among it
-  pub part-all : (look : ℕ → List ℕ) (at n : ℕ) → at + n ≤ way .locks + way .files → (js : List ℕ) (y : Treated) → Ready way look js (y .scratch)
-      → part at n (treatAll st way look js y .scratch) ≡ part at n (y .scratch)
-  unfolding treatAll
-  part-all look at n h [] y r = refl
-  part-all look at n h (j ∷ js) y r =
-      part-all look at n h js (treatOne st way j (look j) y) (subst (Ready way look js) (sym (treat-scratch j (look j) y)) (ready-then r))
-      ∙ ap (part at n) (treat-scratch j (look j) y)
-      ∙ recount-part way j (y .scratch) at n h (ready-now r)
 
 -- before the turn at i: the rest of the recipes leads to the same end
 pub record Turn (st : State) (way : Way) (look : ℕ → List ℕ) (a e : ℕ) (y₀ : Treated) (i : ℕ) (y : Treated) : Type 0 where
@@ -83,7 +54,7 @@ pub record Turn (st : State) (way : Way) (look : ℕ → List ℕ) (a e : ℕ) (
   pub later : Later (y₀ .scanned) (y .scanned)
   pub near : Near (y .scanned)
 
-module _ (st : State) (way : Way) (look : ℕ → List ℕ) (a e : ℕ) (y₀ : Treated) where
+module _ {st : State} {way : Way} {look : ℕ → List ℕ} {a e : ℕ} {y₀ : Treated} where
   pub turn-first : a ≤ e → part (way .locks) (way .files) (y₀ .scratch) ≡ st .locks → Ready way look (part a (e - a) (y₀ .scratch)) (y₀ .scratch) → Near (y₀ .scanned)
       → Turn st way look a e y₀ a y₀
   turn-first h l r n = record {
@@ -102,7 +73,7 @@ module _ (st : State) (way : Way) (look : ℕ → List ℕ) (a e : ℕ) (y₀ : 
       none-left : (js : List ℕ) → js ≡ [] → treatAll st way look js y ≡ y
       none-left js q = ap (λ (l : List ℕ). treatAll st way look l y) q ∙ (unfold treatAll in refl)
 
-  module _ (i : ℕ) (y : Treated) (t : Turn st way look a e y₀ i y) (h : i < e) (inside : e ≤ way .locks) (long : way .locks + way .files ≤ length (y₀ .scratch)) where
+  module _ {i : ℕ} {y : Treated} (t : Turn st way look a e y₀ i y) (h : i < e) (inside : e ≤ way .locks) (long : way .locks + way .files ≤ length (y₀ .scratch)) where
     abbrev j : ℕ
     j = getD (y .scratch) i 0
 
@@ -142,5 +113,51 @@ module _ (st : State) (way : Way) (look : ℕ → List ℕ) (a e : ℕ) (y₀ : 
           near = near-one st way j (look j) z (y .scanned) (t .near);
         }
 
-    pub turn-more : {y' : Treated} → y' ≡ treatOne st way j (look j) y → Turn st way look a e y₀ (i + 1) y'
-    turn-more q = subst (Turn st way look a e y₀ (i + 1)) (sym q) treated-one
+    -- ---- the code's steps: the counts changed, then two scans
+
+    module _ {r z' : List ℕ} {k : Kinds} (own : r ≡ look j) (counted : z' ≡ recount way j (y .scratch)) (kinds : k ≡ kindsBy way j (y .scratch)) where
+      -- the scans see the locks of the entry, above which the counts lie
+      abbrev seen : State
+      seen = stateOf (st .sides) (part (way .locks) (way .files) z')
+
+      same : seen ≡ st
+      same = ap (stateOf (st .sides))
+          (ap (part (way .locks) (way .files)) counted ∙ recount-part way j (y .scratch) (way .locks) (way .files) (omega arith) turn-treatable ∙ t .locks)
+
+      abbrev scan : ℕ → Scanned → Scanned
+      scan kind x = scanIf seen (way .side) j r kind x
+
+      abbrev one : Scanned
+      one = scan (k .first) (y .scanned)
+
+      both : _≡_ {A = Treated} (record { scratch = z'; scanned = scan (k .second) one }) (treatOne st way j (look j) y)
+      unfolding treatOne
+      both = λ n. record {
+        scratch = counted n;
+        scanned = scanIf (same n) (way .side) j (own n) (kinds n .second) (scanIf (same n) (way .side) j (own n) (kinds n .first) (y .scanned));
+      }
+
+      both-fit : Fits (treatAll st way look (part a (e - a) (y₀ .scratch)) y₀ .scanned) → Fits (scan (k .second) one)
+      both-fit f = subst (λ (x : Treated). Fits (x .scanned)) (sym both) (turn-fits f)
+
+      -- what the scans ask
+      pub own-below : allBelow (way .files) r
+      own-below = subst (allBelow (way .files)) (sym own) (turn-treatable .below)
+
+      pub seen-long : way .locks + way .files ≤ length z'
+      seen-long = omega (arith, long, t .scratch, ap length counted, recount-length way j (y .scratch))
+
+      pub first-fits : Fits (treatAll st way look (part a (e - a) (y₀ .scratch)) y₀ .scanned) → Fits one
+      first-fits f = fits-earlier (later-if seen (way .side) j r (k .second) one) (both-fit f)
+
+      module _ {x : Scanned} (first : x ≡ one) where
+        pub second-near : Near x
+        second-near = subst (λ (u : Scanned). Near u) (sym first) (near-if seen (way .side) j r (k .first) (y .scanned) (t .near))
+
+        pub second-fits : Fits (treatAll st way look (part a (e - a) (y₀ .scratch)) y₀ .scanned) → Fits (scan (k .second) x)
+        second-fits f = subst (λ (u : Scanned). Fits (scan (k .second) u)) (sym first) (both-fit f)
+
+        pub turn-more : {x' : Scanned} → x' ≡ scan (k .second) x → Turn st way look a e y₀ (i + 1) (record { scratch = z'; scanned = x' })
+        turn-more q =
+            subst (Turn st way look a e y₀ (i + 1))
+            (sym (ap (λ (u : Scanned). record { scratch = z'; scanned = u }) (q ∙ ap (scan (k .second)) first) ∙ both)) treated-one

@@ -1,6 +1,7 @@
 -- The best legal move so far, as the code of the choice keeps it. Assumes nothing.
-use Prim.Native.Nat.{ℕ, _*_}
-use mathlib.Core.Bool.{Bool, not, cond, _&&_, _||_}
+use mathlib.Core.Path.{_≡_}
+use Prim.Native.Nat.{ℕ, _*_, _≤_, _<_}
+use mathlib.Core.Bool.{Bool, true, false, not, cond, _&&_, _||_}
 use mathlib.Core.Option.{Option, none, some}
 use mathlib.Core.List.{List}
 use lib.ListN.{length, getD}
@@ -12,7 +13,29 @@ use Rattle.split.specs.declared.choice.Window.{Window}
 use Rattle.split.specs.declared.choice.Best.{Best}
 use Rattle.split.specs.Choosing.{distIn, chosenIn}
 
--- there is none yet, or a file of this gain and distance goes before it, which is of lower number; n is the number of files
+-- there is none yet, or this gain is no less than its; n is the number of files
+abbrev pub noLess : ℤ → Best → ℕ → Bool
+noLess gain b n = eqb (b .file) n || not (ltZ gain (b .gain))
+
+-- a file of this gain and lock is free, and may go before the best so far
+abbrev pub isRival : Best → ℤ → ℕ → ℕ → Bool
+isRival b gain lock n = eqb lock 0 && noLess gain b n
+
+abbrev pub rivalIn : Best → List ℕ → List ℤ → ℕ → ℕ → Bool
+rivalIn b locks gains n f = isRival b (getD gains f (pos 0)) (getD locks f 0) n
+
+-- no file from this one up to f is a rival of b
+pub record Outdone (b : Best) (locks : List ℕ) (gains : List ℤ) (n from f : ℕ) : Type 0 where
+  pub least : from ≤ f
+  pub most : f ≤ n
+  pub each : (g : ℕ) → from ≤ g → g < f → rivalIn b locks gains n g ≡ false
+
+-- f is the first rival from this file on, or n where there is none
+pub record NextRival (b : Best) (locks : List ℕ) (gains : List ℤ) (n from f : ℕ) : Type 0 where
+  pub outdone : Outdone b locks gains n from f
+  pub rival : f < n → rivalIn b locks gains n f ≡ true
+
+-- there is none yet, or a file of this gain and distance goes before it, which is of lower number
 abbrev pub goesFirst : ℤ → ℕ → Best → ℕ → Bool
 goesFirst gain dist b n = eqb (b .file) n || (ltZ (b .gain) gain || (not (ltZ gain (b .gain)) && ltb dist (b .dist)))
 

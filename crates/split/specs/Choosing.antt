@@ -35,3 +35,7 @@ fileOr n (some f) = f
 unfoldable pub chosenIn : Window → ℕ → List ℕ → List ℕ → List ℕ → List ℤ → ℕ → Option ℕ
 chosenIn w size sizes sides locks gains n =
     firstBelow (legalIn w size sizes sides locks) (better (λ f. getD gains f (pos 0)) (distIn w size sizes sides)) n
+
+-- den, and num·W and den·smax
+abbrev pub windowOf : ℕ → ℕ → ℕ → ℕ → Window
+windowOf num den weight largest = record { den = den; aim = num * weight; span = den * largest }

@@ -1,14 +1,6 @@
-pub mod Zones
 pub mod Scanning
 pub mod Choosing
-pub mod Building
-pub mod Ending
 pub mod Moving
-pub mod Going
 pub mod Movable
-pub mod Treats
 pub mod Playing
 pub mod Best
-pub mod Counting
-pub mod Filling
-pub mod LentFits

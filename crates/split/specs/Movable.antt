@@ -4,23 +4,14 @@ use Prim.Native.Nat.{ℕ, _+_, _-_, _*_, _≤_, _<_, _^_}
 use mathlib.Core.List.{List}
 use lib.ListN.{length, getD, set}
 use lib.IntN.{ℤ, pos}
-use Rattle.rules.specs.Job.{Job, fileCount, recipeCount, pinCount, viewOf}
-use Rattle.rules.specs.Split.{sideOf, weight}
-use Rattle.rules.specs.Theorems.{Binary}
+use Rattle.rules.specs.Job.{viewOf}
+use Rattle.rules.specs.Split.{sideOf}
 use Rattle.rules.proofs.Signed.{up, down}
 use Rattle.split.specs.declared.progress.Progress.{Progress}
-use Rattle.split.specs.Zones.{startAt, endAt, locksAt, countsAt}
+use Rattle.tables.specs.Zones.{startAt, endAt, locksAt, countsAt}
 use Rattle.split.specs.Scanning.{Treated, Room, Fits, Ready}
-use Rattle.split.specs.Ending.{turned}
-use Rattle.split.specs.Moving.{Board, cellsOf, wayTo, treatFrom, treatMove}
-
--- a job small enough for two-byte entries and eight-byte sums
-pub record Small (job : Job) : Type 0 where
-  pub files : fileCount job < 65536
-  pub bounds : length (job .bounds) < 65536
-  pub pins : pinCount job < 65535
-  pub scans : 4 * recipeCount job < 65536
-  pub weight : weight job < 2 ^ 40
+use Rattle.tables.specs.Ending.{turned}
+use Rattle.split.specs.Moving.{cellsOf, wayTo, treatFrom}
 
 -- |A| and the cut after the move of f are small enough
 pub record Shiftable (sizes sides : List ℕ) (gains : List ℤ) (f : ℕ) (p : Progress) : Type 0 where
@@ -37,7 +28,6 @@ pub record Movable (sizes bounds pins : List ℕ) (f : ℕ) (sides : List ℕ) (
   pub gainsLong : length (y .scanned .gains) ≡ length sizes
   pub scratchLong : countsAt (length sizes) (length pins) + 4 * (length bounds - 1) ≤ length (y .scratch)
   pub few : (length sizes < 65536) × (length bounds < 65536) × (length pins < 65536)
-  pub binary : Binary sides
   -- the file's cells, and its recipes one after the other
   pub order : getD (y .scratch) (startAt (length pins) f) 0 ≤ getD (y .scratch) (endAt (length sizes) (length pins) f) 0
   pub inside : getD (y .scratch) (endAt (length sizes) (length pins) f) 0 ≤ length pins
@@ -48,13 +38,3 @@ pub record Movable (sizes bounds pins : List ℕ) (f : ℕ) (sides : List ℕ) (
   pub fits : Fits (treatFrom sizes bounds pins f sides y .scanned)
   -- |A| and the cut after it
   pub shift : Shiftable sizes sides (y .scanned .gains) f (y .scanned .progress)
-
--- room for its entries, which are two-byte numbers
-pub record Turns (sizes bounds pins : List ℕ) (f : ℕ) (b : Board) : Type 0 where
-  pub tried : b .rest .scanned .progress .moves < length (b .tried)
-  pub gained : b .rest .scanned .progress .moves < length (b .gained)
-  pub cuts : b .rest .scanned .progress .moves < length (b .cuts)
-  pub ends : b .rest .scanned .progress .moves < length (b .ends)
-  pub cut : treatMove sizes bounds pins f b .scanned .progress .cut < 65536
-  pub scans : treatMove sizes bounds pins f b .scanned .progress .scans < 65536
-  pub moves : treatMove sizes bounds pins f b .scanned .progress .moves < 2 ^ 32

@@ -11,16 +11,16 @@ use Rattle.rules.specs.Split.{other, sideOf}
 use Rattle.rules.proofs.Signed.{up, down}
 use Rattle.split.specs.declared.progress.Progress.{Progress}
 use Rattle.split.specs.declared.scan.Way.{Way}
-use Rattle.split.specs.Zones.{startAt, endAt, locksAt, countsAt, sideAt, part, stateIn}
+use Rattle.tables.specs.Zones.{startAt, endAt, locksAt, countsAt, sideAt, part, stateIn}
 use Rattle.split.specs.Scanning.{Treated, treated, treatAll}
 use Rattle.split.specs.Choosing.{sizeBy}
-use Rattle.split.specs.Ending.{turned}
+use Rattle.tables.specs.Ending.{turned}
 
 -- ---- the pass in progress
 
 -- no move yet
 abbrev pub begun : ℕ → ℕ → Progress
-begun size cut = record { size = size; cut = cut; moves = 0; best = 0; least = cut; scans = 0; visits = 0 }
+begun size cut = record { size = size; cut = cut; moves = 0; best = 0; least = cut; atbest = size; scans = 0; visits = 0 }
 
 -- |A| and the cut after a move
 unfoldable pub shiftedTo : Progress → ℕ → ℕ → Progress
@@ -30,6 +30,7 @@ shiftedTo p size cut = record {
   moves = p .moves;
   best = p .best;
   least = p .least;
+  atbest = p .atbest;
   scans = p .scans;
   visits = p .visits;
 }
@@ -44,6 +45,7 @@ countedOn p =
       moves = p .moves + 1;
       best = cond less (p .moves + 1) (p .best);
       least = cond less (p .cut) (p .least);
+      atbest = cond less (p .size) (p .atbest);
       scans = p .scans;
       visits = p .visits;
     }

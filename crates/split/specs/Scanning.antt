@@ -26,6 +26,7 @@ scannedBy p len = record {
   moves = p .moves;
   best = p .best;
   least = p .least;
+  atbest = p .atbest;
   scans = p .scans + 1;
   visits = p .visits + len;
 }
@@ -63,12 +64,16 @@ pub record Fits (x : Scanned) : Type 0 where
 
 -- ---- one recipe
 
--- 1 where T is 0, 2 where T is 1 and none of it is locked, else 0
+-- a kind by a count of files and of the locked ones among them: k where there is none, the next where there is one and it is free, else 0
+abbrev pub kindBy : ℕ → ℕ → ℕ → ℕ
+kindBy k count locked = cond (eqb count 0) k (cond (eqb count 1 && eqb locked 0) (k + 1) 0)
+
+-- kinds 1 and 2 by T, kinds 3 and 4 by F
 abbrev pub kindThere : ℕ → ℕ → ℕ
-kindThere T LT = cond (eqb T 0) 1 (cond (eqb T 1 && eqb LT 0) 2 0)
+kindThere = kindBy 1
 
 abbrev pub kindLeft : ℕ → ℕ → ℕ
-kindLeft F LF = cond (eqb F 0) 3 (cond (eqb F 1 && eqb LF 0) 4 0)
+kindLeft = kindBy 3
 
 -- what treating a recipe changes
 pub record Treated : Type 0 where

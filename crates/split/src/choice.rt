@@ -1,11 +1,12 @@
 // The choice: the legal move of greatest gain, then of least distance, then of lowest number, by one walk over the files.
 ghost use mathlib.Core.Path.{_≡_};
+ghost use mathlib.Core.Bool.{true};
 ghost use Prim.Native.Nat.{_+_, _*_, _≤_, _<_, _^_};
 ghost use lib.ListN.{length};
 ghost use Rattle.rules.specs.Move.{distance};
-ghost use Rattle.split.specs.Zones.{locksAt, part};
+ghost use Rattle.tables.specs.Zones.{locksAt, part};
 ghost use Rattle.split.specs.Choosing.{sizeBy, Holds};
-ghost use Rattle.split.specs.Best.{goesFirst, challenged, bestIn};
+ghost use Rattle.split.specs.Best.{noLess, goesFirst, challenged, bestIn, isRival, NextRival};
 
 // The balance window: den, and num·W and den·smax, within which den·|A| must stay.
 pub struct Window {
@@ -41,43 +42,54 @@ fn apart(x: u64, y: u64) -> u64
     x - y
 }
 
-// Whether a file of this gain and distance goes before the best so far, of lower number, or there is none yet.
-fn is_better(gain: i32, dist: u64, best: Best, none: usize) -> bool
-    ensures { λ r. ⌜ r ≡ goesFirst gain dist best none ⌝ }
-{
-    if best.file == none {
-        return true;
-    }
-    if best.gain < gain {
-        return true;
-    }
-    if gain < best.gain {
-        return false;
-    }
-    dist < best.dist
-}
-
-// The best so far, against file f.
-fn challenge(
-    window: Window,
-    best: Best,
-    f: usize,
-    gain: i32,
-    lock: u16,
-    after: u64,
-    none: usize,
-) -> Best
-    requires { ⌜ window .den * after < 2 ^ 64 ⌝ }
-    ensures { λ r. ⌜ r ≡ challenged window best f gain lock after none ⌝ }
+// Whether a file of this gain and lock is a rival of the best so far: it is free, and its gain is no less, or there is none yet.
+fn is_rival(best: Best, gain: i32, lock: u16, none: usize) -> bool
+    ensures { λ r. ⌜ r ≡ isRival best gain lock none ⌝ }
 {
     if lock != 0 {
-        return best;
+        return false;
     }
+    (best.file == none) | !(gain < best.gain)
+}
+
+// The first rival from this file on; none where there is none.
+fn next_rival(
+    best: Best,
+    scratch: &[u16],
+    gains: &[i32],
+    locks: usize,
+    from: usize,
+    none: usize,
+) -> usize
+    requires { ⌜ (length (now gains) ≡ none) × (locks + none ≤ length (now scratch)) × (from ≤ none) ⌝ }
+    ensures { λ r. ⌜ NextRival best (part locks none (now (scratch .entry))) (now (gains .entry)) none from r ⌝ }
+{
+    let mut f = from;
+    while f < none {
+        if is_rival(best, gains[f], scratch[locks + f], none) {
+            return f;
+        }
+        f += 1;
+    }
+    f
+}
+
+// Whether a rival of this gain and distance goes before the best so far, of lower number, or there is none yet.
+fn is_better(gain: i32, dist: u64, best: Best, none: usize) -> bool
+    requires { ⌜ noLess gain best none ≡ true ⌝ }
+    ensures { λ r. ⌜ r ≡ goesFirst gain dist best none ⌝ }
+{
+    (best.file == none) | (best.gain < gain) | (dist < best.dist)
+}
+
+// The best so far, against its rival f.
+fn challenge(window: Window, best: Best, f: usize, gain: i32, after: u64, none: usize) -> Best
+    requires { ⌜ noLess gain best none ≡ true ⌝ }
+    requires { ⌜ window .den * after < 2 ^ 64 ⌝ }
+    ensures { λ r. ⌜ r ≡ challenged window best f gain 0 after none ⌝ }
+{
     let dist = apart(window.den * after, window.aim);
-    if window.span < dist {
-        return best;
-    }
-    if is_better(gain, dist, best, none) {
+    if (dist <= window.span) & is_better(gain, dist, best, none) {
         return Best {
             file: f,
             gain,
@@ -109,11 +121,11 @@ pub fn choose(
         gain: 0,
         dist: 0,
     };
-    let mut f = 0;
+    let mut f = next_rival(best, scratch, gains, locks, 0, none);
     while f < none {
         let after = size_after(size, sides[f], sizes[f]);
-        best = challenge(window, best, f, gains[f], scratch[locks + f], after, none);
-        f += 1;
+        best = challenge(window, best, f, gains[f], after, none);
+        f = next_rival(best, scratch, gains, locks, f + 1, none);
     }
     best
 }

@@ -1,27 +1,33 @@
 // One pass.
-mod cells;
 mod choice;
-mod counts;
 mod ending;
 mod lent;
 mod moves;
 mod progress;
 mod scan;
-mod start;
 
+use choice::choose;
+use ending::keep_best;
+use ending::room_of;
 use job::Job;
-use lent::lists_fit;
-use lent::refused;
+use job::recipe_count;
+pub use lent::refused;
 use lent::window_of;
-use moves::play;
+use moves::note_choice;
+use moves::note_end;
+use moves::treat_move;
 use progress::Progress;
 use rules::Figures;
-use start::prepare;
+use tables::end_moves;
+use tables::end_scans;
+use tables::lay_out;
 ghost use mathlib.Core.Path.{_≡_};
 ghost use Rattle.rules.specs.Job.{limitsOf, asJob, lentOf};
 ghost use Rattle.rules.specs.Run.{endedOf, passEnds};
 
 // One pass, lent what document 01 says: the gain list, four move lists, two scan lists and the scratch.
+// Choose and move, with an entry for the move in each of the four move lists, until no legal move exists;
+// then the best prefix is kept, and the lists end in zeros.
 pub fn pass_once(
     job: Job,
     sizes: &[u16],
@@ -40,41 +46,53 @@ pub fn pass_once(
 ) -> Figures
     ensures { λ r. do ⌜ endedOf r (now (sides .exit)) (lentOf (now (gains .exit)) (now (tried .exit)) (now (gained .exit)) (now (cuts .exit)) (now (ends .exit)) (now (recipes .exit)) (now (kinds .exit)) (now (scratch .exit))) ≡ passEnds (limitsOf (← ⟦Job::MOST_FILES⟧ .entry) (← ⟦Job::MOST_RECIPES⟧ .entry) (← ⟦Job::MOST_PINS⟧ .entry) (← ⟦Job::MOST_DEN⟧ .entry)) (asJob (now (sizes .entry)) (now (sides .entry)) (now (marks .entry)) (now (bounds .entry)) (now (pins .entry)) (job .num) (job .den) (job .cap)) (lentOf (now (gains .entry)) (now (tried .entry)) (now (gained .entry)) (now (cuts .entry)) (now (ends .entry)) (now (recipes .entry)) (now (kinds .entry)) (now (scratch .entry))) ⌝ }
 {
-    let fit = lists_fit(
-        sizes.len(),
-        bounds.len(),
-        pins.len(),
-        gains.len(),
+    let s = lay_out(
+        job,
+        sizes,
+        sides,
+        marks,
+        bounds,
+        pins,
+        gains,
+        scratch,
         tried.len(),
         gained.len(),
         cuts.len(),
         ends.len(),
         recipes.len(),
         kinds.len(),
-        scratch.len(),
     );
-    let s = job::survey(job, sizes, sides, marks, bounds, pins, fit);
     let v = s.verdict;
     if v.number != 0 {
         return refused(v);
     }
     let window = window_of(job.num, job.den, s.weight, s.largest);
-    let begun = Progress::new(s.size, s.cut);
-    prepare(gains, scratch, sides, marks, bounds, pins);
-    play(
-        window,
-        sizes,
-        sides,
-        bounds,
-        pins,
-        gains,
-        tried,
-        gained,
-        cuts,
-        ends,
-        recipes,
-        kinds,
-        scratch,
-        begun,
-    )
+    let c = sizes.len();
+    let mut p = Progress::new(s.size, s.cut);
+    loop {
+        let chosen = choose(window, p.size, sizes, sides, scratch, gains, pins.len());
+        let f = chosen.file;
+        if c <= f {
+            let figures = keep_best(sides, tried, s.cut, p);
+            end_moves(tried, gained, cuts, ends, p.moves, c);
+            let room = room_of(c, recipe_count(bounds), pins.len());
+            end_scans(recipes, kinds, scratch, p.scans, room.scans, room.numbers);
+            return figures;
+        }
+        let at = p.moves;
+        note_choice(tried, gained, at, chosen);
+        let q = treat_move(
+            sizes,
+            sides,
+            bounds,
+            pins,
+            gains,
+            recipes,
+            kinds,
+            scratch,
+            f,
+            p,
+        );
+        p = note_end(cuts, ends, at, q);
+    }
 }

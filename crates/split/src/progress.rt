@@ -1,6 +1,7 @@
 // A pass in progress: a small record of numbers, handed in and handed back with each move.
+// `best` moves are the shortest prefix of least cut so far, `least` is its cut and `atbest` its |A|.
 ghost use mathlib.Core.Path.{_≡_};
-ghost use Prim.Native.Nat.{_+_, _≤_, _<_, _^_};
+ghost use Prim.Native.Nat.{_+_, _<_, _^_};
 ghost use Rattle.split.specs.Scanning.{scannedBy};
 ghost use Rattle.split.specs.Moving.{begun, shiftedTo, countedOn};
 
@@ -10,6 +11,7 @@ pub struct Progress {
     pub moves: usize,
     pub best: usize,
     pub least: usize,
+    pub atbest: u64,
     pub scans: usize,
     pub visits: u64,
 }
@@ -24,6 +26,7 @@ impl Progress {
             moves: 0,
             best: 0,
             least: cut,
+            atbest: size,
             scans: 0,
             visits: 0,
         }
@@ -57,6 +60,7 @@ impl Progress {
         if self.cut < self.least {
             self.best = self.moves;
             self.least = self.cut;
+            self.atbest = self.size;
             return self;
         }
         self

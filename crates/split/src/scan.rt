@@ -6,9 +6,10 @@ ghost use Rattle.rules.specs.Lists.{allBelow};
 ghost use Rattle.rules.specs.Job.{viewOf};
 ghost use Rattle.rules.specs.Move.{scanPins};
 ghost use Rattle.rules.proofs.Signed.{abs};
-ghost use Rattle.split.specs.Zones.{part, stateOf};
-ghost use Rattle.split.specs.Scanning.{shiftedBy, RoomFor, Room, Fits, scanned, scanIf, kindThere, kindLeft, kindsBy, recount, treated, treatOne, treatAll, Countable, Treatable, Ready};
+ghost use Rattle.tables.specs.Zones.{part, stateOf};
+ghost use Rattle.split.specs.Scanning.{shiftedBy, RoomFor, Room, Fits, scanned, scanIf, kindThere, kindLeft, kindsBy, recount, treated, treatAll, Countable, Ready};
 use super::progress::Progress;
+use job::wide;
 
 // The way of a move: the side moved to, and where the locks and the counts of recipe 0 stand in the scratch:
 // its files on the side moved to and on the side left, and the locked ones of each.
@@ -26,12 +27,6 @@ pub struct Way {
 pub struct Kinds {
     pub first: u16,
     pub second: u16,
-}
-
-pub fn wide(x: u16) -> usize
-    ensures { λ r. ⌜ r ≡ x ⌝ }
-{
-    x as usize
 }
 
 // A file's gain after a scan of this kind, which reaches it on the sides that the kind names, if it is free.
@@ -154,53 +149,7 @@ fn recount_one(scratch: &mut [u16], j: u16, way: Way) -> Kinds
     Kinds { first, second }
 }
 
-// Recipe j of the moved file: its counts, then its scans, kinds 1 or 2 before 3 or 4.
-fn treat(
-    gains: &mut [i32],
-    recipes: &mut [u16],
-    kinds: &mut [u16],
-    scratch: &mut [u16],
-    sides: &[u16],
-    pins: &[u16],
-    j: u16,
-    way: Way,
-    p: Progress,
-) -> Progress
-    requires { ⌜ way .side ≤ 1 ⌝ }
-    requires { ⌜ (length (now gains) ≡ way .files) × (length (now sides) ≡ way .files) × (way .locks + way .files ≤ length (now scratch)) ⌝ }
-    requires { ⌜ Treatable way (λ _. now pins) (now scratch) j ⌝ }
-    requires { ⌜ Room (now gains) (p .visits) ⌝ }
-    requires { ⌜ Fits (treatOne (stateOf (now sides) (part (way .locks) (way .files) (now scratch))) way j (now pins) (treated (now scratch) (now gains) (now recipes) (now kinds) p) .scanned) ⌝ }
-    ensures { λ r. ⌜ treated (now (scratch .exit)) (now (gains .exit)) (now (recipes .exit)) (now (kinds .exit)) r ≡ treatOne (stateOf (now (sides .entry)) (part (way .locks) (way .files) (now (scratch .entry)))) way j (now (pins .entry)) (treated (now (scratch .entry)) (now (gains .entry)) (now (recipes .entry)) (now (kinds .entry)) p) ⌝ }
-{
-    let its = recount_one(scratch, j, way);
-    let q = scan_if(
-        gains,
-        recipes,
-        kinds,
-        sides,
-        scratch,
-        pins,
-        j,
-        way,
-        its.first,
-        p,
-    );
-    scan_if(
-        gains,
-        recipes,
-        kinds,
-        sides,
-        scratch,
-        pins,
-        j,
-        way,
-        its.second,
-        q,
-    )
-}
-
-// The recipes in the cells from a up to e, one after the other.
+// The recipes in the cells from a up to e, one after the other: the counts of each, then its scans, kinds 1 or 2 before 3 or 4.
 pub fn treat_all(
     gains: &mut [i32],
     recipes: &mut [u16],
@@ -226,7 +175,31 @@ pub fn treat_all(
     while i < e {
         let j = scratch[i];
         let own = job::view(bounds, pins, wide(j));
-        q = treat(gains, recipes, kinds, scratch, sides, own, j, way, q);
+        let its = recount_one(scratch, j, way);
+        q = scan_if(
+            gains,
+            recipes,
+            kinds,
+            sides,
+            scratch,
+            own,
+            j,
+            way,
+            its.first,
+            q,
+        );
+        q = scan_if(
+            gains,
+            recipes,
+            kinds,
+            sides,
+            scratch,
+            own,
+            j,
+            way,
+            its.second,
+            q,
+        );
         i += 1;
     }
     q

@@ -1,14 +1,13 @@
--- Lists as they are filled from blocks and copied out. Assumes nothing.
+-- Lists as they are filled from blocks. Assumes nothing.
 use mathlib.Core.Path.{_≡_, refl, sym, ap, ap₂, _∙_}
-use Prim.Native.Nat.{ℕ, suc, _+_, _-_, _*_, _/_, _%_, _<_, _≤_, min}
+use Prim.Native.Nat.{ℕ, _+_, _-_, _*_, _/_, _%_, _<_, _≤_, min}
 use native.Mathlib.Decide.{ℕ-discrete, decLt}
 use native.Mathlib.Nat.{add-zero, mul-one, mul-add, mul-add-div, div-eq-of-lt, mul-add-mod-self-left, mod-eq-of-lt}
-use native.Mathlib.Numerals.{add-one}
 use native.Mathlib.Omega.{arith}
 use mathlib.Core.List.{List, map}
-use lib.ListN.{length, getD, take, drop, set, length-set}
-use lib.Seq.{getD-set-same, getD-set-other, ext-getD, getD-take, set-at, drop-cons, append-snoc, take-suc, take-all, length-take-le}
-use Rattle.rules.specs.Lists.{upTo, onto}
+use lib.ListN.{length, take, set, length-set}
+use lib.Seq.{getD-set-same, getD-set-other, ext-getD, getD-take, length-take-le}
+use Rattle.rules.specs.Lists.{upTo}
 use Rattle.rules.proofs.Count.{getD-tabled, length-tabled}
 use Rattle.stored.specs.Steps.{Put, Taken, heldIn}
 
@@ -66,20 +65,3 @@ taken-all {g} {n} {old} {new} t h =
     let l : length (take n new) ≡ n = length-take-le n new (omega (arith, t .long)) in
     ext-getD 0 (take n new) (map g (upTo n)) (l ∙ sym (length-tabled g n))
     (λ i k. getD-take n new i 0 (omega arith) ∙ t .taken i (omega arith) ∙ sym (getD-tabled g n i 0 (omega arith)))
-
--- ---- copied out
-
-pub onto-none : (xs old : List ℕ) → onto (take 0 xs) old ≡ old
-unfolding onto
-onto-none xs old = refl
-
-pub onto-more : (xs old : List ℕ) (i : ℕ) → i < length xs → length xs ≤ length old → set (onto (take i xs) old) i (getD xs i 0) ≡ onto (take (i + 1) xs) old
-unfolding onto
-onto-more xs old i h k =
-    let l : length (take i xs) ≡ i = length-take-le i xs (omega arith) in
-    let m : length (take (suc i) xs) ≡ suc i = length-take-le (suc i) xs (omega arith) in
-    let q : i < length old = omega arith in
-    rw (add-one, l, m, drop-cons old i 0, set-at (take i xs) (getD old i 0) (drop (suc i) old) (getD xs i 0) i l, take-suc xs i 0, append-snoc)
-
-pub onto-all : (xs old : List ℕ) (i : ℕ) → length xs ≤ i → onto (take i xs) old ≡ onto xs old
-onto-all xs old i h = ap (λ (l : List ℕ). onto l old) (take-all i xs h)

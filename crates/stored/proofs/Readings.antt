@@ -1,58 +1,36 @@
 -- What a layout that passes tells, the job that is then read, and the answers of a reading. Assumes nothing.
-use mathlib.Core.Path.{_≡_, refl, sym, ap, _∙_}
-use Prim.Native.Nat.{ℕ, _+_, _*_, _<_, _≤_}
+use mathlib.Core.Path.{_≡_, sym, ap, _∙_}
+use Prim.Native.Nat.{ℕ, _+_, _*_, _≤_}
 use native.Mathlib.Omega.{arith}
-use mathlib.Core.Bool.{Bool, true, false, not, _&&_, _||_}
-use mathlib.Core.List.{List, map}
-use lib.ListN.{length, replicate, length-replicate}
-use lib.Dec.{ltb, eqb}
-use borrow.Author.Tests.{eq-eqb, ne-eqb, le-ltb, eqb-true, eqb-false, ltb-false, leb-true}
+use mathlib.Core.Bool.{Bool, true, false}
+use mathlib.Core.List.{List}
+use lib.ListN.{length, length-replicate}
+use lib.Dec.{ltb}
+use borrow.Author.Tests.{eq-eqb, ne-eqb, eqb-true, leb-true}
 use Rattle.rules.specs.declared.Verdict.{Verdict}
 use Rattle.rules.specs.declared.Measure.{Measure}
 use Rattle.rules.specs.declared.Header.{Header}
 use Rattle.rules.specs.declared.ReadFigures.{ReadFigures}
-use Rattle.rules.specs.Lists.{upTo}
-use Rattle.rules.specs.Job.{Job, Limits, fileCount, recipeCount, pinCount}
-use Rattle.rules.specs.Check.{isDone, refuseIf, _orElse_, check1, check2, check3, check4to6, check1to6, «measure»}
-use Rattle.rules.specs.Stored.{Room, Reading, headerOf, boundsAt, pinsAt, blockCount, jobOf, blockVerdict, layoutVerdict, readVerdict, written, noHeader, reading}
-use Rattle.rules.proofs.Tests.{or-no, and-yes, not-no}
-use Rattle.rules.proofs.Verdicts.{chain-stop, chain-go, zero-of, passes-both, not-refused}
+use Rattle.rules.specs.Job.{Job, Limits}
+use Rattle.rules.specs.Check.{isDone, refuseIf, _orElse_, check4to6, «measure»}
+use Rattle.rules.specs.Report.{allRoom}
+use Rattle.rules.specs.Stored.{Room, Reading, headerOf, blockCount, jobOf, blockVerdict, layoutVerdict, readVerdict, written, noHeader, reading}
+use Rattle.rules.proofs.Tests.{and-yes, not-no}
+use Rattle.rules.proofs.Verdicts.{chain-stop, chain-go, zero-of, passes-both, not-refused, measure-verdict, first-three}
+use Rattle.rules.proofs.SoundJob.{ok1-of, ok2-of}
+use Rattle.rules.proofs.Reading.{read-files, read-sides, read-marks, read-bounds, read-pins}
 use Rattle.stored.specs.Room.{roomOf}
-use Rattle.stored.specs.Steps.{Roomy, JobTaken, firstOf, Laid, Held, valueAt, sizeAt, sideAt, markAt, figuresVerdict, writtenIf, figuresOf}
-use Rattle.rules.proofs.Count.{length-tabled}
+use Rattle.stored.specs.Steps.{Roomy, JobTaken, firstOf, Laid, Held, figuresVerdict, writtenIf, figuresOf}
 use Rattle.stored.proofs.Filled.{taken-all}
-use Rattle.stored.proofs.Refusals.{refuse-go}
-use Rattle.stored.proofs.Tests.{and-both}
 
 -- ---- 4 to 6, by the measure of a job that passes 1 to 3
 
-pub measure-verdict : (most : Limits) (job : Job) → «measure» most job .verdict ≡ check1to6 most job true
-unfolding «measure»
-measure-verdict most job = go (isDone (check1to6 most job true)) refl
-  where
-    go : (b : Bool) → isDone (check1to6 most job true) ≡ b → «measure» most job .verdict ≡ check1to6 most job true
-    go true e = rw (e, «measure»)
-    go false e = rw (e, «measure»)
-
-pub held-first : (most : Limits) (job : Job) (room : Room) → Held most job room → check1to6 most job true ≡ check4to6 job
-unfolding check1to6 check1 check2 check3
-held-first most job room h =
-    let none : (eqb (fileCount job) 0 || eqb (recipeCount job) 0) ≡ false = simp (ne-eqb (fileCount job) 0 (λ e. omega arith), ne-eqb (recipeCount job) 0 (λ e. omega arith)) in
-    let over : (ltb (most .files) (fileCount job) || ltb (most .recipes) (recipeCount job) || ltb (most .pins) (pinCount job)) ≡ false =
-    simp (le-ltb (most .files) (fileCount job) (h .few-files), le-ltb (most .recipes) (recipeCount job) (h .few-recipes), le-ltb (most .pins) (pinCount job) (h .few-pins)) in
-    let long : (eqb (length (job .sides)) (fileCount job) && eqb (length (job .marks)) (fileCount job) && true) ≡ true =
-    and-both (and-both (eq-eqb (length (job .sides)) (fileCount job) (h .sides)) (eq-eqb (length (job .marks)) (fileCount job) (h .marks))) refl in
-    sym (refuse-go 1 0 none (refuse-go 2 0 over (refuse-go 3 0 (ap not long) refl)))
-
 pub held-verdict : {most : Limits} {job : Job} {m : Measure} (room : Room) → m ≡ «measure» most job → Held most job room → m .verdict ≡ check4to6 job
-held-verdict {most} {job} room e h = ap (λ (x : Measure). x .verdict) e ∙ measure-verdict most job ∙ held-first most job room h
+held-verdict {most} {job} room e h =
+    ap (λ (x : Measure). x .verdict) e ∙ measure-verdict most job
+    ∙ first-three most job (h .some-files) (h .some-recipes) (h .few-files) (h .few-recipes) (h .few-pins) (h .sides) (h .marks)
 
 -- ---- a layout that passes
-
-above-0 : (n : ℕ) → eqb n 0 ≡ false → 0 < n
-above-0 n e =
-    let z : n ≡ 0 → ⊥ = eqb-false n 0 e in
-    omega arith
 
 pub figures-tell : (most : Limits) (h : Header) (bytes : List ℕ) (room : Room) → figuresVerdict most h bytes room .number ≡ 0 → Laid most h bytes room
 figures-tell most h bytes room z =
@@ -60,20 +38,19 @@ figures-tell most h bytes room z =
     let b = passes-both _ _ (a .1) in
     let d = passes-both _ _ (b .1) in
     let e = passes-both _ _ (d .1) in
-    let some = or-no _ _ (not-refused _ 0 0 (a .0)) in
-    let over = or-no _ _ (not-refused _ 1 0 (b .0)) in
-    let over2 = or-no _ _ (over .0) in
+    let some = ok1-of (h .files) (h .recipes) (a .0) in
+    let few = ok2-of most (h .files) (h .recipes) (h .pins) (b .0) in
     let room5 = and-yes _ _ (not-no _ (not-refused _ 2 0 (d .0))) in
     let room4 = and-yes _ _ (room5 .0) in
     let room3 = and-yes _ _ (room4 .0) in
     let room2 = and-yes _ _ (room3 .0) in
     record {
       long = eqb-true (length bytes) (512 * blockCount h) (not-no _ (not-refused _ 19 0 (e .0)));
-      some-files = above-0 (h .files) (some .0);
-      some-recipes = above-0 (h .recipes) (some .1);
-      few-files = ltb-false (most .files) (h .files) (over2 .0);
-      few-recipes = ltb-false (most .recipes) (h .recipes) (over2 .1);
-      few-pins = ltb-false (most .pins) (h .pins) (over .1);
+      some-files = some .0;
+      some-recipes = some .1;
+      few-files = few .0;
+      few-recipes = few .1;
+      few-pins = few .2;
       roomy = record {
         sizes = leb-true (h .files) (length (room .sizes)) (room2 .0);
         sides = leb-true (h .files) (length (room .sides)) (room2 .1);
@@ -100,14 +77,12 @@ job-read bytes old new r t =
 
 -- its lists are as long as the header says, so it passes 1 to 3
 pub job-held : (most : Limits) (bytes : List ℕ) (room : Room) → Laid most (headerOf bytes) bytes room → Held most (jobOf bytes) room
-unfolding jobOf
 job-held most bytes room l =
-    let h : Header = headerOf bytes in
-    let s : length (map (sizeAt bytes) (upTo (h .files))) ≡ h .files = length-tabled (sizeAt bytes) (h .files) in
-    let d : length (map (sideAt bytes) (upTo (h .files))) ≡ h .files = length-tabled (sideAt bytes) (h .files) in
-    let m : length (map (markAt bytes) (upTo (h .files))) ≡ h .files = length-tabled (markAt bytes) (h .files) in
-    let b : length (map (valueAt bytes (boundsAt h)) (upTo (h .recipes + 1))) ≡ h .recipes + 1 = length-tabled (valueAt bytes (boundsAt h)) (h .recipes + 1) in
-    let p : length (map (valueAt bytes (pinsAt h)) (upTo (h .pins))) ≡ h .pins = length-tabled (valueAt bytes (pinsAt h)) (h .pins) in
+    let s = read-files bytes in
+    let d = read-sides bytes in
+    let m = read-marks bytes in
+    let b = read-bounds bytes in
+    let p = read-pins bytes in
     record {
       some-files = omega (arith, l .some-files);
       some-recipes = omega (arith, l .some-recipes);
@@ -125,10 +100,7 @@ job-held most bytes room l =
 
 -- ---- the reader's own lists, one entry for each that the limits allow
 
-abbrev pub ownOf : Limits → Room
-ownOf most = roomOf (replicate (most .files) 0) (replicate (most .files) 0) (replicate (most .files) 0) (replicate (most .recipes + 1) 0) (replicate (most .pins) 0)
-
-own-roomy : {most : Limits} {h : Header} {bytes : List ℕ} {room : Room} → Laid most h bytes room → Roomy h (ownOf most)
+own-roomy : {most : Limits} {h : Header} {bytes : List ℕ} {room : Room} → Laid most h bytes room → Roomy h (allRoom most)
 own-roomy {most} l = record {
   sizes = omega (arith, length-replicate {A = ℕ} (most .files) 0, l .few-files);
   sides = omega (arith, length-replicate {A = ℕ} (most .files) 0, l .few-files);
@@ -148,13 +120,13 @@ taken-roomy t r = record {
 
 -- k is the header that the reader has in hand
 module _ {most : Limits} {bytes : List ℕ} {room : Room} {k : Header} (e : k ≡ headerOf bytes) (l : Laid most (headerOf bytes) bytes room) where
-  pub own-ready : (512 * blockCount k ≤ length bytes) × Roomy k (ownOf most)
+  pub own-ready : (512 * blockCount k ≤ length bytes) × Roomy k (allRoom most)
   own-ready = rw e (omega (arith, l .long), own-roomy l)
 
-  pub first-read : {own : Room} → JobTaken bytes k (ownOf most) own → firstOf k own ≡ jobOf bytes
-  first-read {own} t = rw e (job-read bytes (ownOf most) own (own-roomy l) (rw e at t))
+  pub first-read : {own : Room} → JobTaken bytes k (allRoom most) own → firstOf k own ≡ jobOf bytes
+  first-read {own} t = rw e (job-read bytes (allRoom most) own (own-roomy l) (rw e at t))
 
-  pub first-ready : {own : Room} → JobTaken bytes k (ownOf most) own → Roomy k own × Held most (firstOf k own) room
+  pub first-ready : {own : Room} → JobTaken bytes k (allRoom most) own → Roomy k own × Held most (firstOf k own) room
   first-ready {own} t = (taken-roomy t (own-ready .1), rw (first-read t) (job-held most bytes room l))
 
 -- ---- the answers

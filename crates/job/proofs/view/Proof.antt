@@ -1,5 +1,5 @@
 use native.Mathlib.Omega.{arith}
-use Rattle.job.proofs.Views.{none-past, none-order, none-beyond, is-part}
+use Rattle.rules.proofs.Views.{none-past, none-order, none-beyond, is-part}
 use borrow.Author.Needs.{needs}
 use Rattle.job.proofs.view.Statement.{statement}
 use Rattle.job.proofs.view.Tie as tie

@@ -1,5 +1,3 @@
--- `job_cases::entries` is safe and ends. The loop's invariant: `i` is at most the list's length.
--- The measure is what is left of the list. Assumes nothing.
 use Prim.Native.Nat.{_≤_, _-_}
 use borrow.Author.Needs.{needs}
 use lib.ListN.{length}
@@ -15,14 +13,17 @@ abbrev μ-loop : tie.MeasureT-loop
 loop-holds : tie.Need-loop-holds Inv-loop μ-loop
 loop-holds c = search needs
 
-mul-entry : tie.Need-mul-entry Inv-loop μ-loop
-mul-entry c = search needs
+mul-wide : tie.Need-mul-wide Inv-loop μ-loop
+mul-wide c = search needs
 
-shared-slice-read-entry : tie.Need-shared-slice-read-entry Inv-loop μ-loop
-shared-slice-read-entry c = search needs
+shared-slice-read-wide : tie.Need-shared-slice-read-wide Inv-loop μ-loop
+shared-slice-read-wide c = search needs
 
-entry-requires : tie.Need-entry-requires Inv-loop μ-loop
-entry-requires c κs = search needs
+wide-requires : tie.Need-wide-requires Inv-loop μ-loop
+wide-requires c κs = search needs
+
+next-requires : tie.Need-next-requires Inv-loop μ-loop
+next-requires c κs = search needs
 
 add-i : tie.Need-add-i Inv-loop μ-loop
 add-i c = search needs
@@ -43,9 +44,10 @@ entries-spec =
     Inv-loop
     μ-loop
     loop-holds
-    mul-entry
-    shared-slice-read-entry
-    entry-requires
+    mul-wide
+    shared-slice-read-wide
+    wide-requires
+    next-requires
     add-i
     loop-less
     loop-again

@@ -35,7 +35,7 @@ returns c =
     let r = c .before .before .before .before .before .before .before .before .before .before .before .before .read in
     let p = c .before .before .print-refusal .ensures in
     let e = refusal-printed (c .before .before .before .before .before .before .before .before .before .before .before .before .before .before .before .before .before .before .before .before .args .traced) (limitsOf _ _ _ _) _ (r .result) _ (r .ensures .0) (r .ensures .1) _ (c .before .before .before .before .before .before .before .before .before .before .before .before .before .before .before .before .before .before .before .before .args .out .now) _ (c .before .before .before .before .if1 .taken) (p .0) in
-    (e .0, (λ long. p .1 (either (c .before .before .before .before .before .before .before .before .before .before .before .before .before .before .before .before .before .before .before .before .args .traced) _ _ _ (omega arith) long), e .1))
+    (e .0, ((λ long. p .1 (either (c .before .before .before .before .before .before .before .before .before .before .before .before .before .before .before .before .before .before .before .before .args .traced) _ _ _ (omega arith) long), e .1), omega arith))
 
 slice-aggregate-print-first : tie.Need-slice-aggregate-print-first
 slice-aggregate-print-first c = search needs
@@ -66,7 +66,7 @@ returns-2 c =
     let r = c .before .before .before .before .before .before .before .before .before .before .before .before .before .before .before .before .before .before .read in
     let p = c .before .before .before .print-first .ensures in
     let e = run-read (c .before .before .before .before .before .before .before .before .before .before .before .before .before .before .before .before .before .before .before .before .before .before .before .before .before .before .args .traced) (limitsOf _ _ _ _) _ (r .result) _ (r .ensures .0) (r .ensures .1) (c .before .before .before .before .before .before .before .before .before .before .if1 .left) _ (c .before .before .before .before .before .before .before .before .before .before .before .before .before .before .before .before .before .before .before .before .before .before .before .before .before .before .args .out .now) _ (p .0) in
-    (e .0, (p .1, e .1))
+    (e .0, ((p .1, e .1), omega arith))
 
 pub answer-spec : {M : Type 1} → statement M
 answer-spec =

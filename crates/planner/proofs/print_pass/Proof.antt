@@ -1,4 +1,4 @@
-use Rattle.planner.proofs.Telling.{take-replicate}
+use Rattle.rules.proofs.Entries.{take-replicate}
 use mathlib.Core.Path.{sym}
 use native.Mathlib.Omega.{arith}
 use lib.Seq.{length-take-le}

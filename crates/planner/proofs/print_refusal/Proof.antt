@@ -2,7 +2,8 @@ use mathlib.Core.Path.{refl}
 use native.Mathlib.Omega.{arith}
 use Rattle.rules.specs.Job.{limitsOf}
 use Rattle.rules.specs.Report.{refusal}
-use Rattle.planner.proofs.Telling.{refusal-told, into-number}
+use Rattle.rules.proofs.Reports.{into-number}
+use Rattle.planner.proofs.Telling.{refusal-told}
 use borrow.Author.Needs.{needs}
 use Rattle.planner.proofs.print_refusal.Statement.{statement}
 use Rattle.planner.proofs.print_refusal.Tie as tie

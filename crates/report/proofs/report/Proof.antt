@@ -1,6 +1,7 @@
 use mathlib.Core.Path.{sym, _∙_}
 use native.Mathlib.Omega.{arith}
-use Rattle.report.proofs.Printings.{reporting-refusal, reporting-figures}
+use Rattle.rules.proofs.Reports.{reporting-refusal}
+use Rattle.report.proofs.Printings.{reporting-figures}
 use borrow.Author.Needs.{needs}
 use Rattle.report.proofs.report.Statement.{statement}
 use Rattle.report.proofs.report.Tie as tie

@@ -1,6 +1,7 @@
 use mathlib.Core.Path.{sym, _∙_}
 use native.Mathlib.Omega.{arith}
-use Rattle.report.proofs.Printings.{tracing-refusal, tracing-pass}
+use Rattle.rules.proofs.Reports.{tracing-refusal}
+use Rattle.report.proofs.Printings.{tracing-pass}
 use borrow.Author.Needs.{needs}
 use Rattle.report.proofs.trace.Statement.{statement}
 use Rattle.report.proofs.trace.Tie as tie

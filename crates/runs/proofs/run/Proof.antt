@@ -4,7 +4,7 @@ use Prim.Native.Nat.{ℕ}
 use mathlib.Core.List.{List}
 use native.Mathlib.Omega.{arith}
 use Rattle.rules.specs.Job.{Job, Limits, limitsOf, asJob, Lent, lentOf}
-use Rattle.split.proofs.Accepting.{Narrow}
+use Rattle.tables.proofs.Accepted.{Narrow}
 use Rattle.runs.proofs.PassAfterPass.{Alike}
 use Rattle.runs.proofs.RunOn.{Onward, before-first, toGo, Turned, turned, alike, ended}
 use Rattle.runs.proofs.run.Statement.{statement}

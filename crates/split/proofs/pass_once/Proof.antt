@@ -1,21 +1,49 @@
--- The survey's answer decides: refused, nothing changes; let through, what is prepared and played is the pass. Assumes nothing.
-use mathlib.Core.Path.{_≡_, ap, ap₂, _∙_}
+-- The answer of the check decides: refused, nothing changes; let through, the moves are made one after the other and the lists ended.
+-- The invariant: whatever pass the lists were in when the moves began, it is underway. Assumes nothing.
+use mathlib.Core.Path.{_≡_, refl, ap, _∙_}
+use Prim.Native.Nat.{ℕ, _-_, _<_}
 use native.Mathlib.Omega.{arith}
-use borrow.Author.Needs.{needs}
+use lib.IntN.{pos}
+use lib.ListN.{length, getD, set}
 use Rattle.rules.specs.Job.{Job, Limits, Lent, asJob, lentOf}
+use Rattle.rules.specs.Pass.{tries}
 use Rattle.split.specs.declared.progress.Progress.{Progress}
-use Rattle.split.specs.Moving.{Board, board, begun}
-use Rattle.split.specs.Playing.{Playable, Origin, Underway, sizeAtStart, cutAtStart}
-use Rattle.split.proofs.Accepting.{Surveyed, surveyed, size-is, cut-is, sums-small, playable, pass-refused, pass-done}
-use Rattle.split.proofs.PassOnce.{prepare-safe, moves-safe}
+use Rattle.split.specs.Scanning.{Treated, treated}
+use Rattle.split.specs.Moving.{Board, board, treatMove, moveOne}
+use Rattle.split.proofs.Going.{Going}
+use Rattle.split.proofs.Playable.{Playable}
+use Rattle.split.proofs.MoveNow.{Turns}
+use Rattle.split.proofs.OneMove.{steps-move}
+use Rattle.split.proofs.Played.{same-below, below-less, one-less, Underway, under-long, sides-stay, gains-stay, choosable, playing-next, playing-gain, playing-safe, playing-turns, playing-more, playing-goes, playing-end}
+use Rattle.split.proofs.PassOnce.{first-under, few-numbers, pass-ends}
+use Rattle.split.proofs.Accepting.{Surveyed, surveyed, cut-is, begins-as, sums-small, playable, pass-refused, pass-done}
 use Rattle.split.proofs.pass_once.Statement.{statement}
 use Rattle.split.proofs.pass_once.Tie as tie
 
--- ---- once the job is surveyed
+abbrev Inv-loop : tie.InvT-loop
+Inv-loop sizes sides₀ marks bounds pins gains₀ tried₀ gained₀ cuts₀ ends₀ recipes₀ kinds₀ scratch₀ s window c p₀ sides gains tried gained cuts ends recipes kinds scratch p =
+    (num den cap : ℕ) (l : Lent)
+    → Underway (asJob sizes sides₀ marks bounds pins num den cap) l window (board sides₀ tried₀ gained₀ cuts₀ ends₀ scratch₀ gains₀ recipes₀ kinds₀ p₀)
+    → Underway (asJob sizes sides₀ marks bounds pins num den cap) l window (board sides tried gained cuts ends scratch gains recipes kinds p)
 
-module _ (t : tie.After-survey) where
-  abbrev s : tie.Start
-  s = t .before .before .before .before .before .before .before .before .before .before .before .before .before .before
+abbrev μ-loop : tie.MeasureT-loop
+μ-loop sizes sides₀ marks bounds pins gains₀ tried₀ gained₀ cuts₀ ends₀ recipes₀ kinds₀ scratch₀ s window c p₀ sides gains tried gained cuts ends recipes kinds scratch p =
+    length sizes - p .moves
+
+abbrev At : Type 0
+At = tie.At-loop Inv-loop μ-loop
+
+abbrev Chosen : Type 0
+Chosen = tie.After-choose Inv-loop μ-loop
+
+abbrev Treats : Type 0
+Treats = tie.After-treat-move Inv-loop μ-loop
+
+-- ---- once the lists are laid out
+
+module _ (t : tie.After-lay-out Inv-loop μ-loop) where
+  abbrev s : tie.Start Inv-loop μ-loop
+  s = t .before .before .before .before .before .before .before .before .before .before .before .before .before .before .before
 
   abbrev job : Job
   job =
@@ -27,128 +55,254 @@ module _ (t : tie.After-survey) where
       lentOf (s .args .gains .now) (s .args .tried .now) (s .args .gained .now) (s .args .cuts .now) (s .args .ends .now)
       (s .args .recipes .now) (s .args .kinds .now) (s .args .scratch .now)
 
-  abbrev origin : Origin
-  origin = record {
-    sides = s .args .sides .now;
-    marks = s .args .marks .now;
-    num = s .args .job .num;
-    den = s .args .job .den;
-    cap = s .args .job .cap;
-    lent = lists;
-  }
-
-  -- the job's own limits, and what the survey tells by them
-  abbrev known : (most : Limits) × Surveyed most job lists (t .survey .result)
+  -- the job's own limits, and the answer by them
+  abbrev known : (most : Limits) × Surveyed most job lists (t .lay-out .last .1 .1 .1 .1 .1 .1 .0) (t .lay-out .last .1 .1 .1 .1 .1 .1 .1 .0) (t .lay-out .result)
   known = (
     _,
-    surveyed _ job lists _ (record { files = omega arith; recipes = omega arith; pins = omega arith; den = omega arith })
-        (λ i. omega (arith, t .before .before .before .before .before .before .before .before .before .before .before .before .before .shared-slice-known .given i)) (t .before .before .lists-fit .ensures) (t .survey .ensures),
+    surveyed _ job lists (t .lay-out .ensures) (record { files = omega arith; recipes = omega arith; pins = omega arith; den = omega arith })
+        (λ i. omega (arith, t .before .before .before .before .before .before .before .before .before .before .before .before .before .before .shared-slice-known .given i)),
   )
 
--- ---- once it is let through
+-- the answer, by the limits
+survey : (t : tie.After-lay-out Inv-loop μ-loop)
+    → Surveyed (known t .0) (job t) (lists t) (t .lay-out .last .1 .1 .1 .1 .1 .1 .0) (t .lay-out .last .1 .1 .1 .1 .1 .1 .1 .0) (t .lay-out .result)
+survey t = known t .1
 
-abbrev surveyOf : tie.After-window-of → tie.After-survey
-surveyOf w = w .before .before .before .before
+lay-out-requires : tie.Need-lay-out-requires Inv-loop μ-loop
+lay-out-requires c κs = tt
 
-plays : (w : tie.After-window-of) → Playable (job (surveyOf w)) (lists (surveyOf w)) (w .window-of .result)
-plays w = playable (known (surveyOf w) .1) (w .before .if1 .left) (w .window-of .ensures)
+refused-requires : tie.Need-refused-requires Inv-loop μ-loop
+refused-requires c κs = tt
 
--- ---- once the scratch is prepared
+same-length : tie.Need-same-length Inv-loop μ-loop
+same-length c = refl
 
-module _ (p : tie.After-prepare) where
-  abbrev w : tie.After-window-of
-  w = p .before .before .before .before .before
+same-length-2 : tie.Need-same-length-2 Inv-loop μ-loop
+same-length-2 c = c .before .before .before .before .before .before .before .lay-out .kept .1 .1 .1 .1 .1 .1 .0
 
-  abbrev t : tie.After-survey
-  t = surveyOf w
+same-length-3 : tie.Need-same-length-3 Inv-loop μ-loop
+same-length-3 c = c .before .before .before .before .before .before .before .lay-out .kept .1 .1 .1 .1 .1 .1 .1 .0
 
-  abbrev first : Board
-  first =
-      board (s t .args .sides .now) (s t .args .tried .now) (s t .args .gained .now) (s t .args .cuts .now) (s t .args .ends .now) (p .prepare .last .1 .0) (p .prepare .last .0)
-      (s t .args .recipes .now) (s t .args .kinds .now) (p .before .before .before .before .new .result)
+returns : tie.Need-returns Inv-loop μ-loop
+returns c = pass-refused (survey (c .before .before .before .before .before .before .before)) (c .before .if1 .taken) (c .refused .ensures)
 
-  begins : p .before .before .before .before .new .result ≡ begun (sizeAtStart (job t)) (cutAtStart (job t))
-  begins = p .before .before .before .before .new .ensures ∙ ap₂ begun (size-is (known t .1) (w .before .if1 .left)) (cut-is (known t .1) (w .before .if1 .left))
+-- ---- once the job is let through
 
-  under : Underway (s t .args .sizes .now) (s t .args .bounds .now) (s t .args .pins .now) (w .window-of .result) (origin t) first
-  under = record { playable = plays w; going = moves-safe (plays w) (p .prepare .last .1 .0) (p .prepare .last .0) (p .prepare .ensures) (p .before .before .before .before .new .result) begins }
+module _ (n : tie.After-new Inv-loop μ-loop) where
+  abbrev laid : tie.After-lay-out Inv-loop μ-loop
+  laid = n .before .before .before .before .before .before .before .before
 
-lists-fit-requires : tie.Need-lists-fit-requires
-lists-fit-requires c κs = search needs
+  clear : laid .lay-out .result .verdict .number ≡ 0
+  clear = n .before .before .if1 .left
 
-survey-requires : tie.Need-survey-requires
-survey-requires c κs = search needs
+  plays : Playable (job laid) (lists laid) (n .before .window-of .result)
+  plays = playable (survey laid) clear (n .before .window-of .ensures)
 
-refused-requires : tie.Need-refused-requires
-refused-requires c κs = search needs
+  -- as the moves begin
+  abbrev starts : Board
+  starts =
+      board (s laid .args .sides .now) (s laid .args .tried .now) (s laid .args .gained .now) (s laid .args .cuts .now) (s laid .args .ends .now)
+      (laid .lay-out .last .1 .1 .1 .1 .1 .1 .1 .0) (laid .lay-out .last .1 .1 .1 .1 .1 .1 .0) (s laid .args .recipes .now) (s laid .args .kinds .now) (n .new .result)
 
-same-length : tie.Need-same-length
-same-length c = search needs
+  begins : Underway (job laid) (lists laid) (n .before .window-of .result) starts
+  begins = first-under plays (survey laid .lays .laid clear) (begins-as (survey laid) clear (n .new .ensures))
 
-returns : tie.Need-returns
-returns c = pass-refused (known (c .before .before .before .before) .1) (c .before .if1 .taken) (c .refused .ensures)
+-- ---- between two moves
 
-window-of-requires : tie.Need-window-of-requires
-window-of-requires c κs = sums-small (known (c .before .before .before) .1) (c .if1 .left)
+module _ (a : At) where
+  abbrev here : tie.After-lay-out Inv-loop μ-loop
+  here = laid (a .before)
 
-new-requires : tie.Need-new-requires
-new-requires c κs = search needs
+  abbrev args : tie.Start Inv-loop μ-loop
+  args = s here
 
-prepare-requires : tie.Need-prepare-requires
-prepare-requires c κs = prepare-safe (plays (c .before .before .before .before))
+  abbrev stands : Board
+  stands =
+      board (a .loop .sides) (a .loop .tried) (a .loop .gained) (a .loop .cuts) (a .loop .ends) (a .loop .scratch) (a .loop .gains) (a .loop .recipes) (a .loop .kinds) (a .loop .p)
 
-play-requires : tie.Need-play-requires
-play-requires c κs = let p = c .before .before .before .before .before .before .before .before .before .before .before .before in (origin (t p), under p)
+  now : Underway (job here) (lists here) (a .before .before .window-of .result) stands
+  now = a .loop .inv (args .args .job .num) (args .args .job .den) (args .args .job .cap) (lists here) (begins (a .before))
 
-same-length-2 : tie.Need-same-length-2
-same-length-2 c = c .before .before .before .before .before .before .before .before .before .before .before .before .before .before .before .before .play .kept .1 .1 .0
+-- ---- once the move is chosen
 
-same-length-3 : tie.Need-same-length-3
-same-length-3 c = c .before .before .before .before .before .before .before .before .before .before .before .before .before .before .before .before .play .kept .1 .1 .1 .1 .1 .0 ∙ c .before .before .before .before .before .before .before .before .before .before .before .before .before .before .before .before .before .before .before .before .before .before .before .before .before .before .before .before .before .prepare .kept .0
+module _ (k : Chosen) where
+  abbrev at : At
+  at = k .before .before .before .before
 
-same-length-4 : tie.Need-same-length-4
-same-length-4 c = c .before .before .before .before .before .before .before .before .before .before .before .before .before .before .before .before .play .kept .1 .1 .1 .1 .1 .1 .0
+  abbrev f : ℕ
+  f = k .choose .result .file
 
-same-length-5 : tie.Need-same-length-5
-same-length-5 c = c .before .before .before .before .before .before .before .before .before .before .before .before .before .before .before .before .play .kept .1 .1 .1 .1 .1 .1 .1 .0
+  turns : f < length (args at .args .sizes .now) → Turns (args at .args .sizes .now) (args at .args .bounds .now) (args at .args .pins .now) f (stands at)
+  turns h = playing-turns (now at) (k .choose .ensures) h
 
-same-length-6 : tie.Need-same-length-6
-same-length-6 c = c .before .before .before .before .before .before .before .before .before .before .before .before .before .before .before .before .play .kept .1 .1 .1 .1 .1 .1 .1 .1 .0
+-- ---- once no move is left
 
-same-length-7 : tie.Need-same-length-7
-same-length-7 c = c .before .before .before .before .before .before .before .before .before .before .before .before .before .before .before .before .play .kept .1 .1 .1 .1 .1 .1 .1 .1 .1 .0
+over : (i : tie.Then2 Inv-loop μ-loop) → let j = job (here (at (i .before))) in Going j (lists (here (at (i .before)))) (length (tries j (j .sides))) (stands (at (i .before)))
+over i = playing-end (now (at (i .before))) (i .before .choose .ensures) (i .if2 .taken)
 
-same-length-8 : tie.Need-same-length-8
-same-length-8 c = c .before .before .before .before .before .before .before .before .before .before .before .before .before .before .before .before .play .kept .1 .1 .1 .1 .1 .1 .1 .1 .1 .1 .0
+-- ---- once its recipes are treated
 
-same-length-9 : tie.Need-same-length-9
-same-length-9 c = c .before .before .before .before .before .before .before .before .before .before .before .before .before .before .before .before .play .kept .1 .1 .1 .1 .1 .1 .1 .1 .1 .1 .1 .0
+module _ (t : Treats) where
+  abbrev goesOn : tie.Else2 Inv-loop μ-loop
+  goesOn = t .before .before .before .before .before .before .before .before .before .before .before .before
 
-same-length-10 : tie.Need-same-length-10
-same-length-10 c = c .before .before .before .before .before .before .before .before .before .before .before .before .before .before .before .before .play .kept .1 .1 .1 .1 .1 .1 .1 .1 .1 .1 .1 .1 .0 ∙ c .before .before .before .before .before .before .before .before .before .before .before .before .before .before .before .before .before .before .before .before .before .before .before .before .before .before .before .before .before .prepare .kept .1 .0
+  abbrev choice : Chosen
+  choice = goesOn .before
 
-returns-2 : tie.Need-returns-2
+  abbrev a : At
+  a = at choice
+
+  abbrev left : Treated
+  left =
+      treated (t .treat-move .last .1 .1 .1 .1 .1 .1 .1 .0) (t .treat-move .last .1 .1 .1 .1 .0) (t .treat-move .last .1 .1 .1 .1 .1 .0)
+      (t .treat-move .last .1 .1 .1 .1 .1 .1 .0) (t .treat-move .result)
+
+  left-is : left ≡ treatMove (args a .args .sizes .now) (args a .args .bounds .now) (args a .args .pins .now) (f choice) (stands a)
+  left-is = t .treat-move .ensures .1
+
+  number : (of : Progress → ℕ) → of (t .treat-move .result) ≡ of (treatMove (args a .args .sizes .now) (args a .args .bounds .now) (args a .args .pins .now) (f choice) (stands a) .scanned .progress)
+  number of = ap (λ (y : Treated). of (y .scanned .progress)) left-is
+
+  gained-is : t .before .before .before .before .before .before .before .before .before .note-choice .last .1 .0 ≡ set (a .loop .gained) (a .loop .p .moves) (getD (a .loop .gains) (f choice) (pos 0))
+  gained-is = t .before .before .before .before .before .before .before .before .before .note-choice .ensures .1 ∙ ap (set (a .loop .gained) (a .loop .p .moves)) (playing-gain (now a) (choice .choose .ensures) (goesOn .if2 .left))
+
+-- ---- once it is noted
+
+module _ (n : tie.After-note-end Inv-loop μ-loop) where
+  abbrev t : Treats
+  t = n .before .before .before .before .before .before .before .before .before .before .before .before
+
+  abbrev leaves : Board
+  leaves =
+      board (t .treat-move .last .1 .0) (t .before .before .before .before .before .before .before .before .before .note-choice .last .0) (t .before .before .before .before .before .before .before .before .before .note-choice .last .1 .0) (n .note-end .last .0) (n .note-end .last .1 .0)
+      (left t .scratch) (left t .scanned .gains) (left t .scanned .recipes) (left t .scanned .kinds) (n .note-end .result)
+
+  made : leaves ≡ moveOne (args (a t) .args .sizes .now) (args (a t) .args .bounds .now) (args (a t) .args .pins .now) (f (choice t)) (stands (a t))
+  made =
+      steps-move (args (a t) .args .sizes .now) (args (a t) .args .bounds .now) (args (a t) .args .pins .now) (f (choice t)) (stands (a t)) {y = left t}
+      (t .treat-move .ensures .0) (t .before .before .before .before .before .before .before .before .before .note-choice .ensures .0) (gained-is t) (left-is t) (n .note-end .ensures .0) (n .note-end .ensures .1) (n .note-end .ensures .2)
+
+window-of-requires : tie.Need-window-of-requires Inv-loop μ-loop
+window-of-requires c κs = sums-small (survey (c .before .before .before .before .before .before)) (c .if1 .left)
+
+new-requires : tie.Need-new-requires Inv-loop μ-loop
+new-requires c κs = tt
+
+loop-holds : tie.Need-loop-holds Inv-loop μ-loop
+loop-holds c num den cap l u = u
+
+choose-requires : tie.Need-choose-requires Inv-loop μ-loop
+choose-requires c κs = let o = choosable (now (c .before .before .before)) in ((o .sides, o .gains, o .locks), ((o .den, o .size), o .holds))
+
+keep-best-requires : tie.Need-keep-best-requires Inv-loop μ-loop
+keep-best-requires c κs = tt
+
+end-moves-requires : tie.Need-end-moves-requires Inv-loop μ-loop
+end-moves-requires c κs = tt
+
+recipe-count-requires : tie.Need-recipe-count-requires Inv-loop μ-loop
+recipe-count-requires c κs = tt
+
+room-of-requires : tie.Need-room-of-requires Inv-loop μ-loop
+room-of-requires c κs = few-numbers (plays (c .before .before .before .before .before .before .before .before .before .before .before .before .before .before .before .before .before .before .before .before .before .before .before .before)) (c .recipe-count .ensures)
+
+end-scans-requires : tie.Need-end-scans-requires Inv-loop μ-loop
+end-scans-requires c κs = tt
+
+same-length-4 : tie.Need-same-length-4 Inv-loop μ-loop
+same-length-4 c = c .before .before .before .before .before .before .before .before .before .before .before .before .before .before .before .before .before .before .before .before .before .before .before .before .before .before .keep-best .kept .0 ∙ sides-stay (now (c .before .before .before .before .before .before .before .before .before .before .before .before .before .before .before .before .before .before .before .before .before .before .before .before .before .before .before .before .before .before .before .before .before .before))
+
+same-length-5 : tie.Need-same-length-5 Inv-loop μ-loop
+same-length-5 c = gains-stay (now (c .before .before .before .before .before .before .before .before .before .before .before .before .before .before .before .before .before .before .before .before .before .before .before .before .before .before .before .before .before .before .before .before .before .before))
+
+same-length-6 : tie.Need-same-length-6 Inv-loop μ-loop
+same-length-6 c = c .before .before .before .before .before .before .before .before .before .before .before .before .before .before .before .before .before .before .before .end-moves .kept .0 ∙ under-long (now (c .before .before .before .before .before .before .before .before .before .before .before .before .before .before .before .before .before .before .before .before .before .before .before .before .before .before .before .before .before .before .before .before .before .before)) .tried
+
+same-length-7 : tie.Need-same-length-7 Inv-loop μ-loop
+same-length-7 c = c .before .before .before .before .before .before .before .before .before .before .before .before .before .before .before .before .before .before .before .end-moves .kept .1 .0 ∙ under-long (now (c .before .before .before .before .before .before .before .before .before .before .before .before .before .before .before .before .before .before .before .before .before .before .before .before .before .before .before .before .before .before .before .before .before .before)) .gained
+
+same-length-8 : tie.Need-same-length-8 Inv-loop μ-loop
+same-length-8 c = c .before .before .before .before .before .before .before .before .before .before .before .before .before .before .before .before .before .before .before .end-moves .kept .1 .1 .0 ∙ under-long (now (c .before .before .before .before .before .before .before .before .before .before .before .before .before .before .before .before .before .before .before .before .before .before .before .before .before .before .before .before .before .before .before .before .before .before)) .cuts
+
+same-length-9 : tie.Need-same-length-9 Inv-loop μ-loop
+same-length-9 c = c .before .before .before .before .before .before .before .before .before .before .before .before .before .before .before .before .before .before .before .end-moves .kept .1 .1 .1 .0 ∙ under-long (now (c .before .before .before .before .before .before .before .before .before .before .before .before .before .before .before .before .before .before .before .before .before .before .before .before .before .before .before .before .before .before .before .before .before .before)) .scansSoFar
+
+same-length-10 : tie.Need-same-length-10 Inv-loop μ-loop
+same-length-10 c = c .before .before .before .before .before .before .end-scans .kept .0 ∙ under-long (now (c .before .before .before .before .before .before .before .before .before .before .before .before .before .before .before .before .before .before .before .before .before .before .before .before .before .before .before .before .before .before .before .before .before .before)) .scannedRecipes
+
+same-length-11 : tie.Need-same-length-11 Inv-loop μ-loop
+same-length-11 c = c .before .before .before .before .before .before .end-scans .kept .1 .0 ∙ under-long (now (c .before .before .before .before .before .before .before .before .before .before .before .before .before .before .before .before .before .before .before .before .before .before .before .before .before .before .before .before .before .before .before .before .before .before)) .scannedKinds
+
+same-length-12 : tie.Need-same-length-12 Inv-loop μ-loop
+same-length-12 c = c .before .before .before .before .before .before .end-scans .kept .1 .1 .0 ∙ under-long (now (c .before .before .before .before .before .before .before .before .before .before .before .before .before .before .before .before .before .before .before .before .before .before .before .before .before .before .before .before .before .before .before .before .before .before)) .scratch
+
+returns-2 : tie.Need-returns-2 Inv-loop μ-loop
 returns-2 c =
-    let m = c .before .before .before .before .before .before .before .before .before .before .before .before .before .before .before .before in
-    let p = m .before .before .before .before .before .before .before .before .before .before .before .before .before in
-    let v = t p in
-    pass-done (known v .1) (w p .before .if1 .left) (m .play .ensures (origin v) (under p) (ap (λ (q : Progress). q .cut) (begins p)))
+    let a = c .before .before .before .before .before .before .before .before .before .before .before .before .before .before .before .before .before .before .before .before .before .before .before .before .before .before .before .before .before .before .before .before .before .before in
+    let known = survey (here a) in
+    let clear = clear (a .before) in
+    pass-done known clear
+    (pass-ends (now a .playable) (over (c .before .before .before .before .before .before .before .before .before .before .before .before .before .before .before .before .before .before .before .before .before .before .before .before .before .before .before .before .before)) (cut-is known clear) (c .before .before .before .before .before .before .before .before .before .before .before .before .before .before .before .before .before .before .before .before .before .before .before .before .before .before .keep-best .ensures) (c .before .before .before .before .before .before .before .before .before .before .before .before .before .before .before .before .before .before .before .end-moves .ensures) (c .before .before .before .before .before .before .before .before .before .before .before .recipe-count .ensures) (c .before .before .before .before .before .before .before .before .before .before .room-of .ensures) (c .before .before .before .before .before .before .end-scans .ensures))
+
+note-choice-requires : tie.Need-note-choice-requires Inv-loop μ-loop
+note-choice-requires c κs =
+    let i = c .before .before in
+    let m = turns (i .before) (i .if2 .left) in
+    (m .tried, m .gained, below-less (i .if2 .left) (now (at (i .before)) .playable .small .files))
+
+treat-move-requires : tie.Need-treat-move-requires Inv-loop μ-loop
+treat-move-requires c κs = let i = c .before .before .before .before .before .before .before .before .before .before .before in playing-safe (now (at (i .before))) (i .before .choose .ensures) (i .if2 .left)
+
+note-end-requires : tie.Need-note-end-requires Inv-loop μ-loop
+note-end-requires c κs =
+    let t = c .before .before .before .before .before .before .before .before .before .before .before in
+    let m = turns (choice t) (goesOn t .if2 .left) in (
+      m .cuts,
+      m .ends,
+      same-below (number t (λ p. p .cut)) (m .cut),
+      same-below (number t (λ p. p .scans)) (m .scans),
+      same-below (number t (λ p. p .moves)) (m .moves),
+    )
+
+loop-less : tie.Need-loop-less Inv-loop μ-loop
+loop-less c =
+    let n = c .before .before .before .before in
+    let k = choice (t n) in
+    let h = goesOn (t n) .if2 .left in
+    one-less (playing-next (now (at k)) (k .choose .ensures) h .early) (playing-more (now (at k)) (k .choose .ensures) h {b' = leaves n} (made n))
+
+-- whatever pass was underway when the moves began
+module _ (n : tie.After-note-end Inv-loop μ-loop) (num den cap : ℕ) (l : Lent) where
+  abbrev any : Job
+  any = let g = args (a (t n)) .args in asJob (g .sizes .now) (g .sides .now) (g .marks .now) (g .bounds .now) (g .pins .now) num den cap
+
+  goes : Underway any l (a (t n) .before .before .window-of .result) (starts (a (t n) .before)) → Underway any l (a (t n) .before .before .window-of .result) (leaves n)
+  goes u = playing-goes (a (t n) .loop .inv num den cap l u) (choice (t n) .choose .ensures) (goesOn (t n) .if2 .left) {b' = leaves n} (made n)
+
+loop-again : tie.Need-loop-again Inv-loop μ-loop
+loop-again c num den cap l u = goes (c .before .before .before .before) num den cap l u
 
 pub pass-once-spec : {M : Type 1} → statement M
 pass-once-spec =
     tie.close
     (tie.spec
-    lists-fit-requires
-    survey-requires
+    Inv-loop
+    μ-loop
+    lay-out-requires
     refused-requires
     same-length
+    same-length-2
+    same-length-3
     returns
     window-of-requires
     new-requires
-    prepare-requires
-    play-requires
-    same-length-2
-    same-length-3
+    loop-holds
+    choose-requires
+    keep-best-requires
+    end-moves-requires
+    recipe-count-requires
+    room-of-requires
+    end-scans-requires
     same-length-4
     same-length-5
     same-length-6
@@ -156,4 +310,11 @@ pass-once-spec =
     same-length-8
     same-length-9
     same-length-10
-    returns-2)
+    same-length-11
+    same-length-12
+    returns-2
+    note-choice-requires
+    treat-move-requires
+    note-end-requires
+    loop-less
+    loop-again)

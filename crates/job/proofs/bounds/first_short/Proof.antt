@@ -5,7 +5,7 @@ use native.Mathlib.Numerals.{add-one}
 use borrow.Author.Tests.{lt-ltb, le-ltb}
 use Rattle.rules.specs.Check.{short}
 use Rattle.job.specs.Parts.{ofRecipes}
-use Rattle.job.proofs.Search.{Passed, passed-none, passed-more, passed-hit, passed-end}
+use Rattle.rules.proofs.Searches.{Passed, passed-none, passed-more, passed-hit, passed-end}
 use borrow.Author.Needs.{needs}
 use Rattle.job.proofs.bounds.first_short.Statement.{statement}
 use Rattle.job.proofs.bounds.first_short.Tie as tie

@@ -3,21 +3,21 @@ use Prim.Native.Nat.{ℕ, _-_, _+_}
 use native.Mathlib.Omega.{arith}
 use lib.ListN.{length, getD}
 use lib.Dec.{eqb}
-use Rattle.rules.specs.Lists.{bit}
+use Rattle.rules.specs.Lists.{bit, count}
 use Rattle.rules.specs.Split.{onSide, countOn}
-use Rattle.job.proofs.Tally.{Tallied, tallied-none, tallied-more, tallied-end, count-entries}
+use Rattle.rules.proofs.Count.{bit-le, count-entries, Summed, summed-none, summed-more, summed-end}
 use borrow.Author.Needs.{needs}
 use Rattle.job.proofs.figures.count_on.Statement.{statement}
 use Rattle.job.proofs.figures.count_on.Tie as tie
 
 abbrev Inv-loop : tie.InvT-loop
-Inv-loop sides side recipe x₀ i₀ x i = Tallied (λ k. onSide sides side (getD recipe k 0)) (length recipe) i x
+Inv-loop sides side recipe x₀ i₀ x i = Summed (λ k. bit (onSide sides side (getD recipe k 0))) 1 (length recipe) i x
 
 abbrev μ-loop : tie.MeasureT-loop
 μ-loop sides side recipe x₀ i₀ x i = length recipe - i
 
 loop-holds : tie.Need-loop-holds Inv-loop μ-loop
-loop-holds c = tallied-none
+loop-holds c = summed-none
 
 mul-wide : tie.Need-mul-wide Inv-loop μ-loop
 mul-wide c = search needs
@@ -50,15 +50,16 @@ loop-again : tie.Need-loop-again Inv-loop μ-loop
 loop-again c =
     let l = c .before .before .before .before .before in
     let a = l .before .before .before .args in
-    tallied-more (l .loop .inv) _ (omega arith)
+    summed-more (l .loop .inv) _ (omega arith)
     (ap (λ (k : ℕ). l .loop .x + k)
     (c .bit .ensures .0 ∙ ap (λ (f : ℕ). bit (eqb (getD (a .sides .now) f 0) (a .side))) (c .before .before .wide .ensures)))
+    (bit-le (onSide (a .sides .now) (a .side) (getD (a .recipe .now) (l .loop .i) 0)))
 
 returns : tie.Need-returns Inv-loop μ-loop
-unfolding countOn
+unfolding countOn count
 returns c =
     let a = c .before .before .before .before .args in
-    tallied-end (c .before .loop .inv) (omega arith) ∙ count-entries (onSide (a .sides .now) (a .side)) (a .recipe .now)
+    summed-end (c .before .loop .inv) (omega arith) ∙ count-entries (onSide (a .sides .now) (a .side)) (a .recipe .now)
 
 pub count-on-spec : {M : Type 1} → statement M
 count-on-spec =

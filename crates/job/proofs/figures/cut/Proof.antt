@@ -1,17 +1,17 @@
 use mathlib.Core.Path.{ap, _∙_}
 use Prim.Native.Nat.{ℕ, _+_, _-_}
 use native.Mathlib.Omega.{arith}
-use Rattle.rules.specs.Lists.{bit}
+use Rattle.rules.specs.Lists.{bit, count}
 use Rattle.rules.specs.Job.{viewOf, views}
 use Rattle.rules.specs.Split.{isCut, cut}
-use Rattle.job.proofs.Tally.{Tallied, tallied-none, tallied-more, tallied-end, count-mapped}
-use Rattle.job.proofs.Views.{view-below}
+use Rattle.rules.proofs.Count.{bit-le, count-mapped, Summed, summed-none, summed-more, summed-end}
+use Rattle.rules.proofs.Views.{view-within}
 use borrow.Author.Needs.{needs}
 use Rattle.job.proofs.figures.cut.Statement.{statement}
 use Rattle.job.proofs.figures.cut.Tie as tie
 
 abbrev Inv-loop : tie.InvT-loop
-Inv-loop sides bounds pins n x₀ j₀ x j = Tallied (λ k. isCut sides (viewOf bounds pins k)) n j x
+Inv-loop sides bounds pins n x₀ j₀ x j = Summed (λ k. bit (isCut sides (viewOf bounds pins k))) 1 n j x
 
 abbrev μ-loop : tie.MeasureT-loop
 μ-loop sides bounds pins n x₀ j₀ x j = n - j
@@ -20,13 +20,13 @@ recipe-count-requires : tie.Need-recipe-count-requires Inv-loop μ-loop
 recipe-count-requires c κs = search needs
 
 loop-holds : tie.Need-loop-holds Inv-loop μ-loop
-loop-holds c = tallied-none
+loop-holds c = summed-none
 
 view-requires : tie.Need-view-requires Inv-loop μ-loop
 view-requires c κs = search needs
 
 is-cut-requires : tie.Need-is-cut-requires Inv-loop μ-loop
-is-cut-requires c κs = rw (c .view .ensures) (view-below _ _ _ _ (c .before .before .before .before .before .before .before .pre))
+is-cut-requires c κs = rw (c .view .ensures) (view-within _ _ _ _ (c .before .before .before .before .before .before .before .pre))
 
 bit-requires : tie.Need-bit-requires Inv-loop μ-loop
 bit-requires c κs = search needs
@@ -43,17 +43,19 @@ loop-less c = search needs
 loop-again : tie.Need-loop-again Inv-loop μ-loop
 loop-again c =
     let l = c .before .before .before .before in
-    tallied-more (l .loop .inv) _ (omega arith)
+    let a = l .before .before .before .before .before .args in
+    summed-more (l .loop .inv) _ (omega arith)
     (ap (λ (k : ℕ). l .loop .x + k)
-    (c .bit .ensures .0 ∙ ap bit (c .before .is-cut .ensures ∙ ap (isCut (l .before .before .before .before .before .args .sides .now)) (c .before .before .view .ensures))))
+    (c .bit .ensures .0 ∙ ap bit (c .before .is-cut .ensures ∙ ap (isCut (a .sides .now)) (c .before .before .view .ensures))))
+    (bit-le (isCut (a .sides .now) (viewOf (a .bounds .now) (a .pins .now) (l .loop .j))))
 
 returns : tie.Need-returns Inv-loop μ-loop
-unfolding cut views
+unfolding cut views count
 returns c =
     let n = c .before .before in
     let a = n .before .before .before .before .args in
     rw (← n .recipe-count .ensures)
-    (tallied-end (c .before .loop .inv) (omega arith)
+    (summed-end (c .before .loop .inv) (omega arith)
     ∙ count-mapped (isCut (a .sides .now)) (viewOf (a .bounds .now) (a .pins .now)) (n .recipe-count .result))
 
 pub cut-spec : {M : Type 1} → statement M

@@ -1,7 +1,7 @@
 use native.Mathlib.Omega.{arith}
 use native.Mathlib.Nat.{mul-one}
 use lib.Dec.{eqb}
-use Rattle.job.proofs.AddingUp.{bit-le}
+use Rattle.rules.proofs.Count.{bit-most}
 use borrow.Author.Needs.{needs}
 use Rattle.job.proofs.figures.with_file.Statement.{statement}
 use Rattle.job.proofs.figures.with_file.Tie as tie
@@ -19,13 +19,13 @@ if-zero-requires : tie.Need-if-zero-requires
 if-zero-requires c κs = search needs
 
 add-t9 : tie.Need-add-t9
-add-t9 c = omega (arith, c .before .if-zero .ensures, bit-le (eqb (c .before .before .before .before .before .args .side) 0) (c .before .before .before .before .long .result))
+add-t9 c = omega (arith, c .before .if-zero .ensures, bit-most (eqb (c .before .before .before .before .before .args .side) 0) (c .before .before .before .before .long .result))
 
 if-zero-requires-2 : tie.Need-if-zero-requires-2
 if-zero-requires-2 c κs = search needs
 
 add-t11 : tie.Need-add-t11
-add-t11 c = omega (arith, c .before .if-zero2 .ensures, bit-le (eqb (c .before .before .before .before .before .before .before .args .mark) 0) 1)
+add-t11 c = omega (arith, c .before .if-zero2 .ensures, bit-most (eqb (c .before .before .before .before .before .before .before .args .mark) 0) 1)
 
 returns : tie.Need-returns
 returns c =

@@ -4,7 +4,7 @@ use native.Mathlib.Omega.{arith}
 use lib.ListN.{length}
 use Rattle.rules.specs.Check.{badFile}
 use Rattle.job.specs.Parts.{ofFiles}
-use Rattle.job.proofs.Search.{Passed, passed-none, passed-more, passed-hit, passed-end}
+use Rattle.rules.proofs.Searches.{Passed, passed-none, passed-more, passed-hit, passed-end}
 use borrow.Author.Needs.{needs}
 use Rattle.job.proofs.files.first_bad_file.Statement.{statement}
 use Rattle.job.proofs.files.first_bad_file.Tie as tie

@@ -1,7 +1,8 @@
 use mathlib.Core.Path.{refl, ap}
 use native.Mathlib.Omega.{arith}
 use lib.IntN.{natAbs}
-use Rattle.report.proofs.Gains.{small-gain, wide-fits, wide-is, above-fits, above-back, not-low}
+use Rattle.rules.proofs.Machine.{wide-fits, wide-is}
+use Rattle.report.proofs.Gains.{small-gain, above-fits, above-back, not-low}
 use Rattle.report.proofs.moves.magnitude.Statement.{statement}
 use Rattle.report.proofs.moves.magnitude.Tie as tie
 

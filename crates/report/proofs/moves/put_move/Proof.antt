@@ -4,7 +4,7 @@ use native.Mathlib.Omega.{arith}
 use Rattle.rules.specs.Report.{text, spaced}
 use Rattle.rules.specs.Trace.{signed}
 use Rattle.report.specs.Tracing.{moveLine}
-use Rattle.report.proofs.Digits.{long-digits}
+use Rattle.rules.proofs.Digits.{long-digits}
 use Rattle.report.proofs.Gains.{signed-back}
 use Rattle.report.proofs.Lines.{spaced-one}
 use Rattle.report.proofs.Traces.{move-length}

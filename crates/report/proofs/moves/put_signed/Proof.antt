@@ -1,5 +1,5 @@
 use native.Mathlib.Omega.{arith}
-use Rattle.report.proofs.Digits.{long-digits}
+use Rattle.rules.proofs.Digits.{long-digits}
 use Rattle.report.proofs.Gains.{signed-low, signed-high, signed-length}
 use Rattle.report.proofs.Laying.{ends-short, laid-as, laid-more}
 use borrow.Author.Needs.{needs}

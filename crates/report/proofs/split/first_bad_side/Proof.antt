@@ -2,7 +2,7 @@ use Prim.Native.Nat.{_-_}
 use lib.ListN.{length, getD}
 use lib.Dec.{ltb}
 use borrow.Author.Tests.{lt-ltb, le-ltb}
-use Rattle.job.proofs.Search.{Passed, passed-none, passed-more, passed-hit, passed-end}
+use Rattle.rules.proofs.Searches.{Passed, passed-none, passed-more, passed-hit, passed-end}
 use borrow.Author.Needs.{needs}
 use Rattle.report.proofs.split.first_bad_side.Statement.{statement}
 use Rattle.report.proofs.split.first_bad_side.Tie as tie

@@ -1,18 +1,19 @@
 use mathlib.Core.Logic.{inl, inr}
-use Prim.Native.Nat.{_-_}
+use Prim.Native.Nat.{_-_, _*_}
 use lib.ListN.{length, getD}
 use lib.Dec.{eqb}
 use native.Mathlib.Omega.{arith}
 use borrow.Author.Tests.{eq-eqb, ne-eqb}
 use Rattle.rules.specs.Job.{files}
 use Rattle.rules.specs.Split.{sizeOn}
-use Rattle.report.proofs.Sums.{Summed, summed-none, summed-in, summed-out, summed-end}
+use Rattle.rules.specs.Lists.{bit}
+use Rattle.rules.proofs.Count.{Summed, summed-none, summed-more, summed-end}
 use borrow.Author.Needs.{needs}
 use Rattle.report.proofs.split.size_on.Statement.{statement}
 use Rattle.report.proofs.split.size_on.Tie as tie
 
 abbrev Inv-loop : tie.InvT-loop
-Inv-loop sizes sides side sum₀ f₀ sum f = Summed (λ k. eqb (getD sides k 0) side) (λ k. getD sizes k 0) (length sizes) f sum
+Inv-loop sizes sides side sum₀ f₀ sum f = Summed (λ k. bit (eqb (getD sides k 0) side) * getD sizes k 0) 65535 (length sizes) f sum
 
 abbrev μ-loop : tie.MeasureT-loop
 μ-loop sizes sides side sum₀ f₀ sum f = length sizes - f
@@ -45,10 +46,13 @@ loop-less : tie.Need-loop-less Inv-loop μ-loop
 loop-less c = search needs
 
 loop-again : tie.Need-loop-again Inv-loop μ-loop
-loop-again c = elim (c .if1 .came) [
-  | inl w ↦ rw (w .1) (summed-in (c .before .before .before .before .loop .inv) (c .before .before .before .loop-test .taken) (eq-eqb _ _ (w .0 .taken)) (omega (arith, c .before .before .shared-slice-known .given (c .before .before .before .before .loop .f))))
-  | inr w ↦ rw (w .1) (summed-out (c .before .before .before .before .loop .inv) (c .before .before .before .loop-test .taken) (ne-eqb _ _ (w .0 .left)))
-]
+loop-again c =
+    let l = c .before .before .before .before .loop in
+    let h = c .before .before .before .loop-test .taken in
+    elim (c .if1 .came) [
+      | inl w ↦ summed-more (l .inv) _ h (rw (w .1, eq-eqb _ _ (w .0 .taken)) (omega arith)) (rw (eq-eqb _ _ (w .0 .taken)) (omega (arith, c .before .before .shared-slice-known .given (l .f))))
+      | inr w ↦ summed-more (l .inv) _ h (rw (w .1, ne-eqb _ _ (w .0 .left)) (omega arith)) (rw (ne-eqb _ _ (w .0 .left)) (omega arith))
+    ]
 
 returns : tie.Need-returns Inv-loop μ-loop
 unfolding sizeOn files

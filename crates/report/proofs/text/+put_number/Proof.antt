@@ -3,7 +3,7 @@ use mathlib.Core.Path.{sym}
 use Prim.Native.Nat.{ℕ, _/_, _<_}
 use native.Mathlib.Nat.{div-lt-self}
 use native.Mathlib.Omega.{arith}
-use Rattle.report.proofs.Digits.{one-digit, more-digits}
+use Rattle.rules.proofs.Digits.{one-digit, more-digits}
 use Rattle.report.proofs.Laying.{near-first, near-rest, near-as, laid-more, laid-as}
 use borrow.Author.Needs.{needs}
 use borrow.Fn.Kinds.{In}

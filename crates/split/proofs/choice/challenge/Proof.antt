@@ -1,15 +1,12 @@
--- Each return is a case of `challenged`. Assumes nothing.
-use mathlib.Core.Path.{sym, _∙_}
+-- Its test is that of `challenged`. Assumes nothing.
+use mathlib.Core.Path.{sym, ap, _∙_}
+use mathlib.Core.Bool.{Bool, _&&_}
 use borrow.Author.Needs.{needs}
-use borrow.Author.Tests.{eq-eqb, ne-eqb, lt-leb, le-leb}
+use lib.Dec.{leb}
 use mir.Facts.{toZ-ofZ}
-use Rattle.split.specs.Best.{challenged}
+use Rattle.split.proofs.FilesPassed.{challenge-won, challenge-lost}
 use Rattle.split.proofs.choice.challenge.Statement.{statement}
 use Rattle.split.proofs.choice.challenge.Tie as tie
-
-returns : tie.Need-returns
-unfolding challenged
-returns c = simp (ne-eqb _ _ (c .if1 .taken))
 
 mul-apart : tie.Need-mul-apart
 mul-apart c = search needs
@@ -17,35 +14,25 @@ mul-apart c = search needs
 apart-requires : tie.Need-apart-requires
 apart-requires c κs = search needs
 
-returns-2 : tie.Need-returns-2
-unfolding challenged
-returns-2 c = simp (eq-eqb _ _ (c .before .before .before .before .if1 .left), ← c .before .before .apart .ensures, lt-leb _ _ (c .if2 .taken))
-
 is-better-requires : tie.Need-is-better-requires
-is-better-requires c κs = search needs
+is-better-requires c κs = rw (toZ-ofZ (c .before .before .before .fits .gain)) (c .before .before .before .pre .0)
 
-returns-3 : tie.Need-returns-3
-unfolding challenged
-returns-3 c =
-    let g = toZ-ofZ (c .before .before .before .before .before .before .before .fits .gain) in
-    simp (
-      g,
-      eq-eqb _ _ (c .before .before .before .before .before .before .if1 .left),
-      ← c .before .before .before .before .apart .ensures,
-      le-leb _ _ (c .before .before .if2 .left),
-      rw g at (sym (c .before .is-better .ensures) ∙ c .if3 .taken),
-    )
+returns : tie.Need-returns
+returns c =
+    let s = c .before .before .before .before .before in
+    let d = c .before .before .before .apart .result in
+    let g = toZ-ofZ (s .fits .gain) in
+    rw g
+    (challenge-won (s .args .window) (s .args .best) (s .args .f) (s .args .gain) (s .args .after) (s .args .none) d (c .before .before .before .apart .ensures)
+    (rw g at (ap (λ (t : Bool). leb d (s .args .window .span) && t) (sym (c .before .is-better .ensures)) ∙ c .if1 .taken)))
 
-returns-4 : tie.Need-returns-4
-unfolding challenged
-returns-4 c =
-    let g = toZ-ofZ (c .before .before .before .before .before .before .before .fits .gain) in
-    simp (
-      eq-eqb _ _ (c .before .before .before .before .before .before .if1 .left),
-      ← c .before .before .before .before .apart .ensures,
-      le-leb _ _ (c .before .before .if2 .left),
-      rw g at (sym (c .before .is-better .ensures) ∙ c .if3 .left),
-    )
+returns-2 : tie.Need-returns-2
+returns-2 c =
+    let s = c .before .before .before .before .before in
+    let d = c .before .before .before .apart .result in
+    let g = toZ-ofZ (s .fits .gain) in
+    challenge-lost (s .args .window) (s .args .best) (s .args .f) (s .args .gain) (s .args .after) (s .args .none) d (c .before .before .before .apart .ensures)
+    (rw g at (ap (λ (t : Bool). leb d (s .args .window .span) && t) (sym (c .before .is-better .ensures)) ∙ c .if1 .left))
 
 pub challenge-spec : {M : Type 1} → statement M
-challenge-spec = tie.close (tie.spec returns mul-apart apart-requires returns-2 is-better-requires returns-3 returns-4)
+challenge-spec = tie.close (tie.spec mul-apart apart-requires is-better-requires returns returns-2)

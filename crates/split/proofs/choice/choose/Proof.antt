@@ -1,23 +1,37 @@
--- The best so far is the best of the files passed. Assumes nothing.
-use mathlib.Core.Path.{sym}
-use Prim.Native.Nat.{_-_}
+-- The best so far is the best of the files passed, and the file looked at is its next rival. Assumes nothing.
+use mathlib.Core.Path.{_≡_, ap₂, _∙_}
+use mathlib.Core.Bool.{true}
+use mathlib.Core.List.{List}
+use Prim.Native.Nat.{ℕ, _-_}
 use native.Mathlib.Omega.{arith}
+use lib.Dec.{eqb}
 use lib.ListN.{length, getD}
-use lib.IntN.{pos}
+use lib.IntN.{ℤ, pos}
 use mir.Syntax.{w32}
+use mir.Val.{toZ, ofZ}
 use mir.Facts.{toZ-ofZ}
-use Rattle.split.specs.Zones.{locksAt, part}
-use Rattle.split.proofs.Parts.{part-entry}
-use Rattle.split.proofs.FilesPassed.{product-fits, Passed, passed-none, passed-more, passed-all}
 use borrow.Author.Needs.{needs, sfits-of}
+use Rattle.rules.proofs.Tests.{and-yes}
+use Rattle.tables.specs.Zones.{locksAt, part}
+use Rattle.split.specs.Best.{noLess, rivalIn, challenged}
+use Rattle.split.proofs.FilesPassed.{product-fits, AtRival, next, next-rival, passed-none, passed-more, at-rival, passed-all}
 use Rattle.split.proofs.choice.choose.Statement.{statement}
 use Rattle.split.proofs.choice.choose.Tie as tie
 
 abbrev Inv-loop : tie.InvT-loop
-Inv-loop window size sizes sides scratch gains pins none locks best₀ f₀ best f = Passed window size sizes sides (part (locksAt (length sizes) pins) (length sizes) scratch) gains f best
+Inv-loop window size sizes sides scratch gains pins none locks best₀ f₀ best f = AtRival window size sizes sides (part (locksAt (length sizes) pins) (length sizes) scratch) gains f best
 
 abbrev μ-loop : tie.MeasureT-loop
 μ-loop window size sizes sides scratch gains pins none locks best₀ f₀ best f = length sizes - f
+
+abbrev At : Type 0
+At = tie.At-loop Inv-loop μ-loop
+
+abbrev entry : At → tie.Start Inv-loop μ-loop
+entry c = c .before .before .before .before .before
+
+abbrev locksOf : tie.Start Inv-loop μ-loop → List ℕ
+locksOf s = part (locksAt (length (s .args .sizes .now)) (s .args .pins)) (length (s .args .sizes .now)) (s .args .scratch .now)
 
 mul-locks : tie.Need-mul-locks Inv-loop μ-loop
 mul-locks c = search needs
@@ -25,8 +39,11 @@ mul-locks c = search needs
 add-locks : tie.Need-add-locks Inv-loop μ-loop
 add-locks c = search needs
 
+next-rival-requires : tie.Need-next-rival-requires Inv-loop μ-loop
+next-rival-requires c κs = let s = c .before .before .before in (s .pre .0 .1, s .pre .0 .2, omega arith)
+
 loop-holds : tie.Need-loop-holds Inv-loop μ-loop
-loop-holds c = passed-none
+loop-holds c = at-rival passed-none (c .next-rival .ensures)
 
 mul-size-after : tie.Need-mul-size-after Inv-loop μ-loop
 mul-size-after c = search needs
@@ -42,8 +59,8 @@ shared-slice-read-size-after-2 c = search needs
 
 size-after-requires : tie.Need-size-after-requires Inv-loop μ-loop
 size-after-requires c κs =
-    let s = c .before .before .before .before .before .before .before in
-    (omega (arith, s .pre .1 .0), s .pre .1 .1 (c .before .before .before .loop .f) (omega arith))
+    let s = c .before .before .before .before .before .before .before .before in
+    (s .pre .1 .0 .1, s .pre .1 .1 (c .before .before .before .loop .f) (c .before .before .loop-test .taken))
 
 mul-challenge : tie.Need-mul-challenge Inv-loop μ-loop
 mul-challenge c = search needs
@@ -51,45 +68,61 @@ mul-challenge c = search needs
 shared-slice-copy-out-challenge : tie.Need-shared-slice-copy-out-challenge Inv-loop μ-loop
 shared-slice-copy-out-challenge c = search needs
 
-add-challenge : tie.Need-add-challenge Inv-loop μ-loop
-add-challenge c = search needs
+abbrev looked : tie.After-challenge-arg Inv-loop μ-loop → At
+looked c = c .before .before .before .before .before
 
-mul-challenge-2 : tie.Need-mul-challenge-2 Inv-loop μ-loop
-mul-challenge-2 c = search needs
+-- the gain that is handed on is the file's
+handed : (c : tie.After-challenge-arg Inv-loop μ-loop)
+    → let gain = getD (entry (looked c) .args .gains .now) (looked c .loop .f) (pos 0) in toZ w32 (ofZ w32 gain) ≡ gain
+handed c = toZ-ofZ (sfits-of (c .challenge-arg .given))
 
-shared-slice-read-challenge : tie.Need-shared-slice-read-challenge Inv-loop μ-loop
-shared-slice-read-challenge c = search needs
+-- the file is a rival
+rival : (c : tie.After-challenge-arg Inv-loop μ-loop)
+    → let s = entry (looked c) in rivalIn (looked c .loop .best) (locksOf s) (s .args .gains .now) (length (s .args .sizes .now)) (looked c .loop .f) ≡ true
+rival c = looked c .loop .inv .rival (c .before .before .before .before .loop-test .taken)
 
 challenge-requires : tie.Need-challenge-requires Inv-loop μ-loop
 challenge-requires c κs =
-    let s = c .before .before .before .before .before .before .before .before .before .before in
-    let f = c .before .before .before .before .before .before .loop .f in
-    rw (c .before .before .size-after .ensures)
-    (product-fits (s .args .window .den) (s .args .size) (getD (s .args .sides .now) f 0) (getD (s .args .sizes .now) f 0) (s .pre .1 .0 .0) (s .pre .1 .0 .1) (omega (arith, c .before .before .before .shared-slice-known5 .given f)))
+    let s = entry (looked c) in
+    let f = looked c .loop .f in
+    let own = getD (s .args .sizes .now) f 0 in
+    let gain = getD (s .args .gains .now) f (pos 0) in (
+      rw (handed c) (and-yes (eqb (getD (locksOf s) f 0) 0) (noLess gain (looked c .loop .best) (length (s .args .sizes .now))) (rival c) .1),
+      rw (c .before .size-after .ensures)
+          (product-fits (s .args .window .den) (s .args .size) (getD (s .args .sides .now) f 0) own (s .pre .1 .0 .0) (s .pre .1 .0 .1) (omega (arith, c .before .before .shared-slice-known5 .given f))),
+    )
 
-add-f : tie.Need-add-f Inv-loop μ-loop
-add-f c = search needs
+add-next-rival : tie.Need-add-next-rival Inv-loop μ-loop
+add-next-rival c = search needs
+
+next-rival-requires-2 : tie.Need-next-rival-requires-2 Inv-loop μ-loop
+next-rival-requires-2 c κs =
+    let s = entry (looked (c .before)) in
+    (s .pre .0 .1, s .pre .0 .2, omega (arith, c .before .before .before .before .before .loop-test .taken))
+
+-- what is kept is the best so far against the file
+kept : (c : tie.After-challenge Inv-loop μ-loop)
+    → let s = entry (looked (c .before)) in
+    let l = looked (c .before) .loop in
+    c .challenge .result ≡ next (s .args .window) (s .args .size) (s .args .sizes .now) (s .args .sides .now) (locksOf s) (s .args .gains .now) (l .best) (l .f)
+kept c =
+    let s = entry (looked (c .before)) in
+    let l = looked (c .before) .loop in
+    c .challenge .ensures
+    ∙ ap₂ (λ (gain : ℤ) (after : ℕ). challenged (s .args .window) (l .best) (l .f) gain 0 after (length (s .args .sizes .now))) (handed (c .before)) (c .before .before .size-after .ensures)
+    ∙ next-rival (s .args .window) (s .args .size) (s .args .sizes .now) (s .args .sides .now) (locksOf s) (s .args .gains .now) (l .best) (l .f) (rival (c .before))
 
 loop-less : tie.Need-loop-less Inv-loop μ-loop
-loop-less c = search needs
+loop-less c = omega (arith, c .next-rival2 .ensures .outdone .least, c .before .before .before .before .before .before .loop-test .taken)
 
 loop-again : tie.Need-loop-again Inv-loop μ-loop
 loop-again c =
-    let l = c .before .before .before .before .before .before .before .loop in
-    let g = c .before .before .before .before .before .before .before .before .before .before .before .args .gains .now in
-    let s = c .before .before .before .before .before .before .before .before .before .before .before in
-    let n = length (s .args .sizes .now) in
-    let h = c .before .before .before .before .before .before .loop-test .taken in
-    rw (
-      c .challenge .ensures,
-      sym (part-entry (locksAt n (s .args .pins)) n (s .args .scratch .now) (l .f) h),
-      toZ-ofZ {w = w32} {z = getD g (l .f) (pos 0)} (sfits-of (c .before .before .challenge-arg .given)),
-      c .before .before .before .size-after .ensures,
-    )
-    (passed-more (c .before .before .before .before .before .before .loop-test .taken) (l .inv))
+    at-rival
+    (rw (kept (c .before)) (passed-more (c .before .before .before .before .before .before .loop-test .taken) (looked (c .before .before) .loop .inv .passed)))
+    (c .next-rival2 .ensures)
 
 returns : tie.Need-returns Inv-loop μ-loop
-returns c = passed-all (c .loop-test .left) (c .before .loop .inv)
+returns c = passed-all (c .loop-test .left) (c .before .loop .inv .passed)
 
 pub choose-spec : {M : Type 1} → statement M
 choose-spec =
@@ -99,6 +132,7 @@ choose-spec =
     μ-loop
     mul-locks
     add-locks
+    next-rival-requires
     loop-holds
     mul-size-after
     shared-slice-read-size-after
@@ -107,11 +141,9 @@ choose-spec =
     size-after-requires
     mul-challenge
     shared-slice-copy-out-challenge
-    add-challenge
-    mul-challenge-2
-    shared-slice-read-challenge
     challenge-requires
-    add-f
+    add-next-rival
+    next-rival-requires-2
     loop-less
     loop-again
     returns)

@@ -5,21 +5,13 @@ use Rattle.split.proofs.ending.keep_best.Statement.{statement}
 use Rattle.split.proofs.ending.keep_best.Tie as tie
 
 take-back-requires : tie.Need-take-back-requires
-take-back-requires c κs = search needs
-
-size-of-a-requires : tie.Need-size-of-a-requires
-size-of-a-requires c κs = search needs
+take-back-requires c κs = tt
 
 same-length : tie.Need-same-length
 same-length c = search needs
 
 returns : tie.Need-returns
-returns c = record {
-  back = c .before .before .before .before .take-back .ensures;
-  size = c .size-of-a .result;
-  added = c .size-of-a .ensures;
-  told = refl;
-}
+returns c = record { back = c .before .before .take-back .ensures; told = refl }
 
 pub keep-best-spec : {M : Type 1} → statement M
-keep-best-spec = tie.close (tie.spec take-back-requires size-of-a-requires same-length returns)
+keep-best-spec = tie.close (tie.spec take-back-requires same-length returns)

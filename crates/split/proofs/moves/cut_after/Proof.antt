@@ -2,7 +2,8 @@
 use mathlib.Core.Path.{refl}
 use native.Mathlib.Omega.{arith}
 use borrow.Author.Needs.{needs}
-use Rattle.split.proofs.OneMove.{gain-wide, less-fits, less-back}
+use Rattle.rules.proofs.Machine.{wide-fits}
+use Rattle.split.proofs.OneMove.{less-fits, less-back}
 use Rattle.split.proofs.moves.cut_after.Statement.{statement}
 use Rattle.split.proofs.moves.cut_after.Tie as tie
 
@@ -10,7 +11,7 @@ cast-after : tie.Need-cast-after
 cast-after c = search needs
 
 cast-after-2 : tie.Need-cast-after-2
-cast-after-2 c = gain-wide (c .args .cut) (c .args .gain) (c .pre .0) (c .pre .1) (c .fits .gain)
+cast-after-2 c = wide-fits (c .args .gain) (c .fits .gain)
 
 sub-after : tie.Need-sub-after
 sub-after c = less-fits (c .args .cut) (c .args .gain) (c .pre .0) (c .pre .1) (c .fits .gain)

@@ -1,82 +1,116 @@
 -- `scan::recount_one` meets its contract: each count stands in the scratch, with room for its change. Assumes nothing.
-use mathlib.Core.Path.{refl, ap₂}
-use Prim.Native.Nat.{ℕ}
-use borrow.Author.Needs.{needs}
-use Rattle.split.specs.Scanning.{recount}
+use mathlib.Core.Path.{_≡_, refl, sym, subst, ap₂, _∙_}
+use Prim.Native.Nat.{ℕ, _+_, _*_, _<_}
+use mathlib.Core.List.{List}
+use native.Mathlib.Omega.{arith}
+use lib.ListN.{length, set, length-set}
+use mir.Syntax.{w16, w64}
+use mir.Val.{Fits}
+use Rattle.split.specs.declared.scan.Way.{Way}
+use Rattle.split.specs.Scanning.{countT, countF, recount}
+use Rattle.split.proofs.Lasting.{recount-length}
 use Rattle.split.proofs.scan.recount_one.Statement.{statement}
 use Rattle.split.proofs.scan.recount_one.Tie as tie
 
+-- what stands in the scratch has an address
+sum : (s : tie.Start) {i : ℕ} → i < length (s .args .scratch .now) → Fits w64 i
+sum s h = omega (arith, h, s .good .0)
+
+double : (s : tie.Start) {i : ℕ} → i < length (s .args .scratch .now) → Fits w64 (i * 2)
+double s h = omega (arith, h, s .good .0)
+
+one-more : {n : ℕ} → n < 65535 → Fits w16 (n + 1)
+one-more h = omega (arith, h)
+
+-- and stands there after the first write, and the second
+module _ (way : Way) (j : ℕ) (z : List ℕ) where
+  abbrev left : List ℕ
+  left = set z (way .left + j) (countF way j z)
+
+  first : length left ≡ length z
+  first = length-set z (way .left + j) (countF way j z)
+
+  second : length (set left (way .there + j) (countT way j z + 1)) ≡ length z
+  second = length-set left (way .there + j) (countT way j z + 1) ∙ first
+
+  after-first : (i : ℕ) → i < length z → i < length left
+  after-first i h = subst (λ (n : ℕ). i < n) (sym first) h
+
+  after-second : (i : ℕ) → i < length z → i < length (set left (way .there + j) (countT way j z + 1))
+  after-second i h = subst (λ (n : ℕ). i < n) (sym second) h
+
 add-left : tie.Need-add-left
-add-left c = search needs
+add-left c = sum (c .before .before) (c .before .before .pre .inside .0)
 
 add-there : tie.Need-add-there
-add-there c = search needs
+add-there c = sum (c .before .before .before) (c .before .before .before .pre .inside .1)
 
 add-locked : tie.Need-add-locked
-add-locked c = search needs
+add-locked c = sum (c .before .before .before .before) (c .before .before .before .before .pre .inside .2)
 
 add-staying : tie.Need-add-staying
-add-staying c = search needs
+add-staying c = sum (c .before .before .before .before .before) (c .before .before .before .before .before .pre .inside .3)
 
 mul-f : tie.Need-mul-f
-mul-f c = search needs
+mul-f c = double (c .before .before .before .before .before) (c .before .before .before .before .before .pre .inside .0)
 
 slice-read-f : tie.Need-slice-read-f
-slice-read-f c = search needs
+slice-read-f c = c .before .before .before .before .before .before .pre .inside .0
 
 sub-f : tie.Need-sub-f
-sub-f c = search needs
+sub-f c = c .before .before .before .before .before .before .pre .some
 
 mul-t : tie.Need-mul-t
-mul-t c = search needs
+mul-t c = double (c .before .before .before .before .before .before) (c .before .before .before .before .before .before .pre .inside .1)
 
 slice-read-t : tie.Need-slice-read-t
-slice-read-t c = search needs
+slice-read-t c = c .before .before .before .before .before .before .before .pre .inside .1
 
 mul-l : tie.Need-mul-l
-mul-l c = search needs
+mul-l c = double (c .before .before .before .before .before .before .before) (c .before .before .before .before .before .before .before .pre .inside .2)
 
 slice-read-l : tie.Need-slice-read-l
-slice-read-l c = search needs
+slice-read-l c = c .before .before .before .before .before .before .before .before .pre .inside .2
 
 kind-there-requires : tie.Need-kind-there-requires
-kind-there-requires c κs = search needs
+kind-there-requires c κs = tt
 
 mul-kind-left : tie.Need-mul-kind-left
-mul-kind-left c = search needs
+mul-kind-left c = double (c .before .before .before .before .before .before .before .before .before) (c .before .before .before .before .before .before .before .before .before .pre .inside .3)
 
 slice-read-kind-left : tie.Need-slice-read-kind-left
-slice-read-kind-left c = search needs
+slice-read-kind-left c = c .before .before .before .before .before .before .before .before .before .before .pre .inside .3
 
 kind-left-requires : tie.Need-kind-left-requires
-kind-left-requires c κs = search needs
+kind-left-requires c κs = tt
 
 mul-scratch : tie.Need-mul-scratch
-mul-scratch c = search needs
+mul-scratch c = double (c .before .before .before .before .before .before .before .before .before .before .before) (c .before .before .before .before .before .before .before .before .before .before .before .pre .inside .0)
 
 slice-write-scratch : tie.Need-slice-write-scratch
-slice-write-scratch c = search needs
+slice-write-scratch c = c .before .before .before .before .before .before .before .before .before .before .before .pre .inside .0
 
 add-scratch : tie.Need-add-scratch
-add-scratch c = search needs
+add-scratch c = one-more (c .before .before .before .before .before .before .before .before .before .before .before .pre .there)
 
 mul-scratch-2 : tie.Need-mul-scratch-2
-mul-scratch-2 c = search needs
+mul-scratch-2 c = double (c .before .before .before .before .before .before .before .before .before .before .before) (c .before .before .before .before .before .before .before .before .before .before .before .pre .inside .1)
 
 slice-write-scratch-2 : tie.Need-slice-write-scratch-2
-slice-write-scratch-2 c = search needs
+slice-write-scratch-2 c = let a = c .before .before .before .before .before .before .before .before .before .before .before .args in after-first (a .way) (a .j) (a .scratch .now) (a .way .there + a .j) (c .before .before .before .before .before .before .before .before .before .before .before .pre .inside .1)
 
 add-scratch-2 : tie.Need-add-scratch-2
-add-scratch-2 c = search needs
+add-scratch-2 c = one-more (c .before .before .before .before .before .before .before .before .before .before .before .pre .locked)
 
 mul-scratch-3 : tie.Need-mul-scratch-3
-mul-scratch-3 c = search needs
+mul-scratch-3 c = double (c .before .before .before .before .before .before .before .before .before .before .before) (c .before .before .before .before .before .before .before .before .before .before .before .pre .inside .2)
 
 slice-write-scratch-3 : tie.Need-slice-write-scratch-3
-slice-write-scratch-3 c = search needs
+slice-write-scratch-3 c = let a = c .before .before .before .before .before .before .before .before .before .before .before .args in after-second (a .way) (a .j) (a .scratch .now) (a .way .locked + a .j) (c .before .before .before .before .before .before .before .before .before .before .before .pre .inside .2)
 
 same-length : tie.Need-same-length
-same-length c = search needs
+unfolding recount
+same-length c = let a = c .before .before .before .before .before .before .before .before .before .before .before .args in recount-length (a .way) (a .j) (a .scratch .now)
 
 returns : tie.Need-returns
 unfolding recount

@@ -3,7 +3,7 @@ use mathlib.Core.Path.{sym}
 use native.Mathlib.Omega.{arith}
 use lib.ListN.{length}
 use Rattle.rules.specs.Move.{State}
-use Rattle.split.specs.Zones.{part, stateOf}
+use Rattle.tables.specs.Zones.{part, stateOf}
 use Rattle.split.specs.Scanning.{scanned}
 use Rattle.split.proofs.Lasting.{Scannable, near-room, scan-none, scan-done, scan-fits}
 use borrow.Author.Needs.{needs}

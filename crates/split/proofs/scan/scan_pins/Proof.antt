@@ -9,11 +9,12 @@ use lib.Seq.{take-all}
 use mir.Syntax.{w32}
 use mir.Val.{toZ, ofZ}
 use Rattle.rules.specs.Move.{State, scanPins}
+use Rattle.rules.proofs.GainKept.{scan-length}
 use Rattle.rules.proofs.Signed.{abs}
-use Rattle.split.specs.Zones.{part, stateOf}
+use Rattle.tables.specs.Zones.{part, stateOf}
 use Rattle.split.proofs.Shifts.{same-back, mag-back}
-use Rattle.split.proofs.Parts.{part-entry}
-use Rattle.split.proofs.ScanLaws.{scan-pin, scan-length, scan-room}
+use Rattle.tables.proofs.Parts.{part-entry}
+use Rattle.split.proofs.ScanLaws.{scan-pin, scan-room}
 use Rattle.split.proofs.scan.scan_pins.Statement.{statement}
 use Rattle.split.proofs.scan.scan_pins.Tie as tie
 

@@ -1,15 +1,15 @@
 -- `scan::treat_all` meets its contract. The invariant: the rest of the cells leads to the same end. Assumes nothing.
-use mathlib.Core.Path.{_≡_, refl, sym, ap, ap₂, subst, _∙_}
+use mathlib.Core.Path.{_≡_, refl, ap, _∙_}
 use Prim.Native.Nat.{ℕ, _+_, _-_, _≤_, _<_}
 use mathlib.Core.List.{List}
 use native.Mathlib.Omega.{arith}
-use borrow.Author.Needs.{needs}
 use lib.ListN.{length, getD}
+use Rattle.rules.specs.Lists.{allBelow}
 use Rattle.rules.specs.Job.{viewOf}
 use Rattle.rules.specs.Move.{State}
-use Rattle.split.specs.Zones.{part, stateOf}
-use Rattle.split.specs.Scanning.{Fits, Treated, treated, treatOne, Treatable}
-use Rattle.split.proofs.Turns.{Turn, turn-first, turn-last, turn-treatable, turn-fits, turn-more, treatable-own}
+use Rattle.tables.specs.Zones.{part, stateOf}
+use Rattle.split.specs.Scanning.{Scanned, scanned, scanIf, Treated, treated}
+use Rattle.split.proofs.Turns.{Turn, turn-first, turn-last, turn-treatable, own-below, seen-long, first-fits, second-near, second-fits, turn-more}
 use Rattle.split.proofs.scan.treat_all.Statement.{statement}
 use Rattle.split.proofs.scan.treat_all.Tie as tie
 
@@ -29,9 +29,6 @@ At = tie.At-loop Inv-loop μ-loop
 abbrev entry : At → Start
 entry c = c .before .before .before .before .before .before .before
 
-abbrev turnOf : tie.After-view Inv-loop μ-loop → tie.In-loop Inv-loop μ-loop
-turnOf v = v .before .before .before
-
 -- what the function came with, and what stands at a turn
 abbrev st : Start → State
 st s = stateOf (s .args .sides .now) (part (s .args .way .locks) (s .args .way .files) (s .args .scratch .now))
@@ -45,54 +42,60 @@ came s = treated (s .args .scratch .now) (s .args .gains .now) (s .args .recipes
 abbrev stands : At → Treated
 stands c = treated (c .loop .scratch) (c .loop .gains) (c .loop .recipes) (c .loop .kinds) (c .loop .q)
 
-abbrev J : At → ℕ
-J c = getD (c .loop .scratch) (c .loop .i) 0
-
 -- the cell lies in the scratch
 inside : (c : tie.In-loop Inv-loop μ-loop) → c .before .loop .i < length (entry (c .before) .args .scratch .now)
 inside c = let s = entry (c .before) in omega (arith, c .loop-test .taken, s .pre .0, s .pre .1 .0)
 
-module _ (v : tie.After-view Inv-loop μ-loop) where
+-- ---- at a turn, once the counts are changed
+
+module _ (r : tie.After-recount-one Inv-loop μ-loop) where
+  abbrev v : tie.After-view Inv-loop μ-loop
+  v = r .before .before
+
   abbrev c : At
-  c = turnOf v .before
+  c = v .before .before .before .before
 
   abbrev s : Start
   s = entry c
 
+  abbrev j : ℕ
+  j = getD (c .loop .scratch) (c .loop .i) 0
+
+  more : c .loop .i < s .args .e
+  more = v .before .before .before .loop-test .taken
+
   -- the recipe's own pins
-  own : v .view .result .now ≡ look s (J c)
+  own : v .view .result .now ≡ look s j
   own = v .view .ensures ∙ ap (look s) (v .before .wide .ensures)
 
-  treatable : Treatable (s .args .way) (λ (_ : ℕ). v .view .result .now) (c .loop .scratch) (J c)
-  treatable =
-      treatable-own (v .view .result .now) own
-      (turn-treatable (st s) (s .args .way) (look s) (s .args .a) (s .args .e) (came s) (c .loop .i) (stands c) (c .loop .inv) (turnOf v .loop-test .taken) (s .pre .0 .2) (s .pre .1 .0 .2))
+  -- what both scans ask
+  below : allBelow (s .args .way .files) (v .view .result .now)
+  below = own-below (c .loop .inv) more (s .pre .0 .2) (s .pre .1 .0 .2) own (r .recount-one .ensures .1) (r .recount-one .ensures .0)
 
-  -- the code's treatment is the definition's
-  same : treatOne (stateOf (s .args .sides .now) (part (s .args .way .locks) (s .args .way .files) (c .loop .scratch))) (s .args .way) (J c) (v .view .result .now) (stands c)
-      ≡ treatOne (st s) (s .args .way) (J c) (look s (J c)) (stands c)
-  same = ap₂ (λ (l r : List ℕ). treatOne (stateOf (s .args .sides .now) l) (s .args .way) (J c) r (stands c)) (c .loop .inv .locks) own
+  long : s .args .way .locks + s .args .way .files ≤ length (r .recount-one .last .0)
+  long = seen-long (c .loop .inv) more (s .pre .0 .2) (s .pre .1 .0 .2) own (r .recount-one .ensures .1) (r .recount-one .ensures .0)
 
-  fits : Fits (treatOne (stateOf (s .args .sides .now) (part (s .args .way .locks) (s .args .way .files) (c .loop .scratch))) (s .args .way) (J c) (v .view .result .now) (stands c) .scanned)
-  fits =
-      subst (λ (y : Treated). Fits (y .scanned)) (sym same)
-      (turn-fits (st s) (s .args .way) (look s) (s .args .a) (s .args .e) (came s) (c .loop .i) (stands c) (c .loop .inv) (turnOf v .loop-test .taken) (s .pre .0 .2) (s .pre .1 .0 .2) (s .pre .1 .1 .1 .1))
+  -- a scan as the code makes it
+  abbrev scan : ℕ → Scanned → Scanned
+  scan kind x =
+      scanIf (stateOf (s .args .sides .now) (part (s .args .way .locks) (s .args .way .files) (r .recount-one .last .0))) (s .args .way .side) j (v .view .result .now) kind x
 
--- what stands after it
-abbrev viewAt : tie.After-treat Inv-loop μ-loop → tie.After-view Inv-loop μ-loop
-viewAt t = t .before .before .before .before .before
+-- ---- and once the first scan is made
 
-abbrev leaves : tie.After-treat Inv-loop μ-loop → Treated
-leaves t = treated (t .treat .last .1 .1 .1 .0) (t .treat .last .0) (t .treat .last .1 .0) (t .treat .last .1 .1 .0) (t .treat .result)
+module _ (f : tie.After-scan-if Inv-loop μ-loop) where
+  abbrev r : tie.After-recount-one Inv-loop μ-loop
+  r = f .before .before .before .before .before .before .before
 
-left : (t : tie.After-treat Inv-loop μ-loop)
-    → leaves t ≡ treatOne (st (s (viewAt t))) (s (viewAt t) .args .way) (J (c (viewAt t))) (look (s (viewAt t)) (J (c (viewAt t)))) (stands (c (viewAt t)))
-left t = t .treat .ensures ∙ same (viewAt t)
+  abbrev made : Scanned
+  made = scanned (f .scan-if .last .0) (f .scan-if .last .1 .0) (f .scan-if .last .1 .1 .0) (f .scan-if .result)
+
+  first : made ≡ scan r (r .recount-one .result .first) (stands (c r) .scanned)
+  first = f .scan-if .ensures
 
 loop-holds : tie.Need-loop-holds Inv-loop μ-loop
 loop-holds c =
     let s = c .before .before .before .before .before .before in
-    turn-first (st s) (s .args .way) (look s) (s .args .a) (s .args .e) (came s) (s .pre .0 .1) refl (s .pre .1 .1 .0) (s .pre .1 .1 .1 .0)
+    turn-first {st = st s} {look = look s} (s .pre .0 .1) refl (s .pre .1 .1 .0) (s .pre .1 .1 .1 .0)
 
 mul-j : tie.Need-mul-j Inv-loop μ-loop
 mul-j c = omega (arith, inside c, entry (c .before) .good .1 .1 .1 .0)
@@ -101,37 +104,51 @@ slice-read-j : tie.Need-slice-read-j Inv-loop μ-loop
 slice-read-j c = omega (arith, inside (c .before), c .before .before .loop .inv .scratch)
 
 wide-requires : tie.Need-wide-requires Inv-loop μ-loop
-wide-requires c κs = search needs
+wide-requires c κs = tt
 
 view-requires : tie.Need-view-requires Inv-loop μ-loop
-view-requires c κs = search needs
+view-requires c κs = tt
 
-treat-requires : tie.Need-treat-requires Inv-loop μ-loop
-treat-requires c κs =
-    let v = c .before .before .before .before in
-    let a = turnOf v .before in
+recount-one-requires : tie.Need-recount-one-requires Inv-loop μ-loop
+recount-one-requires c κs =
+    let i = c .before .before .before .before in
+    let a = i .before in
     let s = entry a in
-    let long : s .args .way .locks + s .args .way .files ≤ length (a .loop .scratch) = omega (arith, s .pre .1 .0, a .loop .inv .scratch) in
-    (s .pre .0 .0, ((a .loop .inv .later .gains ∙ s .pre .1 .0 .0, s .pre .1 .0 .1, long), (treatable v, (a .loop .inv .near, fits v))))
+    turn-treatable (a .loop .inv) (i .loop-test .taken) (s .pre .0 .2) (s .pre .1 .0 .2) .counts
+
+scan-if-requires : tie.Need-scan-if-requires Inv-loop μ-loop
+scan-if-requires t κs =
+    let r = t .before .before .before .before .before .before in
+    let c = c r in
+    let s = s r in
+    let fits = first-fits (c .loop .inv) (more r) (s .pre .0 .2) (s .pre .1 .0 .2) (own r) (r .recount-one .ensures .1) (r .recount-one .ensures .0) (s .pre .1 .1 .1 .1) in
+    (s .pre .0 .0, (below r, ((c .loop .inv .later .gains ∙ s .pre .1 .0 .0, s .pre .1 .0 .1, long r), (c .loop .inv .near, fits))))
+
+scan-if-requires-2 : tie.Need-scan-if-requires-2 Inv-loop μ-loop
+scan-if-requires-2 t κs =
+    let f = t .before .before .before .before .before .before .before .before .before in
+    let r = r f in
+    let c = c r in
+    let s = s r in
+    let near = second-near (c .loop .inv) (more r) (s .pre .0 .2) (s .pre .1 .0 .2) (own r) (r .recount-one .ensures .1) (r .recount-one .ensures .0) {x = made f} (first f) in
+    let fits = second-fits (c .loop .inv) (more r) (s .pre .0 .2) (s .pre .1 .0 .2) (own r) (r .recount-one .ensures .1) (r .recount-one .ensures .0) {x = made f} (first f) (s .pre .1 .1 .1 .1) in
+    (s .pre .0 .0, (below r, ((f .scan-if .kept .0 ∙ c .loop .inv .later .gains ∙ s .pre .1 .0 .0, s .pre .1 .0 .1, long r), (near, fits))))
 
 add-i : tie.Need-add-i Inv-loop μ-loop
-add-i c =
-    let i = turnOf (c .before .before .before .before .before .before .before .before .before .before .before .before) in
-    omega (arith, i .loop-test .taken, entry (i .before) .fits)
+add-i c = let i = c .before .before .before .before .before .before .before .before .before .before .before .before .before .before .before .before .before .before .before .before .before .before .before .before .before .before .before in omega (arith, i .loop-test .taken, entry (i .before) .fits)
 
 loop-less : tie.Need-loop-less Inv-loop μ-loop
-loop-less c =
-    let i = turnOf (c .before .before .before .before .before .before .before .before .before .before .before .before) in
-    omega (arith, i .loop-test .taken)
+loop-less c = let i = c .before .before .before .before .before .before .before .before .before .before .before .before .before .before .before .before .before .before .before .before .before .before .before .before .before .before .before in omega (arith, i .loop-test .taken)
 
 loop-again : tie.Need-loop-again Inv-loop μ-loop
-loop-again c =
-    let t = c .before .before .before .before .before .before .before in
-    let v = viewAt t in
-    let a = turnOf v .before in
-    let s = entry a in
-    turn-more (st s) (s .args .way) (look s) (s .args .a) (s .args .e) (came s) (a .loop .i) (stands a) (a .loop .inv) (turnOf v .loop-test .taken) (s .pre .0 .2) (s .pre .1 .0 .2)
-    {y' = leaves t} (left t)
+loop-again t =
+    let g = t .before .before .before .before .before .scan-if2 in
+    let f = t .before .before .before .before .before .before .before .before .before .before .before .before .before .before .before in
+    let r = r f in
+    let c = c r in
+    let s = s r in
+    turn-more (c .loop .inv) (more r) (s .pre .0 .2) (s .pre .1 .0 .2) (own r) (r .recount-one .ensures .1) (r .recount-one .ensures .0) {x = made f} (first f)
+    {x' = scanned (g .last .0) (g .last .1 .0) (g .last .1 .1 .0) (g .result)} (g .ensures)
 
 same-length : tie.Need-same-length Inv-loop μ-loop
 same-length c = c .before .loop .inv .later .gains
@@ -148,7 +165,7 @@ same-length-4 c = c .before .loop .inv .scratch
 returns : tie.Need-returns Inv-loop μ-loop
 returns c =
     let s = entry (c .before) in
-    turn-last (st s) (s .args .way) (look s) (s .args .a) (s .args .e) (came s) (c .before .loop .inv) (c .loop-test .left)
+    turn-last (c .before .loop .inv) (c .loop-test .left)
 
 pub treat-all-spec : {M : Type 1} → statement M
 treat-all-spec =
@@ -161,7 +178,9 @@ treat-all-spec =
     slice-read-j
     wide-requires
     view-requires
-    treat-requires
+    recount-one-requires
+    scan-if-requires
+    scan-if-requires-2
     add-i
     loop-less
     loop-again

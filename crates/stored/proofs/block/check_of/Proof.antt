@@ -4,7 +4,8 @@ use native.Mathlib.Omega.{arith}
 use lib.ListN.{getD, take}
 use borrow.Author.Needs.{needs}
 use Rattle.rules.specs.Stored.{weigh, blockCheck}
-use Rattle.stored.proofs.Blocks.{weigh-more, mul-bound}
+use Rattle.rules.proofs.Blocks.{weigh-more}
+use Rattle.stored.proofs.Blocks.{mul-bound}
 use Rattle.stored.proofs.block.check_of.Statement.{statement}
 use Rattle.stored.proofs.block.check_of.Tie as tie
 

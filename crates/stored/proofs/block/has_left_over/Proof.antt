@@ -8,7 +8,7 @@ use borrow.Author.Count.{below-more}
 use borrow.Author.Needs.{needs}
 use Rattle.rules.specs.Stored.{valueIn}
 use Rattle.stored.specs.Steps.{leftOver}
-use Rattle.stored.proofs.Tests.{some-here, some-none}
+use Rattle.rules.proofs.Searches.{some-here, some-none}
 use Rattle.stored.proofs.block.has_left_over.Statement.{statement}
 use Rattle.stored.proofs.block.has_left_over.Tie as tie
 

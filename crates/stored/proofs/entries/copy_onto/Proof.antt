@@ -4,7 +4,7 @@ use native.Mathlib.Omega.{arith}
 use lib.ListN.{length, take, length-set}
 use borrow.Author.Needs.{needs}
 use Rattle.rules.specs.Lists.{onto}
-use Rattle.stored.proofs.Filled.{onto-none, onto-more, onto-all}
+use Rattle.rules.proofs.Entries.{onto-none, onto-more, onto-all}
 use Rattle.stored.proofs.entries.copy_onto.Statement.{statement}
 use Rattle.stored.proofs.entries.copy_onto.Tie as tie
 
@@ -41,7 +41,7 @@ loop-again : tie.Need-loop-again Inv-loop μ-loop
 loop-again c =
     let l = c .before .before .loop in
     let a = c .before .before .before .args in
-    (omega arith, simp length-set (l .inv .1), rw (l .inv .2) (onto-more (a .from .now) (a .to .now) (l .i) (omega arith) (omega arith)))
+    (omega arith, simp length-set (l .inv .1), rw (l .inv .2) (onto-more 0 (a .from .now) (a .to .now) (l .i) (omega arith) (omega arith)))
 
 same-length : tie.Need-same-length Inv-loop μ-loop
 same-length c = search needs

@@ -5,8 +5,7 @@ use lib.ListN.{length}
 use borrow.Author.Tests.{eq-eqb, ne-eqb}
 use borrow.Author.Needs.{needs}
 use Rattle.rules.specs.Stored.{blockCount}
-use Rattle.rules.proofs.Verdicts.{chain-stop, chain-go}
-use Rattle.stored.proofs.Refusals.{refuse-stop, refuse-go}
+use Rattle.rules.proofs.Verdicts.{chain-stop, chain-go, refuse-stop, refuse-go}
 use Rattle.stored.proofs.layout.figures_verdict.Statement.{statement}
 use Rattle.stored.proofs.layout.figures_verdict.Tie as tie
 

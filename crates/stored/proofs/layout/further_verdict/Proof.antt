@@ -4,7 +4,7 @@ use native.Mathlib.Omega.{arith}
 use borrow.Author.Needs.{needs}
 use Rattle.rules.specs.Stored.{blocksVerdict}
 use Rattle.rules.proofs.Verdicts.{chain-stop, chain-go}
-use Rattle.stored.proofs.Refusals.{blocks-more, blocks-end}
+use Rattle.rules.proofs.Blocks.{blocks-more, blocks-end}
 use Rattle.stored.proofs.layout.further_verdict.Statement.{statement}
 use Rattle.stored.proofs.layout.further_verdict.Tie as tie
 

@@ -3,7 +3,7 @@ use mathlib.Core.Bool.{Bool, _&&_}
 use lib.Dec.{leb}
 use borrow.Author.Tests.{lt-leb, le-leb}
 use borrow.Author.Needs.{needs}
-use Rattle.stored.proofs.Tests.{and-both}
+use Rattle.rules.proofs.Tests.{and-both}
 use Rattle.stored.proofs.layout.is_roomy.Statement.{statement}
 use Rattle.stored.proofs.layout.is_roomy.Tie as tie
 

@@ -4,9 +4,8 @@ use mathlib.Core.List.{List}
 use borrow.Author.Tests.{lt-ltb, le-ltb}
 use borrow.Author.Needs.{needs}
 use Rattle.rules.specs.Stored.{layoutVerdict, blockVerdict}
-use Rattle.rules.proofs.Verdicts.{chain-stop, chain-go}
+use Rattle.rules.proofs.Verdicts.{chain-stop, chain-go, refuse-stop, refuse-go}
 use Rattle.stored.specs.Steps.{verdictOf}
-use Rattle.stored.proofs.Refusals.{refuse-stop, refuse-go}
 use Rattle.stored.proofs.layout.layout_verdict.Statement.{statement}
 use Rattle.stored.proofs.layout.layout_verdict.Tie as tie
 

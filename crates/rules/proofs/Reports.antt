@@ -1,0 +1,185 @@
+-- What a report and a trace print of a run and of a pass: the sizes are all that they know of the job, and only the room can be too short.
+-- Assumes nothing.
+use mathlib.Core.Path.{_≡_, refl, sym, ap, ap₂, _∙_}
+use mathlib.Core.Logic.{_≢_}
+use Prim.Native.Nat.{ℕ, suc, _-_, _≤_}
+use mathlib.Core.Bool.{Bool, true, false, not, _&&_}
+use mathlib.Core.List.{List, [], _∷_}
+use native.Mathlib.Decide.{ℕ-discrete}
+use native.Mathlib.Omega.{arith}
+use lib.ListN.{length, getD}
+use lib.Seq.{take-all}
+use lib.Dec.{leb, ltb, eqb}
+use borrow.Author.Tests.{le-ltb, le-leb, eq-eqb, ne-eqb}
+use Rattle.rules.specs.declared.Verdict.{Verdict}
+use Rattle.rules.specs.declared.Figures.{Figures}
+use Rattle.rules.specs.declared.RunFigures.{RunFigures}
+use Rattle.rules.specs.declared.Printed.{Printed}
+use Rattle.rules.specs.Lists.{someBelow}
+use Rattle.rules.specs.Job.{Job, Limits, fileCount, files, Lent, fits}
+use Rattle.rules.specs.Split.{sizeOn}
+use Rattle.rules.specs.Check.{done, refuseIf, _orElse_, check}
+use Rattle.rules.specs.Pass.{Pass, tries, pass, leaves}
+use Rattle.rules.specs.Run.{noFigures, noRunFigures, run, lastOf, passEnds, runEnds, figuresOf, runFiguresOf}
+use Rattle.rules.specs.Report.{sizeLine, figureLines, report, refusal, ofSizes, splitVerdict, printVerdict, Printing, printed, printing, intoRoom, reporting}
+use Rattle.rules.specs.Trace.{Listing, listing, passLines, trace, badEnd, holdsPass, tracing}
+use Rattle.rules.specs.Theorems.{Binary, Sides, Sound}
+use Rattle.rules.proofs.Searches.{some-none}
+use Rattle.rules.proofs.Entries.{onto-least}
+use Rattle.rules.proofs.Runs.{last-at}
+use Rattle.rules.proofs.Proved.{accepted, answers, left, pass-holds, given-sides, run-holds}
+use Rattle.rules.proofs.Told.{pass-told}
+
+-- ---- the bytes in the room
+
+-- 3 is the only refusal that is left
+pub into-number : (bytes room room' : List ℕ) (a : Printed) → printed a room' ≡ intoRoom bytes room → a .verdict .number ≢ 3 → a .verdict .number ≡ 0
+unfolding printing
+into-number bytes room room' a e h = go (leb (length bytes) (length room)) e
+  where
+    go : (b : Bool) → printed a room' ≡ printing (refuseIf (not b) 3 0) bytes room → a .verdict .number ≡ 0
+    go true q = ap (λ (x : Printing). x .answer .verdict .number) q
+    go false q = absurd (h (ap (λ (x : Printing). x .answer .verdict .number) q))
+
+pub into-bytes : (bytes room room' : List ℕ) (a : Printed) → printed a room' ≡ intoRoom bytes room → a .bytes ≤ length room'
+unfolding printing
+into-bytes bytes room room' a e = go (leb (length bytes) (length room)) e
+  where
+    go : (b : Bool) → printed a room' ≡ printing (refuseIf (not b) 3 0) bytes room → a .bytes ≤ length room'
+    go true q = omega (arith, ap (λ (x : Printing). x .answer .bytes) q, ap (λ (x : Printing). length (x .room)) q, onto-least bytes room)
+    go false q = omega (arith, ap (λ (x : Printing). x .answer .bytes) q)
+
+-- ---- the report of a run
+
+report-sizes : (job : Job) (r : RunFigures) (sides : List ℕ) → report (ofSizes (job .sizes)) r sides ≡ report job r sides
+unfolding report figureLines sizeLine sizeOn files
+report-sizes job r sides = refl
+
+report-refused : (job : Job) (r : RunFigures) (sides : List ℕ) → r .figures .verdict .number ≢ 0 → report job r sides ≡ refusal (r .figures .verdict)
+unfolding report
+report-refused job r sides h = rw (ne-eqb (r .figures .verdict .number) 0 h, report) refl
+
+-- a refused run tells its number and place
+pub reporting-refusal : (most : Limits) (sizes : List ℕ) (r : RunFigures) (sides room : List ℕ) → r .figures .verdict .number ≢ 0
+    → reporting most sizes r sides room ≡ intoRoom (refusal (r .figures .verdict)) room
+unfolding reporting
+reporting-refusal most sizes r sides room h =
+    rw (ne-eqb (r .figures .verdict .number) 0 h) (ap (λ (b : List ℕ). intoRoom b room) (report-refused (ofSizes sizes) r sides h))
+
+-- the split of a run that was made is sound, so that only the room can be too short
+split-told : (most : Limits) (sizes sides : List ℕ) (lent : Bool) → length sizes ≤ most .files → length sides ≡ length sizes → Binary sides
+    → splitVerdict most sizes sides lent ≡ refuseIf (not lent) 3 0
+split-told most sizes sides lent a b c =
+    let few : ltb (most .files) (length sizes) ≡ false = le-ltb (most .files) (length sizes) a in
+    let long : eqb (length sides) (length sizes) ≡ true = eq-eqb (length sides) (length sizes) b in
+    let none : someBelow (λ f. ltb 1 (getD sides f 0)) (length sides) ≡ false = some-none (λ f. ltb 1 (getD sides f 0)) (length sides) (λ f h. le-ltb 1 (getD sides f 0) (c f)) in
+    rw (few, long, none) (last lent)
+  where
+    last : (lent : Bool) → (refuseIf (not (true && lent)) 3 0 orElse done) ≡ refuseIf (not lent) 3 0
+    last true = refl
+    last false = refl
+
+made-told : (most : Limits) (job : Job) (r : RunFigures) (sides room : List ℕ) → r .figures .verdict ≡ done → fileCount job ≤ most .files → Sides job sides
+    → reporting most (job .sizes) r sides room ≡ intoRoom (report job r sides) room
+unfolding reporting
+made-told most job r sides room e few w =
+    let bytes = report (ofSizes (job .sizes)) r sides in
+    let short = leb (length bytes) (length room) in
+    ap (λ (v : Verdict). printing v bytes room) (ap (λ (v : Verdict). printVerdict most (job .sizes) sides v true short) e ∙ split-told most (job .sizes) sides short few (w .long) (w .binary))
+    ∙ ap (λ (b : List ℕ). intoRoom b room) (report-sizes job r sides)
+
+last-sides : (most : Limits) (job : Job) → Sound most job → Sides job (lastOf (pass job (job .sides)) (run job) .sidesAfter)
+last-sides most job s =
+    let holds = run-holds most job s in
+    let first = pass job (job .sides) in
+    let k = length (run job) - 1 in
+    let all = take-all (suc k) (run job) (omega (arith, holds .some)) in
+    rw (ap (lastOf first) (sym all) ∙ last-at first first (run job) k (omega (arith, holds .some))) (holds .sides first k (omega (arith, holds .some)))
+
+pub run-told : (most : Limits) (job : Job) (l : Lent) (room : List ℕ) →
+    let e = runEnds most job l in reporting most (job .sizes) (e .answer) (e .sides) room ≡ intoRoom (report job (e .answer) (e .sides)) room
+run-told most job l room = elim (ℕ-discrete (check most job (fits job l) .number) 0) [
+  | yes z ↦
+      let s : Sound most job = accepted most job (fits job l) z .sound in
+      rw (answers most job l .runDone z) (made-told most job (runFiguresOf done (pass job (job .sides)) (run job)) (lastOf (pass job (job .sides)) (run job) .sidesAfter) room (told job) (s .fewFiles) (last-sides most job s))
+  | no n ↦
+      let none : RunFigures = noRunFigures (check most job (fits job l)) in
+      rw (answers most job l .runRefused n)
+      (reporting-refusal most (job .sizes) none (job .sides) room n ∙ ap (λ (b : List ℕ). intoRoom b room) (sym (report-refused job none (job .sides) n)))
+]
+  where
+    told : (job : Job) → runFiguresOf done (pass job (job .sides)) (run job) .figures .verdict ≡ done
+    told job = unfold runFiguresOf in unfold figuresOf in refl
+
+-- ---- the trace of a pass
+
+trace-sizes : (job : Job) (f : Figures) (sides : List ℕ) (l : Listing) → trace (ofSizes (job .sizes)) f sides l ≡ trace job f sides l
+unfolding trace passLines sizeLine sizeOn files
+trace-sizes job f sides l = refl
+
+trace-refused : (job : Job) (f : Figures) (sides : List ℕ) (l : Listing) → f .verdict .number ≢ 0 → trace job f sides l ≡ refusal (f .verdict)
+unfolding trace
+trace-refused job f sides l h = rw (ne-eqb (f .verdict .number) 0 h, trace) refl
+
+pub tracing-refusal : (most : Limits) (sizes : List ℕ) (f : Figures) (sides : List ℕ) (l : Listing) (room : List ℕ) → f .verdict .number ≢ 0
+    → tracing most sizes f sides l room ≡ intoRoom (refusal (f .verdict)) room
+unfolding tracing
+tracing-refusal most sizes f sides l room h =
+    rw (ne-eqb (f .verdict .number) 0 h) (ap (λ (b : List ℕ). intoRoom b room) (trace-refused (ofSizes sizes) f sides l h))
+
+made-traced : (most : Limits) (job : Job) (f : Figures) (sides room : List ℕ) (l : Listing) → f .verdict ≡ done → fileCount job ≤ most .files → Sides job sides → holdsPass (job .sizes) f l ≡ true
+    → tracing most (job .sizes) f sides l room ≡ intoRoom (trace job f sides l) room
+unfolding tracing
+made-traced most job f sides room l e few w held =
+    let bytes = trace (ofSizes (job .sizes)) f sides l in
+    let short = leb (length bytes) (length room) in
+    ap (λ (v : Verdict). printing v bytes room)
+    (ap₂ (λ (v : Verdict) (b : Bool). printVerdict most (job .sizes) sides v b short) e held ∙ split-told most (job .sizes) sides short few (w .long) (w .binary))
+    ∙ ap (λ (b : List ℕ). intoRoom b room) (trace-sizes job f sides l)
+
+pass-sides : (most : Limits) (job : Job) → Sound most job → Sides job (pass job (job .sides) .sidesAfter)
+pass-sides most job s = pass-holds most job s (job .sides) (given-sides most job s) .moves .next
+
+-- the lists hold what is told, refused or not
+pub pass-held : (most : Limits) (job : Job) (l : Lent) → length (l .gains) ≡ fileCount job → let e = passEnds most job l in holdsPass (job .sizes) (e .answer) (listing (e .lent)) ≡ true
+pass-held most job l g = elim (ℕ-discrete (check most job (fits job l) .number) 0) [
+  | yes z ↦ rw (answers most job l .passDone z) (pass-told most job (accepted most job (fits job l) z .sound) l (answers most job l .fitting z))
+  | no n ↦ rw (
+    answers most job l .passRefused n,
+    eq-eqb (length (l .gains)) (fileCount job) g,
+    le-leb 0 (length (job .sizes)) (omega arith),
+    le-leb 0 (length (l .tried)) (omega arith),
+    le-leb 0 (length (l .gained)) (omega arith),
+    le-leb 0 (length (l .cuts)) (omega arith),
+    le-leb 0 (length (l .ends)) (omega arith),
+    some-none (badEnd (listing l)) 0 (λ i h. absurd (omega arith)),
+  ) refl
+]
+
+-- and are as long as before
+pub pass-long : (most : Limits) (job : Job) (l : Lent) → let e = passEnds most job l in (length (e .sides) ≡ length (job .sides)) × (length (e .lent .recipes) ≡ length (l .recipes))
+pass-long most job l = elim (ℕ-discrete (check most job (fits job l) .number) 0) [
+  | yes z ↦
+      let s : Sound most job = accepted most job (fits job l) z .sound in
+      let m = pass-holds most job s (job .sides) (given-sides most job s) .moves in
+      rw (answers most job l .passDone z) (m .next .long ∙ sym (s .sidesLong), left most job s (job .sides) (tries job (job .sides)) l (answers most job l .fitting z) m .recipes .long)
+  | no n ↦ rw (answers most job l .passRefused n) (refl, refl)
+]
+
+-- what a pass leaves, told; and where it was made its lists hold it
+pub pass-traced : (most : Limits) (job : Job) (l : Lent) (room : List ℕ) →
+    let e = passEnds most job l in tracing most (job .sizes) (e .answer) (e .sides) (listing (e .lent)) room ≡ intoRoom (trace job (e .answer) (e .sides) (listing (e .lent))) room
+pass-traced most job l room = elim (ℕ-discrete (check most job (fits job l) .number) 0) [
+  | yes z ↦
+      let s : Sound most job = accepted most job (fits job l) z .sound in
+      let p : Pass = pass job (job .sides) in
+      rw (answers most job l .passDone z)
+      (made-traced most job (figuresOf done p (p ∷ [])) (p .sidesAfter) room (listing (leaves job l p)) (told p) (s .fewFiles) (pass-sides most job s) (pass-told most job s l (answers most job l .fitting z)))
+  | no n ↦
+      let none : Figures = noFigures (check most job (fits job l)) in
+      rw (answers most job l .passRefused n)
+      (tracing-refusal most (job .sizes) none (job .sides) (listing l) room n ∙ ap (λ (b : List ℕ). intoRoom b room) (sym (trace-refused job none (job .sides) (listing l) n)))
+]
+  where
+    told : (p : Pass) → figuresOf done p (p ∷ []) .verdict ≡ done
+    told p = unfold figuresOf in refl

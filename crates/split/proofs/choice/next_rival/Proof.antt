@@ -1,0 +1,91 @@
+-- No file passed is a rival. Assumes nothing.
+use mathlib.Core.Path.{_≡_, sym, _∙_}
+use Prim.Native.Nat.{_-_}
+use native.Mathlib.Omega.{arith}
+use lib.ListN.{getD}
+use lib.IntN.{pos}
+use mir.Syntax.{w32}
+use mir.Facts.{toZ-ofZ}
+use borrow.Author.Needs.{needs, sfits-of}
+use Rattle.tables.specs.Zones.{part}
+use Rattle.split.specs.Best.{rivalIn, Outdone}
+use Rattle.tables.proofs.Parts.{part-entry}
+use Rattle.split.proofs.FilesPassed.{outdone-none, outdone-more}
+use Rattle.split.proofs.choice.next_rival.Statement.{statement}
+use Rattle.split.proofs.choice.next_rival.Tie as tie
+
+abbrev Inv-loop : tie.InvT-loop
+Inv-loop best scratch gains locks from none f₀ f = Outdone best (part locks none scratch) gains none from f
+
+abbrev μ-loop : tie.MeasureT-loop
+μ-loop best scratch gains locks from none f₀ f = none - f
+
+loop-holds : tie.Need-loop-holds Inv-loop μ-loop
+loop-holds c = outdone-none (c .before .pre .2)
+
+mul-is-rival : tie.Need-mul-is-rival Inv-loop μ-loop
+mul-is-rival c = search needs
+
+shared-slice-copy-out-is-rival : tie.Need-shared-slice-copy-out-is-rival Inv-loop μ-loop
+shared-slice-copy-out-is-rival c = search needs
+
+add-is-rival : tie.Need-add-is-rival Inv-loop μ-loop
+add-is-rival c = search needs
+
+mul-is-rival-2 : tie.Need-mul-is-rival-2 Inv-loop μ-loop
+mul-is-rival-2 c = search needs
+
+shared-slice-read-is-rival : tie.Need-shared-slice-read-is-rival Inv-loop μ-loop
+shared-slice-read-is-rival c = search needs
+
+is-rival-requires : tie.Need-is-rival-requires Inv-loop μ-loop
+is-rival-requires c κs = search needs
+
+-- the answer is that of the file's own entries
+told : (w : tie.After-is-rival Inv-loop μ-loop)
+    → let s = w .before .before .before .before .before .before in
+    w .is-rival .result ≡ rivalIn (s .args .best) (part (s .args .locks) (s .args .none) (s .args .scratch .now)) (s .args .gains .now) (s .args .none) (w .before .before .before .before .loop .f)
+told w =
+    let s = w .before .before .before .before .before .before in
+    let f = w .before .before .before .before .loop .f in
+    rw (part-entry (s .args .locks) (s .args .none) (s .args .scratch .now) f (w .before .before .before .loop-test .taken))
+    (rw (toZ-ofZ {w = w32} {z = getD (s .args .gains .now) f (pos 0)} (sfits-of (w .before .before .is-rival-arg .given))) at (w .is-rival .ensures))
+
+returns : tie.Need-returns Inv-loop μ-loop
+returns c =
+    record {
+      outdone = c .before .before .before .before .before .loop .inv;
+      rival = λ h. sym (told (c .before)) ∙ c .if1 .taken;
+    }
+
+add-f : tie.Need-add-f Inv-loop μ-loop
+add-f c = search needs
+
+loop-less : tie.Need-loop-less Inv-loop μ-loop
+loop-less c = search needs
+
+loop-again : tie.Need-loop-again Inv-loop μ-loop
+loop-again c =
+    outdone-more (c .before .before .before .before .loop-test .taken) (c .before .before .before .before .before .loop .inv) (sym (told (c .before)) ∙ c .if1 .left)
+
+returns-2 : tie.Need-returns-2 Inv-loop μ-loop
+returns-2 c = record { outdone = c .before .loop .inv; rival = λ h. absurd (omega (arith, c .loop-test .left)) }
+
+pub next-rival-spec : {M : Type 1} → statement M
+next-rival-spec =
+    tie.close
+    (tie.spec
+    Inv-loop
+    μ-loop
+    loop-holds
+    mul-is-rival
+    shared-slice-copy-out-is-rival
+    add-is-rival
+    mul-is-rival-2
+    shared-slice-read-is-rival
+    is-rival-requires
+    returns
+    add-f
+    loop-less
+    loop-again
+    returns-2)

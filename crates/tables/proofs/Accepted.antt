@@ -1,0 +1,115 @@
+-- What the survey tells of a job, and what a job that it lets through has for the builders. Assumes nothing.
+use mathlib.Core.Path.{_≡_, refl, sym, ap, subst, _∙_}
+use Prim.Native.Nat.{ℕ, _+_, _*_, _≤_, _<_}
+use mathlib.Core.Bool.{Bool}
+use mathlib.Core.List.{List}
+use native.Mathlib.Omega.{arith}
+use native.Mathlib.Decide.{ℕ-discrete}
+use lib.ListN.{length, replicate, length-replicate}
+use lib.IntN.{ℤ, pos}
+use borrow.Author.Tests.{eq-eqb, ne-eqb}
+use Rattle.rules.specs.declared.Verdict.{Verdict}
+use Rattle.rules.specs.Job.{Job, Limits, fileCount, recipeCount, pinCount, views, recipes, Lent, lentOf, fits}
+use Rattle.rules.specs.Split.{weight, smax, cut, sizeA}
+use Rattle.rules.specs.Check.{check}
+use Rattle.rules.specs.Theorems.{Binary, Sound}
+use Rattle.rules.proofs.Fits.{Roomy, roomy}
+use Rattle.rules.proofs.SoundJob.{recipes-distinct}
+use Rattle.rules.proofs.Verdicts.{zero-of}
+use Rattle.rules.proofs.Proved.{accepted, answers}
+use Rattle.job.specs.declared.figures.Survey.{Survey}
+use Rattle.job.specs.Survey.{surveyOf}
+use Rattle.tables.specs.Zones.{countsAt}
+use Rattle.tables.specs.Building.{Laid}
+use Rattle.tables.specs.LentFits.{fitsOf, WordOn}
+use Rattle.tables.proofs.LentWord.{word-late}
+
+-- limits within which entries are two-byte numbers
+pub record Narrow (most : Limits) : Type 0 where
+  pub files : most .files < 65536
+  pub recipes : 4 * most .recipes < 65536
+  pub pins : most .pins < 65535
+  pub den : most .den < 65536
+
+-- ---- the survey's fields
+
+module _ (most : Limits) (job : Job) (word : Bool) where
+  pub verdict-is : surveyOf most job word .verdict ≡ check most job word
+  unfolding surveyOf
+  verdict-is = elim (ℕ-discrete (check most job word .number) 0) [
+    | yes e ↦ rw (eq-eqb (check most job word .number) 0 e, surveyOf)
+    | no n ↦ rw (ne-eqb (check most job word .number) 0 n, surveyOf)
+  ]
+
+  pub survey-is : check most job word .number ≡ 0
+      → surveyOf most job word ≡ record { verdict = check most job word; weight = weight job; largest = smax job; size = sizeA job (job .sides); cut = cut (job .sides) (recipes job) }
+  unfolding surveyOf
+  survey-is e = rw (eq-eqb (check most job word .number) 0 e, surveyOf)
+
+  -- where it lets through, so does the check
+  pub let-through : {s : Survey} → s ≡ surveyOf most job word → s .verdict .number ≡ 0 → check most job word .number ≡ 0
+  let-through e z = zero-of (ap (λ (x : Survey). x .verdict) e ∙ verdict-is) z
+
+-- any word that is right for a job within its limits has one answer
+pub survey-late : (most : Limits) (job : Job) (a b : Bool) → WordOn (most .files) (most .recipes) (most .pins) (fileCount job) (recipeCount job) (pinCount job) a b
+    → surveyOf most job a ≡ surveyOf most job b
+unfolding surveyOf
+survey-late most job a b h =
+    let w = word-late most job a b h in
+    let number : check most job a .number ≡ check most job b .number = ap (λ (v : Verdict). v .number) w in
+    elim (ℕ-discrete (check most job a .number) 0) [
+      | yes e ↦ rw (eq-eqb (check most job a .number) 0 e, eq-eqb (check most job b .number) 0 (sym number ∙ e), surveyOf, w)
+      | no n ↦ rw (ne-eqb (check most job a .number) 0 n, ne-eqb (check most job b .number) 0 (λ e. n (number ∙ e)), surveyOf, w)
+    ]
+
+-- s is the survey's answer, told whether the lent lists fit
+pub record Surveyed (most : Limits) (job : Job) (word : Bool) (s : Survey) : Type 0 where
+  pub narrow : Narrow most
+  pub answered : s ≡ surveyOf most job word
+
+-- from what the steps before it promise
+pub surveyed : {s : Survey} (most : Limits) (job : Job) (a b : Bool) → Narrow most
+    → WordOn (most .files) (most .recipes) (most .pins) (fileCount job) (recipeCount job) (pinCount job) a b → s ≡ surveyOf most job a → Surveyed most job b s
+surveyed most job a b n h e = record { narrow = n; answered = e ∙ survey-late most job a b h }
+
+-- ---- what the builders ask
+
+pub laid-out : {most : Limits} {job : Job} → Narrow most → Sound most job → Laid (job .bounds) (job .pins) (length (job .sides))
+unfolding views
+laid-out {most} {job} n s =
+    subst (λ (c : ℕ). Laid (job .bounds) (job .pins) c) (sym (s .sidesLong)) (record {
+      first = s .first;
+      rise = λ j h. omega (arith, s .two j h);
+      last = s .last;
+      files = s .pinsBelow;
+      distinct = recipes-distinct most job s;
+      fewFiles = omega (arith, s .fewFiles, n .files);
+      fewPins = omega (arith, s .fewPins, n .pins);
+      fewRecipes = omega (arith, s .fewRecipes, n .recipes);
+    })
+
+-- of six of the lent lists only the lengths are told
+module _ (job : Job) (gains : List ℤ) (z : List ℕ) (tried gained cuts ends recipes kinds : ℕ) where
+  abbrev pub fitWord : Bool
+  fitWord = fitsOf (fileCount job) (recipeCount job) (pinCount job) (length gains) tried gained cuts ends recipes kinds (length z)
+
+  -- some lists of these lengths
+  abbrev some : Lent
+  some = lentOf gains (replicate tried 0) (replicate gained (pos 0)) (replicate cuts 0) (replicate ends 0) (replicate recipes 0) (replicate kinds 0) z
+
+  some-fit : fits job some ≡ fitWord
+  some-fit = rw (length-replicate {A = ℕ} tried 0, length-replicate gained (pos 0), length-replicate {A = ℕ} cuts 0, length-replicate {A = ℕ} ends 0, length-replicate {A = ℕ} recipes 0, length-replicate {A = ℕ} kinds 0) refl
+
+  pub builders-ask : (most : Limits) → Narrow most → check most job fitWord .number ≡ 0
+      → Laid (job .bounds) (job .pins) (length (job .sides))
+      × (((length gains ≡ length (job .sides)) × (length (job .marks) ≡ length (job .sides)))
+      × ((countsAt (length (job .sides)) (pinCount job) + 4 * recipeCount job ≤ length z) × Binary (job .sides)))
+  builders-ask most n ok =
+      let s = accepted most job fitWord ok .sound in
+      let r : Roomy job some = roomy job some (answers most job some .fitting (rw some-fit ok)) in (
+        laid-out n s,
+        (
+          (r .gains ∙ sym (s .sidesLong), s .marksLong ∙ sym (s .sidesLong)),
+          (omega (arith, r .scratch, s .sidesLong), s .binary),
+        ),
+      )

@@ -1,0 +1,33 @@
+-- The check looks at the lent lists only after 1 and 2: a word on them matters for small jobs alone. Assumes nothing.
+use mathlib.Core.Path.{_≡_, sym, ap, _∙_}
+use Prim.Native.Nat.{ℕ, _≤_}
+use mathlib.Core.Bool.{Bool, true, false, _||_}
+use lib.Dec.{ltb}
+use borrow.Author.Tests.{ltb-false, le-ltb}
+use Rattle.rules.specs.declared.Verdict.{Verdict}
+use Rattle.rules.specs.Job.{Job, Limits, fileCount, recipeCount, pinCount}
+use Rattle.rules.specs.Check.{_orElse_, check1, check2, check3, check4to6, check1to6, check7to9, check}
+use Rattle.rules.proofs.Verdicts.{chain-same}
+use Rattle.rules.proofs.SoundJob.{ok2}
+use Rattle.rules.proofs.Tests.{clash, or-no}
+
+pub word-late : (most : Limits) (job : Job) (a b : Bool)
+    → (fileCount job ≤ most .files → recipeCount job ≤ most .recipes → pinCount job ≤ most .pins → a ≡ b) → check most job a ≡ check most job b
+unfolding check check1to6
+word-late most job a b h =
+    ap (λ (v : Verdict). v orElse check7to9 most job)
+    (chain-same (check1 job) (check2 most job orElse check3 job a orElse check4to6 job) (check2 most job orElse check3 job b orElse check4to6 job)
+    (λ _. chain-same (check2 most job) (check3 job a orElse check4to6 job) (check3 job b orElse check4to6 job)
+    (λ z. let r = ok2 job most z in ap (λ (x : Bool). check3 job x orElse check4to6 job) (h (r .0) (r .1) (r .2)))))
+
+-- ---- three numbers, each against its most
+
+module _ (a b c x y z : ℕ) where
+  pub none-over : ((ltb a x || ltb b y) || ltb c z) ≡ false → (x ≤ a) × (y ≤ b) × (z ≤ c)
+  none-over e =
+      let p = or-no (ltb a x || ltb b y) (ltb c z) e in
+      let q = or-no (ltb a x) (ltb b y) (p .0) in
+      (ltb-false a x (q .0), ltb-false b y (q .1), ltb-false c z (p .1))
+
+  pub some-over : ((ltb a x || ltb b y) || ltb c z) ≡ true → x ≤ a → y ≤ b → z ≤ c → ⊥
+  some-over e h k l = clash (sym e ∙ rw (le-ltb a x h, le-ltb b y k, le-ltb c z l))

@@ -1,0 +1,14 @@
+pub mod Parts
+pub mod Filled
+pub mod TakenBack
+pub mod Walks
+pub mod Laying
+pub mod Filling
+pub mod Placing
+pub mod FourCounts
+pub mod Starting
+pub mod LentParts
+pub mod LentWord
+pub mod Accepted
+pub mod Settled
+pub mod Unique
