@@ -1,7 +1,7 @@
 -- A pin's own recipe is the one between whose bounds it stands, so check 5 can go recipe by recipe. Assumes nothing.
-use mathlib.Core.Path.{_≡_, refl, ap, ap₂, _∙_}
+use mathlib.Core.Path.{_≡_, ap, ap₂, _∙_}
 use Prim.Native.Nat.{ℕ, suc, _+_, _≤_, _<_}
-use mathlib.Core.Bool.{Bool, true, false, _&&_, _||_}
+use mathlib.Core.Bool.{Bool, false, _&&_, _||_}
 use native.Mathlib.Decide.{decLt}
 use native.Mathlib.Omega.{arith}
 use native.Mathlib.Numerals.{add-one}
@@ -10,7 +10,8 @@ use borrow.Author.Tests.{le-leb, lt-leb, lt-ltb, le-ltb}
 use Rattle.rules.specs.Lists.{lowest, someBelow}
 use Rattle.rules.specs.Job.{Job, fileCount, recipeCount, pinCount, bound, pin}
 use Rattle.rules.specs.Check.{repeatsIn, badPin}
-use Rattle.rules.proofs.SoundJob.{bounds-rise}
+use Rattle.rules.proofs.Tests.{and-false}
+use Rattle.rules.proofs.Views.{bounds-rise}
 use Rattle.rules.proofs.Searches.{some-at, Passed, passed-none, passed-end}
 use Rattle.job.specs.Pins.{onwards, samePin, badFrom}
 use Rattle.job.proofs.Search.{part-end, part-hit}
@@ -23,7 +24,7 @@ pub record Rising (job : Job) : Type 0 where
 
 module _ (job : Job) (b : Rising job) where
   rising : (i j : ℕ) → i ≤ j → j ≤ recipeCount job → bound job i ≤ bound job j
-  rising = bounds-rise job (b .two)
+  rising = bounds-rise (job .bounds) (recipeCount job) (λ i l. omega (arith, b .two i l))
 
   module _ (j k : ℕ) (h : j < recipeCount job) (l : bound job j ≤ k) (g : k < bound job (suc j)) where
     other-recipe : (i : ℕ) → i < recipeCount job → (i ≡ j → ⊥) → repeatsIn job k i ≡ false
@@ -31,14 +32,10 @@ module _ (job : Job) (b : Rising job) where
         let same = someBelow (onwards (bound job i) (samePin (job .pins) k)) k in
         elim (decLt i j) [
           | yes q ↦
-              ap (λ (t : Bool). leb (bound job i) k && t && same) (le-ltb k (bound job (suc i)) (omega (arith, rising (suc i) j q (omega arith))))
-              ∙ and-false (leb (bound job i) k) same
+              ap (λ (t : Bool). t && same)
+              (ap (λ (t : Bool). leb (bound job i) k && t) (le-ltb k (bound job (suc i)) (omega (arith, rising (suc i) j q (omega arith)))) ∙ and-false (leb (bound job i) k))
           | no q ↦ ap (λ (t : Bool). t && ltb k (bound job (suc i)) && same) (lt-leb (bound job i) k (omega (arith, rising (suc j) i (omega arith) (omega arith))))
         ]
-      where
-        and-false : (t s : Bool) → t && false && s ≡ false
-        and-false true s = refl
-        and-false false s = refl
 
     pub bad-there : badPin job k ≡ badFrom (fileCount job) (job .pins) (bound job j) k
     unfolding badPin

@@ -20,10 +20,22 @@ use Rattle.job.proofs.survey.Kinds as survey-kinds
 use Rattle.job.proofs.survey.Reads as survey
 use Rattle.job.proofs.numbers.wide.Kinds as wide-kinds
 use Rattle.job.proofs.numbers.wide.Reads as wide
+use Rattle.job.proofs.numbers.entry_at.Kinds as entry-at-kinds
+use Rattle.job.proofs.numbers.entry_at.Reads as entry-at
+use Rattle.job.proofs.numbers.bit.Kinds as bit-kinds
+use Rattle.job.proofs.numbers.bit.Reads as bit
+use Rattle.job.proofs.figures.count_on.Kinds as count-on-kinds
+use Rattle.job.proofs.figures.count_on.Reads as count-on
 use Rattle.job.proofs.bounds.recipe_count.Kinds as recipe-count-kinds
 use Rattle.job.proofs.bounds.recipe_count.Reads as recipe-count
 use Rattle.job.proofs.verdict.refuse_if.Kinds as refuse-if-kinds
 use Rattle.job.proofs.verdict.refuse_if.Reads as refuse-if
+use Rattle.job.proofs.verdict.or_else.Kinds as or-else-kinds
+use Rattle.job.proofs.verdict.or_else.Reads as or-else
+use Rattle.job.proofs.verdict.check1.Kinds as check1-kinds
+use Rattle.job.proofs.verdict.check1.Reads as check1
+use Rattle.job.proofs.verdict.check2.Kinds as check2-kinds
+use Rattle.job.proofs.verdict.check2.Reads as check2
 
 pub check-settled : Settles 5 check-kinds.ps check-kinds.r Verdict (λ κs v _. v) check.Post
 check-settled κs a x y e f p q = both p q
@@ -44,8 +56,26 @@ new-settled κs a x y e f p q = λ i. record { num = both (p .0) (q .0) i; den =
 pub wide-settled : Settles 0 wide-kinds.ps wide-kinds.r ℕ (λ κs x _. x) wide.Post
 wide-settled κs a x y e f p q = both p q
 
+pub entry-at-settled : Settles 1 entry-at-kinds.ps entry-at-kinds.r ℕ (λ κs x _. x) entry-at.Post
+entry-at-settled κs a x y e f p q = both p q
+
+pub bit-settled : Settles 0 bit-kinds.ps bit-kinds.r ℕ (λ κs n _. n) bit.Post
+bit-settled κs a x y e f p q = both (p .0) (q .0)
+
+pub count-on-settled : Settles 2 count-on-kinds.ps count-on-kinds.r ℕ (λ κs n _. n) count-on.Post
+count-on-settled κs a x y e f p q = both p q
+
 pub recipe-count-settled : Settles 1 recipe-count-kinds.ps recipe-count-kinds.r ℕ (λ κs n _. n) recipe-count.Post
 recipe-count-settled κs a x y e f p q = both p q
 
 pub refuse-if-settled : Settles 0 refuse-if-kinds.ps refuse-if-kinds.r Verdict (λ κs v _. v) refuse-if.Post
 refuse-if-settled κs a x y e f p q = both p q
+
+pub or-else-settled : Settles 0 or-else-kinds.ps or-else-kinds.r Verdict (λ κs v _. v) or-else.Post
+or-else-settled κs a x y e f p q = both p q
+
+pub check1-settled : Settles 0 check1-kinds.ps check1-kinds.r Verdict (λ κs v _. v) check1.Post
+check1-settled κs a x y e f p q = both p q
+
+pub check2-settled : Settles 0 check2-kinds.ps check2-kinds.r Verdict (λ κs v _. v) check2.Post
+check2-settled κs a x y e f p q = both p q

@@ -23,8 +23,8 @@ lists-only most job lent = refl
 refused : {v w : Verdict} → v ≡ w → (v .number ≡ 0 → ⊥) → isDone w ≡ false
 refused {v} {w} e h = ne-eqb (w .number) 0 (λ z. h (ap (λ (y : Verdict). y .number) e ∙ z))
 
-passes : {v w : Verdict} → v ≡ w → v .number ≡ 0 → isDone w ≡ true
-passes {v} {w} e z = eq-eqb (w .number) 0 (zero-of e z)
+passes-done : {v w : Verdict} → v ≡ w → v .number ≡ 0 → isDone w ≡ true
+passes-done {v} {w} e z = eq-eqb (w .number) 0 (zero-of e z)
 
 -- ---- from the totals of all files
 
@@ -58,7 +58,7 @@ module _ (most : Limits) (job : Job) {v : Verdict} where
     pub measure-done : (x : ℕ) (t : Totals) → v .number ≡ 0 → x ≡ cut (job .sides) (recipes job) → t ≡ totalsOf job (fileCount job)
         → record { verdict = v; cut = x; size = t .size } ≡ measure most job
     unfolding measure
-    measure-done x t z p q = rw (e, p, size-is job t q, passes e z, measure)
+    measure-done x t z p q = rw (e, p, size-is job t q, passes-done e z, measure)
 
   module _ (lent : Bool) (e : v ≡ check most job lent) where
     pub survey-refused : (v .number ≡ 0 → ⊥) → record { verdict = v; weight = 0; largest = 0; size = 0; cut = 0 } ≡ surveyOf most job lent
@@ -68,4 +68,4 @@ module _ (most : Limits) (job : Job) {v : Verdict} where
     pub survey-done : (x : ℕ) (t : Totals) → v .number ≡ 0 → x ≡ cut (job .sides) (recipes job) → t ≡ totalsOf job (fileCount job)
         → record { verdict = v; weight = t .weight; largest = t .largest; size = t .size; cut = x } ≡ surveyOf most job lent
     unfolding surveyOf totalsOf weight smax sizeOn files
-    survey-done x t z p q = rw (e, p, q, passes e z, surveyOf)
+    survey-done x t z p q = rw (e, p, q, passes-done e z, surveyOf)

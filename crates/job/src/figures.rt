@@ -2,6 +2,7 @@
 use crate::Job;
 use crate::bounds::recipe_count;
 use crate::numbers::bit;
+use crate::numbers::entry_at;
 use crate::numbers::if_zero;
 use crate::numbers::larger;
 use crate::numbers::long;
@@ -11,7 +12,6 @@ use rules::Verdict;
 ghost use mathlib.Core.Path.{_≡_};
 ghost use Prim.Native.Nat.{_*_, _≤_, _<_};
 ghost use lib.ListN.{length};
-ghost use Rattle.rules.specs.Lists.{allBelow};
 ghost use Rattle.rules.specs.Job.{recipes};
 ghost use Rattle.rules.specs.Split.{inWindow, countOn, isCut, «cut»};
 ghost use Rattle.job.specs.Parts.{ofFiles, ofRecipes};
@@ -78,30 +78,26 @@ pub(crate) fn is_balanced(job: Job, t: Totals) -> bool
     (w <= a + m) & (a <= w + m)
 }
 
-// How many pins of a recipe are on a side.
-fn count_on(sides: &[u16], side: u16, recipe: &[u16]) -> usize
-    requires { ⌜ allBelow (length (now sides)) (now recipe) ⌝ }
-    ensures { λ r. ⌜ r ≡ countOn (now (sides .entry)) side (now (recipe .entry)) ⌝ }
+// How many numbers of the list have u at their place in the table: a recipe's files on a side, a file's recipes with a count. A place beyond the table reads as 0.
+pub fn count_on(list: &[u16], table: &[u16], u: u16) -> usize
+    ensures { λ r. ⌜ r ≡ countOn (now (table .entry)) u (now (list .entry)) ⌝ }
 {
-    let mut x = 0;
-    let mut i = 0;
-    while i < recipe.len() {
-        let f = wide(recipe[i]);
-        x += bit(sides[f] == side);
-        i += 1;
+    let mut n = 0;
+    let mut k = 0;
+    while k < list.len() {
+        n += bit(entry_at(table, wide(list[k])) == u);
+        k += 1;
     }
-    x
+    n
 }
 
 fn is_cut(sides: &[u16], recipe: &[u16]) -> bool
-    requires { ⌜ allBelow (length (now sides)) (now recipe) ⌝ }
     ensures { λ r. ⌜ r ≡ isCut (now (sides .entry)) (now (recipe .entry)) ⌝ }
 {
-    (0 < count_on(sides, 0, recipe)) & (0 < count_on(sides, 1, recipe))
+    (0 < count_on(recipe, sides, 0)) & (0 < count_on(recipe, sides, 1))
 }
 
 pub(crate) fn cut(sides: &[u16], bounds: &[u16], pins: &[u16]) -> usize
-    requires { ⌜ allBelow (length (now sides)) (now pins) ⌝ }
     ensures { λ r. ⌜ r ≡ «cut» (now (sides .entry)) (recipes (ofRecipes (now (bounds .entry)) (now (pins .entry)))) ⌝ }
 {
     let n = recipe_count(bounds);

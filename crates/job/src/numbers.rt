@@ -1,6 +1,7 @@
-// Two-byte numbers widened, and tests as numbers.
+// Two-byte numbers read and widened, and tests as numbers.
 ghost use mathlib.Core.Path.{_≡_};
 ghost use Prim.Native.Nat.{_*_, _≤_, max};
+ghost use lib.ListN.{getD};
 ghost use lib.Dec.{eqb};
 ghost use Rattle.rules.specs.Lists.{«bit»};
 
@@ -10,13 +11,23 @@ pub fn wide(x: u16) -> usize
     x as usize
 }
 
+// Entry k, 0 where there is none.
+pub fn entry_at(list: &[u16], k: usize) -> u16
+    ensures { λ r. ⌜ r ≡ getD (now (list .entry)) k 0 ⌝ }
+{
+    if list.len() <= k {
+        return 0;
+    }
+    list[k]
+}
+
 pub(crate) fn long(x: u16) -> u64
     ensures { λ r. ⌜ r ≡ x ⌝ }
 {
     x as u64
 }
 
-pub(crate) fn bit(test: bool) -> usize
+pub fn bit(test: bool) -> usize
     ensures { λ r. ⌜ (r ≡ «bit» test) × (r ≤ 1) ⌝ }
 {
     if test {

@@ -12,7 +12,7 @@ ghost use mathlib.Core.Path.{_≡_};
 ghost use Prim.Native.Nat.{_*_, _<_};
 ghost use lib.ListN.{length};
 ghost use Rattle.rules.specs.Job.{limitsOf};
-ghost use Rattle.rules.specs.Check.{refuseIf, check1Of, check2Of, «check3», «check4», «check5», «check6», «check7», «check4to6», «check1to6»};
+ghost use Rattle.rules.specs.Check.{refuseIf, _orElse_, check1Of, check2Of, «check3», «check4», «check5», «check6», «check7», «check4to6», «check1to6»};
 ghost use Rattle.job.specs.Parts.{ofFiles, ofRecipes, ofPins, ofLists, ofRatio};
 ghost use Rattle.job.specs.Totals.{Within, Gives7to9};
 
@@ -29,13 +29,24 @@ pub fn refuse_if(test: bool, number: usize, place: usize) -> Verdict
     }
 }
 
-fn check1(files: usize, recipes: usize) -> Verdict
+// The first of two verdicts that refuses.
+pub fn or_else(v: Verdict, w: Verdict) -> Verdict
+    ensures { λ r. ⌜ r ≡ (v orElse w) ⌝ }
+{
+    if v.number != 0 {
+        return v;
+    }
+    w
+}
+
+// 1 and 2 are asked of a stored job's header too.
+pub fn check1(files: usize, recipes: usize) -> Verdict
     ensures { λ r. ⌜ r ≡ check1Of files recipes ⌝ }
 {
     refuse_if((files == 0) | (recipes == 0), 1, 0)
 }
 
-fn check2(files: usize, recipes: usize, pins: usize) -> Verdict
+pub fn check2(files: usize, recipes: usize, pins: usize) -> Verdict
     ensures { λ r. do ⌜ r ≡ check2Of (limitsOf (← ⟦Job::MOST_FILES⟧ .entry) (← ⟦Job::MOST_RECIPES⟧ .entry) (← ⟦Job::MOST_PINS⟧ .entry) (← ⟦Job::MOST_DEN⟧ .entry)) files recipes pins ⌝ }
 {
     refuse_if(
@@ -122,16 +133,11 @@ pub(crate) fn check1to6(
 {
     let n = recipe_count(bounds);
     let v1 = check1(sizes.len(), n);
-    if v1.number != 0 {
-        return v1;
-    }
     let v2 = check2(sizes.len(), n, pins.len());
-    if v2.number != 0 {
-        return v2;
-    }
     let v3 = check3(sizes, sides, marks, lent);
-    if v3.number != 0 {
-        return v3;
+    let v = or_else(v1, or_else(v2, v3));
+    if v.number != 0 {
+        return v;
     }
     check4to6(sizes, sides, marks, bounds, pins)
 }
@@ -142,12 +148,7 @@ pub(crate) fn check7to9(job: Job, t: Totals) -> Verdict
     ensures { λ r. do ⌜ Gives7to9 (limitsOf (← ⟦Job::MOST_FILES⟧ .entry) (← ⟦Job::MOST_RECIPES⟧ .entry) (← ⟦Job::MOST_PINS⟧ .entry) (← ⟦Job::MOST_DEN⟧ .entry)) (job .num) (job .den) t r ⌝ }
 {
     let v7 = check7(job.num, job.den);
-    if v7.number != 0 {
-        return v7;
-    }
     let v8 = refuse_if(t.free == 0, 8, 0);
-    if v8.number != 0 {
-        return v8;
-    }
-    refuse_if(!is_balanced(job, t), 9, 0)
+    let v9 = refuse_if(!is_balanced(job, t), 9, 0);
+    or_else(v7, or_else(v8, v9))
 }

@@ -8,7 +8,8 @@ ghost use Prim.Native.Nat.{_<_};
 // Room for one number more than the longest list of a job may have.
 const MOST: usize = job::Job::MOST_PINS + 1;
 
-fn wide(x: u16) -> usize
+// That it is small is what the sum of take_recipe needs.
+fn widened(x: u16) -> usize
     ensures { λ r. ⌜ r < 65536 ⌝ }
 {
     x as usize
@@ -33,7 +34,7 @@ fn next(n: usize) {
 fn entries(list: &[u16]) {
     let mut i = 0;
     while i < list.len() {
-        next(wide(list[i]));
+        next(widened(list[i]));
         i += 1;
     }
 }
@@ -89,7 +90,7 @@ fn show_job() {
 fn take_recipe() -> usize {
     let mut j = [0u16; 4];
     frames::take_numbers(&mut j);
-    wide(j[0]) + 65536 * (wide(j[1]) + 65536 * (wide(j[2]) + 65536 * wide(j[3])))
+    widened(j[0]) + 65536 * (widened(j[1]) + 65536 * (widened(j[2]) + 65536 * widened(j[3])))
 }
 
 fn show_view() {

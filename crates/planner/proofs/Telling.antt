@@ -15,44 +15,26 @@ use Rattle.rules.specs.declared.RunFigures.{RunFigures}
 use Rattle.rules.specs.declared.ReadFigures.{ReadFigures}
 use Rattle.rules.specs.declared.Header.{Header}
 use Rattle.rules.specs.declared.Printed.{Printed}
-use Rattle.rules.specs.Lists.{onto}
 use Rattle.rules.specs.Job.{Job, asJob, Limits, fileCount, files, Lent}
 use Rattle.rules.specs.Run.{Ended, endedOf, noRunFigures, passEnds, runEnds}
 use Rattle.rules.specs.Stored.{Room, headerOf, jobOf, Reading, written, reading, readVerdict}
 use Rattle.rules.specs.Report.{refusal, Printing, printed, intoRoom, reporting, prints, allRoom, ownLent, allLent}
 use Rattle.rules.specs.Trace.{listing, holdsPass, tracing, traces}
-use Rattle.rules.proofs.Entries.{onto-take, onto-least, take-replicate}
+use Rattle.rules.proofs.Entries.{onto-least, take-replicate}
 use Rattle.rules.proofs.Reading.{read-files, read-sides, read-marks, read-bounds, read-pins, read-holds, reading-verdict}
 use Rattle.rules.proofs.CutOff.{prints-no, traces-no}
 use Rattle.rules.proofs.Reports.{into-number, into-bytes, reporting-refusal, run-told, pass-held, pass-long, pass-traced}
 use Rattle.stored.specs.Steps.{firstOf}
-use Rattle.planner.specs.Answering.{runReport, passTrace, jobText, inputText, Answered, Within}
+use Rattle.stored.proofs.Readings.{first-written}
+use Rattle.planner.specs.Answering.{runReport, passTrace, jobText, inputText, Answered, Lendable}
 
 -- what is refused is told as a refused run is
 pub refusal-told : (most : Limits) {v : Verdict} {a : RunFigures} {x : Printing} (sizes sides room : List ℕ) → x ≡ reporting most sizes a sides room → a ≡ noRunFigures v → v .number ≢ 0
     → x ≡ intoRoom (refusal v) room
 refusal-told most {v} sizes sides room e f h = e ∙ ap (λ (r : RunFigures). reporting most sizes r sides room) f ∙ reporting-refusal most sizes (noRunFigures v) sides room h
 
--- the first entries of the lists that were read into are the job
-pub first-written : (bytes : List ℕ) (room : Room) → firstOf (headerOf bytes) (written (jobOf bytes) room) ≡ jobOf bytes
-unfolding jobOf
-first-written bytes room =
-    λ i. record {
-      sizes = first (jobOf bytes .sizes) (room .sizes) (headerOf bytes .files) (read-files bytes) i;
-      sides = first (jobOf bytes .sides) (room .sides) (headerOf bytes .files) (read-sides bytes) i;
-      marks = first (jobOf bytes .marks) (room .marks) (headerOf bytes .files) (read-marks bytes) i;
-      bounds = first (jobOf bytes .bounds) (room .bounds) (headerOf bytes .recipes + 1) (read-bounds bytes) i;
-      pins = first (jobOf bytes .pins) (room .pins) (headerOf bytes .pins) (read-pins bytes) i;
-      num = headerOf bytes .num;
-      den = headerOf bytes .den;
-      cap = headerOf bytes .cap;
-    }
-  where
-    first : (xs old : List ℕ) (n : ℕ) → length xs ≡ n → take n (onto xs old) ≡ xs
-    first xs old n h = ap (λ (k : ℕ). take k (onto xs old)) (sym h) ∙ onto-take xs old
-
-pub into-within : (bytes room room' : List ℕ) (a : Printed) → printed a room' ≡ intoRoom bytes room → Within (a .bytes) room'
-into-within bytes room room' a e = let h = into-bytes bytes room room' a e in (h, sym (length-take-le (a .bytes) room' h))
+pub into-lendable : (bytes room room' : List ℕ) (a : Printed) → printed a room' ≡ intoRoom bytes room → Lendable (a .bytes) room'
+into-lendable bytes room room' a e = let h = into-bytes bytes room room' a e in (h, sym (length-take-le (a .bytes) room' h))
 
 -- ---- what the planner's own calls tell
 
@@ -110,9 +92,9 @@ module _ (traced : Bool) (most : Limits) (bytes : List ℕ) (r : ReadFigures) (l
   number-read = ap (λ (v : Verdict). v .number) verdict-read
 
   pub refusal-printed : (a : Printed) (room room' : List ℕ) → r .verdict .number ≢ 0 → printed a room' ≡ intoRoom (refusal (r .verdict)) room
-      → (printed a room' ≡ intoRoom (inputText traced most bytes) room) × Within (a .bytes) room'
+      → (printed a room' ≡ intoRoom (inputText traced most bytes) room) × Lendable (a .bytes) room'
   refusal-printed a room room' n h =
-      (h ∙ ap (λ (b : List ℕ). intoRoom b room) (ap refusal verdict-read ∙ sym (text-no traced most bytes (λ z. n (number-read ∙ z)))), into-within (refusal (r .verdict)) room room' a h)
+      (h ∙ ap (λ (b : List ℕ). intoRoom b room) (ap refusal verdict-read ∙ sym (text-no traced most bytes (λ z. n (number-read ∙ z)))), into-lendable (refusal (r .verdict)) room room' a h)
 
   module _ (z : r .verdict .number ≡ 0) where
     read : reading most bytes (allRoom most) ≡ record { answer = record { verdict = readVerdict most bytes (allRoom most); header = headerOf bytes }; room = written (jobOf bytes) (allRoom most) }
@@ -125,10 +107,10 @@ module _ (traced : Bool) (most : Limits) (bytes : List ℕ) (r : ReadFigures) (l
     lists-read = f ∙ ap (λ (x : Reading). x .room) read
 
     pub run-read : (a : Printed) (room room' : List ℕ) → printed a room' ≡ intoRoom (jobText traced most (firstOf (r .header) lists)) room
-        → (printed a room' ≡ intoRoom (inputText traced most bytes) room) × Within (a .bytes) room'
+        → (printed a room' ≡ intoRoom (inputText traced most bytes) room) × Lendable (a .bytes) room'
     run-read a room room' h = (
       h ∙ ap (λ (b : List ℕ). intoRoom b room) (ap (jobText traced most) (ap₂ firstOf header-read lists-read ∙ first-written bytes (allRoom most)) ∙ sym (text-read traced most bytes (sym number-read ∙ z))),
-      into-within (jobText traced most (firstOf (r .header) lists)) room room' a h,
+      into-lendable (jobText traced most (firstOf (r .header) lists)) room room' a h,
     )
 
     -- the lists hold what the header says, and the files are within their most
@@ -163,6 +145,6 @@ module _ (traced : Bool) (most : Limits) (job : Job) (room room' : List ℕ) (r 
   run-told-of q h = rw q h
 
 -- the longer room is enough for the shorter text
-pub either : (traced : Bool) (m n k : ℕ) → n ≤ m → cond traced m n ≤ k → n ≤ k
-either true m n k h l = omega (arith, h, l)
-either false m n k h l = l
+pub either-room : (traced : Bool) (m n k : ℕ) → n ≤ m → cond traced m n ≤ k → n ≤ k
+either-room true m n k h l = omega (arith, h, l)
+either-room false m n k h l = l

@@ -29,5 +29,5 @@ abbrev pub Answered : ℕ → Printed → List ℕ → Type 0
 Answered n r room = n ≤ length room → r .verdict .number ≡ 0
 
 -- n counts bytes at the start of the room, so that a program can lend just these on
-abbrev pub Within : ℕ → List ℕ → Type 0
-Within n room = (n ≤ length room) × (n ≡ length (take n room))
+abbrev pub Lendable : ℕ → List ℕ → Type 0
+Lendable n room = (n ≤ length room) × (n ≡ length (take n room))

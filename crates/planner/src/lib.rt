@@ -15,7 +15,7 @@ ghost use Rattle.rules.specs.Trace.{traces};
 ghost use Rattle.rules.specs.Theorems.{mostBytes};
 ghost use Rattle.stored.specs.Room.{roomOf};
 ghost use Rattle.stored.specs.Steps.{firstOf};
-ghost use Rattle.planner.specs.Answering.{runReport, passTrace, jobText, inputText, Answered, Within};
+ghost use Rattle.planner.specs.Answering.{runReport, passTrace, jobText, inputText, Answered, Lendable};
 
 // The blocks of the largest stored job, and one more, so that a longer input is seen to be longer.
 pub const INPUT_BYTES: usize = 512
@@ -208,7 +208,7 @@ fn print_first(
 // A stored job is read, and run or passed over once; what reading refuses is told as a refused run is. INPUT_BYTES is more than any job has.
 fn answer(input: &[u8], out: &mut [u8], traced: bool) -> Printed
     ensures { λ r. do ⌜ «printed» r (now (out .exit)) ≡ intoRoom (inputText traced (limitsOf (← ⟦Job::MOST_FILES⟧ .entry) (← ⟦Job::MOST_RECIPES⟧ .entry) (← ⟦Job::MOST_PINS⟧ .entry) (← ⟦Job::MOST_DEN⟧ .entry)) (now (input .entry))) (now (out .entry)) ⌝ }
-    ensures { λ r. do ⌜ Answered (cond traced (← ⟦TRACE_BYTES⟧ .entry) (← ⟦TEXT_BYTES⟧ .entry)) r (now (out .entry)) × Within (r .bytes) (now (out .exit)) ⌝ }
+    ensures { λ r. do ⌜ Answered (cond traced (← ⟦TRACE_BYTES⟧ .entry) (← ⟦TEXT_BYTES⟧ .entry)) r (now (out .entry)) × Lendable (r .bytes) (now (out .exit)) ⌝ }
     ensures { λ r. do ⌜ mostBytes (limitsOf (← ⟦Job::MOST_FILES⟧ .entry) (← ⟦Job::MOST_RECIPES⟧ .entry) (← ⟦Job::MOST_PINS⟧ .entry) 0) < (← ⟦INPUT_BYTES⟧ .entry) ⌝ }
 {
     let mut sizes = [0u16; Job::MOST_FILES];
@@ -243,7 +243,7 @@ fn answer(input: &[u8], out: &mut [u8], traced: bool) -> Printed
 // The night's report of a stored job: what the program `night` prints, for every input.
 pub fn night(input: &[u8], out: &mut [u8]) -> Printed
     ensures { λ r. do ⌜ «printed» r (now (out .exit)) ≡ intoRoom (prints (limitsOf (← ⟦Job::MOST_FILES⟧ .entry) (← ⟦Job::MOST_RECIPES⟧ .entry) (← ⟦Job::MOST_PINS⟧ .entry) (← ⟦Job::MOST_DEN⟧ .entry)) (now (input .entry))) (now (out .entry)) ⌝ }
-    ensures { λ r. do ⌜ Answered (← ⟦TEXT_BYTES⟧ .entry) r (now (out .entry)) × Within (r .bytes) (now (out .exit)) ⌝ }
+    ensures { λ r. do ⌜ Answered (← ⟦TEXT_BYTES⟧ .entry) r (now (out .entry)) × Lendable (r .bytes) (now (out .exit)) ⌝ }
 {
     answer(input, out, false)
 }
@@ -251,7 +251,7 @@ pub fn night(input: &[u8], out: &mut [u8]) -> Printed
 // The trace of one pass over a stored job: what the program `trace` prints, for every input.
 pub fn trace(input: &[u8], out: &mut [u8]) -> Printed
     ensures { λ r. do ⌜ «printed» r (now (out .exit)) ≡ intoRoom (traces (limitsOf (← ⟦Job::MOST_FILES⟧ .entry) (← ⟦Job::MOST_RECIPES⟧ .entry) (← ⟦Job::MOST_PINS⟧ .entry) (← ⟦Job::MOST_DEN⟧ .entry)) (now (input .entry))) (now (out .entry)) ⌝ }
-    ensures { λ r. do ⌜ Answered (← ⟦TRACE_BYTES⟧ .entry) r (now (out .entry)) × Within (r .bytes) (now (out .exit)) ⌝ }
+    ensures { λ r. do ⌜ Answered (← ⟦TRACE_BYTES⟧ .entry) r (now (out .entry)) × Lendable (r .bytes) (now (out .exit)) ⌝ }
 {
     answer(input, out, true)
 }

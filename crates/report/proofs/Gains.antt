@@ -1,8 +1,8 @@
--- A gain with its sign: how the machine reads it back, its text, and how long that can be. Assumes nothing.
+-- A gain with its sign: how the machine reads it back, and its text. Assumes nothing.
 use mathlib.Core.Path.{_≡_, refl, ap, _∙_}
 use Prim.Native.Nat.{ℕ, suc, _+_, _*_, _≤_, _<_, _^_}
 use mathlib.Core.Bool.{true, false}
-use mathlib.Core.List.{List, [], _∷_, _++_}
+use mathlib.Core.List.{List, [], _∷_, _++_, append-nil}
 use native.Mathlib.Omega.{arith}
 use lib.Dec.{T}
 use lib.ListN.{length, getD}
@@ -14,11 +14,10 @@ use mir.Val.{SFits, toZ, ofZ}
 use mir.Facts.{toZ-ofZ}
 use Rattle.rules.proofs.Machine.{wide-is}
 use Rattle.rules.proofs.Tests.{clash}
-use Rattle.rules.specs.Report.{digits}
+use Rattle.rules.specs.Report.{text}
 use Rattle.rules.specs.Trace.{signed, gainWords}
-use Rattle.report.specs.Laying.{Laid}
-use Rattle.report.proofs.Laying.{pieces, Laying, laying-none, laying-more, laying-end, laid-as}
-use Rattle.rules.proofs.Digits.{long-digits}
+use Rattle.report.specs.Laying.{Laid, pieces, shown, filled}
+use Rattle.report.proofs.Laying.{Laying, laying-none, laying-more, laying-end, laid-as}
 
 -- ---- its magnitude, at eight bytes
 
@@ -29,11 +28,11 @@ module _ (g : ℤ) (f : SFits w32 g) where
   -- below zero
   module _ (low : ltZ (toZ w64 (ofZ w64 (toZ w32 (ofZ w32 g)))) (pos 0) ≡ true) where
     above : pos 0 -ℤ toZ w64 (ofZ w64 (toZ w32 (ofZ w32 g))) ≡ pos (natAbs g)
-    above = ap (λ (z : ℤ). pos 0 -ℤ z) (wide-is g f) ∙ turned g (rw (wide-is g f) at low)
+    above = ap (λ (z : ℤ). pos 0 -ℤ z) (wide-is g f) ∙ negated g (rw (wide-is g f) at low)
       where
-        turned : (z : ℤ) → ltZ z (pos 0) ≡ true → pos 0 -ℤ z ≡ pos (natAbs z)
-        turned (pos n) h = absurd (omega (arith, ltb-true n 0 h))
-        turned (negsuc n) h = +ℤ-idl (pos (suc n))
+        negated : (z : ℤ) → ltZ z (pos 0) ≡ true → pos 0 -ℤ z ≡ pos (natAbs z)
+        negated (pos n) h = absurd (omega (arith, ltb-true n 0 h))
+        negated (negsuc n) h = +ℤ-idl (pos (suc n))
 
     pub above-fits : SFits w64 (pos 0 -ℤ toZ w64 (ofZ w64 (toZ w32 (ofZ w32 g))))
     above-fits = rw above (record { sfits = omega (arith, small-gain) })
@@ -43,29 +42,29 @@ module _ (g : ℤ) (f : SFits w32 g) where
 
   -- not below zero
   pub not-low : ltZ (toZ w64 (ofZ w64 (toZ w32 (ofZ w32 g)))) (pos 0) ≡ false → T (nonNeg g)
-  not-low high = plain g (rw (wide-is g f) at high)
+  not-low high = not-below g (rw (wide-is g f) at high)
     where
-      plain : (z : ℤ) → ltZ z (pos 0) ≡ false → T (nonNeg z)
-      plain (pos n) h = tt
-      plain (negsuc n) h = clash h
+      not-below : (z : ℤ) → ltZ z (pos 0) ≡ false → T (nonNeg z)
+      not-below (pos n) h = tt
+      not-below (negsuc n) h = clash h
 
 -- ---- its text
 
 module _ (g : ℤ) (n : ℕ) (f : SFits w32 g) (e : n ≡ natAbs (toZ w32 (ofZ w32 g))) where
-  pub signed-low : ltZ (toZ w32 (ofZ w32 g)) (pos 0) ≡ true → (32 ∷ 45 ∷ []) ++ digits n ≡ signed g
-  unfolding signed
+  pub signed-low : ltZ (toZ w32 (ofZ w32 g)) (pos 0) ≡ true → filled (n ∷ []) (text " -0") ≡ signed g
+  unfolding signed text pieces shown
   signed-low h = go g (rw (toZ-ofZ f) at h) (rw (toZ-ofZ f) at e)
     where
-      go : (z : ℤ) → ltZ z (pos 0) ≡ true → n ≡ natAbs z → (32 ∷ 45 ∷ []) ++ digits n ≡ signed z
+      go : (z : ℤ) → ltZ z (pos 0) ≡ true → n ≡ natAbs z → filled (n ∷ []) (text " -0") ≡ signed z
       go (pos k) l q = absurd (omega (arith, ltb-true k 0 l))
-      go (negsuc k) l q = rw q
+      go (negsuc k) l q = rw (append-nil, q)
 
-  pub signed-high : ltZ (toZ w32 (ofZ w32 g)) (pos 0) ≡ false → 32 ∷ digits n ≡ signed g
-  unfolding signed
+  pub signed-high : ltZ (toZ w32 (ofZ w32 g)) (pos 0) ≡ false → filled (n ∷ []) (text " 0") ≡ signed g
+  unfolding signed text pieces shown
   signed-high h = go g (rw (toZ-ofZ f) at h) (rw (toZ-ofZ f) at e)
     where
-      go : (z : ℤ) → ltZ z (pos 0) ≡ false → n ≡ natAbs z → 32 ∷ digits n ≡ signed z
-      go (pos k) l q = rw q
+      go : (z : ℤ) → ltZ z (pos 0) ≡ false → n ≡ natAbs z → filled (n ∷ []) (text " 0") ≡ signed z
+      go (pos k) l q = rw (append-nil, q)
       go (negsuc k) l q = clash l
 
 -- a gain handed on is the gain read back
@@ -76,13 +75,6 @@ pub gain-pieces : (gains : List ℤ) → pieces signed gains ≡ gainWords gains
 unfolding pieces gainWords
 gain-pieces [] = refl
 gain-pieces (g ∷ gains) = ap (λ (l : List ℕ). signed g ++ l) (gain-pieces gains)
-
--- a gain that the code holds is at most this long
-
-pub signed-length : (g : ℤ) → SFits w32 g → length (signed g) ≤ 22
-unfolding signed
-signed-length (pos n) h = omega (arith, long-digits n (omega (arith, h .sfits)))
-signed-length (negsuc n) h = omega (arith, long-digits (suc n) (omega (arith, h .sfits)))
 
 -- ---- the gain list, gain by gain
 

@@ -5,12 +5,11 @@ use mathlib.Core.List.{List, [], _∷_, _++_, append-nil, append-assoc}
 use native.Mathlib.Nat.{add-zero, zero-add}
 use native.Mathlib.Numerals.{add-one}
 use native.Mathlib.Omega.{arith}
-use lib.Dec.{leb}
 use lib.ListN.{length, getD, take, drop, set, length-append, take-append-drop}
 use lib.Seq.{sets, set-out, sets-eq, length-sets, take-suc, take-all}
 use Rattle.rules.specs.Lists.{onto, upTo}
 use Rattle.rules.proofs.Count.{length-upTo, getD-upTo}
-use Rattle.report.specs.Laying.{over, Ahead, Near, Laid}
+use Rattle.report.specs.Laying.{over, Near, Laid, pieces}
 
 over-more : (at : ℕ) (t u room : List ℕ) → over (at + length t) u (over at t room) ≡ over at (t ++ u) room
 unfolding over
@@ -65,14 +64,6 @@ module _ {at : ℕ} (t u v : List ℕ) (n : Near at (t ++ u ++ v)) where
     pub near-three : {q : ℕ} {next : List ℕ} → Laid p u mid q next → Near q v
     near-three m = near-rest (laid-more l m) v n
 
--- a text of at most k bytes
-module _ {at k : ℕ} {t : List ℕ} (h : length t ≤ k) where
-  pub near-short : Ahead at k → Near at t
-  near-short a = record { near = omega arith }
-
-  pub ends-short : {n : ℕ} {room after : List ℕ} → Laid at t room n after → n ≤ at + k
-  ends-short l = omega (arith, l .ends)
-
 pub near-as : {at : ℕ} {t u : List ℕ} → t ≡ u → Near at t → Near at u
 near-as e n = record { near = rw (← e) (n .near) }
 
@@ -81,11 +72,7 @@ laid-as {at} {n} {t} {u} {room} {after} e l = rw (← e) l
 
 -- ---- pieces, one for each entry of a list
 
-unfoldable pub pieces : {A : Type 0} → (A → List ℕ) → List A → List ℕ
-pieces piece [] = []
-pieces piece (x ∷ xs) = piece x ++ pieces piece xs
-
-pieces-append : {A : Type 0} (piece : A → List ℕ) (xs ys : List A) → pieces piece (xs ++ ys) ≡ pieces piece xs ++ pieces piece ys
+pub pieces-append : {A : Type 0} (piece : A → List ℕ) (xs ys : List A) → pieces piece (xs ++ ys) ≡ pieces piece xs ++ pieces piece ys
 unfolding pieces
 pieces-append piece [] ys = refl
 pieces-append piece (x ∷ xs) ys = ap (λ (l : List ℕ). piece x ++ l) (pieces-append piece xs ys) ∙ sym (append-assoc (piece x) (pieces piece xs) (pieces piece ys))
@@ -140,26 +127,9 @@ module _ {piece : ℕ → List ℕ} {n at i next : ℕ} {room mid : List ℕ} (l
 -- ---- a text laid from the start on
 
 module _ {n : ℕ} {t room after : List ℕ} (l : Laid 0 t room n after) where
-  pub counted : n ≡ length t
-  counted = l .ends ∙ zero-add (length t)
+  pub counts-text : n ≡ length t
+  counts-text = l .ends ∙ zero-add (length t)
 
   pub laid-onto : length t ≤ length room → after ≡ onto t room
   unfolding over onto
   laid-onto h = l .holds ∙ sets-eq t room 0 (omega arith) ∙ ap (λ (k : ℕ). t ++ drop k room) (zero-add (length t))
-
--- ---- a text counted with no room, then laid
-
-module _ {n : ℕ} {t last : List ℕ} (l : Laid 0 t [] n last) (room : List ℕ) where
-  -- the lent part, back in its place, changes nothing
-  pub stays : last ++ room ≡ room
-  stays = ap (λ (x : List ℕ). x ++ room) (empty last (laid-length l))
-    where
-      empty : (x : List ℕ) → length x ≡ 0 → x ≡ []
-      empty [] e = refl
-      empty (a ∷ x) e = absurd (omega arith)
-
-  pub roomy : leb n (length (last ++ room)) ≡ leb (length t) (length room)
-  roomy = rw (stays, counted l)
-
-  pub laid-then : {m : ℕ} {after : List ℕ} → Laid 0 t (last ++ room) m after → length t ≤ length room → after ≡ onto t room
-  laid-then k h = laid-onto (rw stays at k) h

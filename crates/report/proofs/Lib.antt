@@ -1,4 +1,5 @@
 pub mod Laying
+pub mod Forms
 pub mod Lines
 pub mod Gains
 pub mod Traces

@@ -1,9 +1,9 @@
 -- The verdict on what is told, and the answer with the room that it leaves. Assumes nothing.
-use mathlib.Core.Path.{_≡_, refl, ap, _∙_}
+use mathlib.Core.Path.{_≡_, refl, sym, ap, _∙_}
 use mathlib.Core.Logic.{_≢_}
 use Prim.Native.Nat.{ℕ, _≤_}
 use mathlib.Core.Bool.{Bool, true, false, not, cond, _&&_}
-use mathlib.Core.List.{List, [], _++_}
+use mathlib.Core.List.{List, []}
 use native.Mathlib.Omega.{arith}
 use lib.ListN.{length, getD}
 use lib.Dec.{leb, ltb, eqb}
@@ -19,9 +19,9 @@ use Rattle.rules.specs.Check.{done, isDone, refuseIf, refuseAt, _orElse_}
 use Rattle.rules.specs.Report.{refusal, figureLines, report, ofSizes, splitVerdict, Printing, printed, printing, reporting}
 use Rattle.rules.specs.Trace.{Listing, passLines, trace, holdsPass, tracing}
 use Rattle.report.specs.Laying.{Laid}
-use Rattle.report.specs.Steps.{lengthsVerdict, roomVerdict, figuresVerdict}
-use Rattle.report.specs.Tracing.{passVerdict, toldVerdict}
-use Rattle.report.proofs.Laying.{counted, stays, roomy, laid-then}
+use Rattle.report.specs.Steps.{lengthsVerdict, roomVerdict}
+use Rattle.report.specs.Tracing.{passVerdict}
+use Rattle.report.proofs.Laying.{counts-text, laid-onto}
 
 -- ---- the verdict in two parts
 
@@ -31,8 +31,8 @@ two-parts true same lent last = refl
 two-parts false true lent last = refl
 two-parts false false lent last = refl
 
-split-parts : (most : Limits) (sizes sides : List ℕ) (lent : Bool) → splitVerdict most sizes sides lent ≡ figuresVerdict (most .files) sizes sides lent
-unfolding figuresVerdict lengthsVerdict roomVerdict
+split-parts : (most : Limits) (sizes sides : List ℕ) (lent : Bool) → splitVerdict most sizes sides lent ≡ (lengthsVerdict (most .files) sizes sides orElse roomVerdict sides lent)
+unfolding lengthsVerdict roomVerdict
 split-parts most sizes sides lent =
     two-parts (ltb (most .files) (length sizes)) (eqb (length sides) (length sizes)) lent (refuseAt 6 (λ f. ltb 1 (getD sides f 0)) (length sides))
 
@@ -47,8 +47,9 @@ held-part v last held lent = go (eqb (v .number) 0) refl held
     go true e false = refl
     go false e held = rw e
 
-told-parts : (most : Limits) (sizes sides : List ℕ) (held lent : Bool) → splitVerdict most sizes sides (held && lent) ≡ toldVerdict (most .files) sizes sides held lent
-unfolding figuresVerdict roomVerdict passVerdict toldVerdict
+told-parts : (most : Limits) (sizes sides : List ℕ) (held lent : Bool)
+    → splitVerdict most sizes sides (held && lent) ≡ (passVerdict (most .files) sizes sides held orElse roomVerdict sides lent)
+unfolding roomVerdict passVerdict
 told-parts most sizes sides held lent =
     split-parts most sizes sides (held && lent)
     ∙ held-part (lengthsVerdict (most .files) sizes sides) (refuseAt 6 (λ f. ltb 1 (getD sides f 0)) (length sides)) held lent
@@ -79,15 +80,15 @@ split-room-tells sides a b h = room-tells a b (passes-both (refuseIf (not (leb a
 
 -- a text of n bytes, and room for m at least
 module _ (m n : ℕ) (t room : List ℕ) (e : n ≡ length t) (h : n ≤ m) (long : m ≤ length room) where
-  fits : leb (length t) (length room) ≡ true
-  fits = le-leb (length t) (length room) (omega (arith, e))
+  text-fits : leb (length t) (length room) ≡ true
+  text-fits = le-leb (length t) (length room) (omega (arith, e))
 
   pub refusal-enough : {v : Verdict} → v ≡ refuseIf (not (leb (length t) (length room))) 3 0 → v .number ≢ 3
-  refusal-enough q = rw (q, fits) (λ z. omega (arith, z))
+  refusal-enough q = rw (q, text-fits) (λ z. omega (arith, z))
 
   room-enough : (sides : List ℕ) {v : Verdict} → v ≡ roomVerdict sides (leb (length t) (length room)) → v .number ≢ 3
   unfolding roomVerdict
-  room-enough sides q = rw (q, fits) (at-six (someBelow (λ f. ltb 1 (getD sides f 0)) (length sides)) (lowest (λ f. ltb 1 (getD sides f 0)) (length sides)))
+  room-enough sides q = rw (q, text-fits) (at-six (someBelow (λ f. ltb 1 (getD sides f 0)) (length sides)) (lowest (λ f. ltb 1 (getD sides f 0)) (length sides)))
     where
       at-six : (b : Bool) (p : ℕ) → refuseIf b 6 p .number ≢ 3
       at-six true p z = omega (arith, z)
@@ -122,25 +123,26 @@ module _ {v w : Verdict} (bytes room : List ℕ) {after : List ℕ} (q : v ≡ w
 
 -- ---- a text told: refused before it is counted, then for want of room, or else laid
 
-module _ {first : Verdict} (sides t room : List ℕ) where
-  pub told-none : {v : Verdict} → v ≡ first → (v .number ≡ 0 → ⊥)
-      → printed (record { verdict = v; bytes = 0 }) room ≡ printing (first orElse roomVerdict sides (leb (length t) (length room))) t room
-  told-none e h = not-printed t room (chain-stop _ e h) h refl
+pub record Told (whole : Printing) (first : Verdict) (sides t room : List ℕ) : Type 0 where
+  pub is : whole ≡ printing (first orElse roomVerdict sides (leb (length t) (length room))) t room
 
-  module _ {v w : Verdict} {n : ℕ} {last : List ℕ} (e : v ≡ first) (z : v .number ≡ 0) (l : Laid 0 t [] n last) (q : w ≡ roomVerdict sides (leb n (length (last ++ room)))) where
+module _ {whole : Printing} {first : Verdict} {sides t room : List ℕ} (x : Told whole first sides t room) where
+  pub told-none : {v : Verdict} → v ≡ first → (v .number ≡ 0 → ⊥) → printed (record { verdict = v; bytes = 0 }) room ≡ whole
+  told-none e h = not-printed t room (chain-stop _ e h) h refl ∙ sym (x .is)
+
+  module _ {v w : Verdict} {n : ℕ} {last : List ℕ} (e : v ≡ first) (z : v .number ≡ 0) (l : Laid 0 t [] n last) (q : w ≡ roomVerdict sides (leb n (length room))) where
     room-is : w ≡ roomVerdict sides (leb (length t) (length room))
-    room-is = q ∙ ap (roomVerdict sides) (roomy l room)
+    room-is = q ∙ ap (λ (k : ℕ). roomVerdict sides (leb k (length room))) (counts-text l)
 
-    pub told-short : (w .number ≡ 0 → ⊥)
-        → printed (record { verdict = w; bytes = 0 }) (last ++ room) ≡ printing (first orElse roomVerdict sides (leb (length t) (length room))) t room
-    told-short h = not-printed t room (chain-go e z room-is) h (stays l room)
+    pub told-short : (w .number ≡ 0 → ⊥) → printed (record { verdict = w; bytes = 0 }) room ≡ whole
+    told-short h = not-printed t room (chain-go e z room-is) h refl ∙ sym (x .is)
 
-    pub told-whole : {m : ℕ} {after : List ℕ} → w .number ≡ 0 → Laid 0 t (last ++ room) m after
-        → printed (record { verdict = w; bytes = n }) after ≡ printing (first orElse roomVerdict sides (leb (length t) (length room))) t room
-    told-whole h k = is-printed t room (chain-go e z room-is) h (counted l) (laid-then l room k (split-room-tells sides _ _ (zero-of room-is h)))
+    pub told-whole : {m : ℕ} {after : List ℕ} → w .number ≡ 0 → Laid 0 t room m after → printed (record { verdict = w; bytes = n }) after ≡ whole
+    told-whole h k =
+        is-printed t room (chain-go e z room-is) h (counts-text l) (laid-onto k (split-room-tells sides (length t) (length room) (zero-of room-is h))) ∙ sym (x .is)
 
     pub told-enough : (m : ℕ) → n ≤ m → m ≤ length room → w .number ≢ 3
-    told-enough m h long = room-enough m n t room (counted l) h long sides room-is
+    told-enough m h long = room-enough m n t room (counts-text l) h long sides room-is
 
 -- ---- what is told of an answer: its lines, or its refusal
 
@@ -157,22 +159,22 @@ module _ (most : Limits) (sizes sides : List ℕ) (v : Verdict) (held : Bool) (l
   lines-told : v .number ≡ 0 → answered (isDone v) ≡ printing (splitVerdict most sizes sides (held && leb (length lines) (length room))) lines room
   lines-told h = ap answered (eq-eqb (v .number) 0 h)
 
-module _ (most : Limits) (sizes : List ℕ) (r : RunFigures) (sides room : List ℕ) where
-  pub reporting-figures : r .figures .verdict .number ≡ 0
-      → reporting most sizes r sides room
-      ≡ printing (figuresVerdict (most .files) sizes sides (leb (length (figureLines (ofSizes sizes) r sides)) (length room))) (figureLines (ofSizes sizes) r sides) room
-  unfolding reporting report
-  reporting-figures h =
-      let lines : List ℕ = figureLines (ofSizes sizes) r sides in
-      lines-told most sizes sides (r .figures .verdict) true lines room h
-      ∙ ap (λ (v : Verdict). printing v lines room) (split-parts most sizes sides (leb (length lines) (length room)))
+pub reporting-told : (most : Limits) (sizes : List ℕ) (r : RunFigures) (sides room : List ℕ) → r .figures .verdict .number ≡ 0
+    → Told (reporting most sizes r sides room) (lengthsVerdict (most .files) sizes sides) sides (figureLines (ofSizes sizes) r sides) room
+unfolding reporting report
+reporting-told most sizes r sides room h =
+    let lines : List ℕ = figureLines (ofSizes sizes) r sides in
+    record {
+      is = lines-told most sizes sides (r .figures .verdict) true lines room h
+          ∙ ap (λ (v : Verdict). printing v lines room) (split-parts most sizes sides (leb (length lines) (length room)));
+    }
 
-module _ (most : Limits) (sizes : List ℕ) (f : Figures) (sides : List ℕ) (l : Listing) (room : List ℕ) where
-  pub tracing-pass : f .verdict .number ≡ 0
-      → tracing most sizes f sides l room
-      ≡ printing (toldVerdict (most .files) sizes sides (holdsPass sizes f l) (leb (length (passLines (ofSizes sizes) f sides l)) (length room))) (passLines (ofSizes sizes) f sides l) room
-  unfolding tracing trace
-  tracing-pass h =
-      let lines : List ℕ = passLines (ofSizes sizes) f sides l in
-      lines-told most sizes sides (f .verdict) (holdsPass sizes f l) lines room h
-      ∙ ap (λ (v : Verdict). printing v lines room) (told-parts most sizes sides (holdsPass sizes f l) (leb (length lines) (length room)))
+pub tracing-told : (most : Limits) (sizes : List ℕ) (f : Figures) (sides : List ℕ) (l : Listing) (room : List ℕ) → f .verdict .number ≡ 0
+    → Told (tracing most sizes f sides l room) (passVerdict (most .files) sizes sides (holdsPass sizes f l)) sides (passLines (ofSizes sizes) f sides l) room
+unfolding tracing trace
+tracing-told most sizes f sides l room h =
+    let lines : List ℕ = passLines (ofSizes sizes) f sides l in
+    record {
+      is = lines-told most sizes sides (f .verdict) (holdsPass sizes f l) lines room h
+          ∙ ap (λ (v : Verdict). printing v lines room) (told-parts most sizes sides (holdsPass sizes f l) (leb (length lines) (length room)));
+    }

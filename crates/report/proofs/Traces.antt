@@ -1,32 +1,29 @@
--- The lines of a trace: as pieces, and how long they can be. Assumes nothing.
+-- The lines of a trace: as pieces and as forms. Assumes nothing.
 use mathlib.Core.Path.{_≡_, refl, sym, ap, _∙_}
 use Prim.Native.Nat.{ℕ, zero, suc, _+_, _-_, _*_, _≤_, _<_}
 use mathlib.Core.Bool.{Bool, true, false, not, _&&_, _||_}
-use mathlib.Core.List.{List, [], _∷_, _++_, append-assoc}
+use mathlib.Core.List.{List, [], _∷_, _++_, append-nil, append-assoc}
 use native.Mathlib.Omega.{arith}
 use native.Mathlib.Numerals.{add-one}
 use lib.Dec.{leb, ltb, eqb}
-use lib.ListN.{length, getD, length-append}
+use lib.ListN.{length, getD}
 use lib.IntN.{ℤ, pos}
 use mir.Syntax.{w32}
 use mir.Val.{SFits, toZ, ofZ}
 use mir.Facts.{toZ-ofZ}
-use borrow.Author.Tests.{ltb-false, leb-true, eqb-true, not-true}
+use borrow.Author.Tests.{le-leb, lt-leb, ltb-false, leb-true, eqb-true, not-true}
 use Rattle.rules.specs.declared.Figures.{Figures}
 use Rattle.rules.specs.Lists.{lowest, someBelow, upTo}
 use Rattle.rules.specs.Job.{Job}
 use Rattle.rules.specs.Split.{sizeOn}
-use Rattle.rules.specs.Report.{text, spaced, line, sizeLine}
+use Rattle.rules.specs.Report.{text, spaced, line, sizeLine, sidesLine}
 use Rattle.rules.specs.Trace.{Listing, signed, scanLines, scansBefore, moveLines, movesLines, passLines, badEnd, holdsPass}
 use Rattle.rules.proofs.Tests.{or-no, and-yes}
 use Rattle.rules.proofs.Searches.{none-below, Passed, passed-none, passed-more, passed-some, passed-no}
-use Rattle.report.specs.Laying.{Laid}
-use Rattle.report.specs.Steps.{cutLines}
-use Rattle.report.specs.Tracing.{scansOf, endsOf, movesOf, InOrder, MovesHeld, moveLine, gainsLine, tallyLines, tailLines}
-use Rattle.rules.proofs.Digits.{Long}
-use Rattle.report.proofs.Laying.{pieces, grows, Laying, laying-none, growing-more, growing-end, growing-stop, laid-as, laid-more}
-use Rattle.report.proofs.Lines.{Held, line-one, line-two, spaced-length}
-use Rattle.report.proofs.Gains.{signed-length}
+use Rattle.report.specs.Laying.{Laid, pieces, shown, filled}
+use Rattle.report.specs.Tracing.{scanLists, endsOf, moveLists, InOrder, MovesHeld, moveLine, gainsLine, tailLines}
+use Rattle.report.proofs.Forms.{joined}
+use Rattle.report.proofs.Laying.{grows, Laying, laying-none, growing-more, growing-end, growing-stop, laid-as, laid-more}
 
 -- ---- texts that grow by a line for each scan or move
 
@@ -43,20 +40,20 @@ move-pieces l = grows (moveLines l) (movesLines l) refl (λ n. refl)
 
 -- ---- lists that a text does not read
 
-scans-same : (l : Listing) (a n : ℕ) → scanLines (scansOf (l .recipes) (l .kinds)) a n ≡ scanLines l a n
+scans-same : (l : Listing) (a n : ℕ) → scanLines (scanLists (l .recipes) (l .kinds)) a n ≡ scanLines l a n
 unfolding scanLines
 scans-same l a zero = refl
 scans-same l a (suc n) = ap (λ (t : List ℕ). t ++ scanLine l a n) (scans-same l a n)
 
 abbrev pub onlyMoves : Listing → Listing
-onlyMoves l = movesOf (l .tried) (l .gained) (l .cuts) (l .ends) (l .recipes) (l .kinds)
+onlyMoves l = moveLists (l .tried) (l .gained) (l .cuts) (l .ends) (l .recipes) (l .kinds)
 
 abbrev pub onlyEnds : Listing → Listing
 onlyEnds l = endsOf (l .ends) (l .recipes) (l .kinds)
 
 -- a move, and its scans from the first on
 move-parts : (l : Listing) (i first : ℕ) → first ≡ scansBefore l i
-    → moveLine (getD (l .tried) i 0) (getD (l .gained) i (pos 0)) (getD (l .cuts) i 0) ++ scanLines (scansOf (l .recipes) (l .kinds)) first (getD (l .ends) i 0 - first)
+    → moveLine (getD (l .tried) i 0) (getD (l .gained) i (pos 0)) (getD (l .cuts) i 0) ++ scanLines (scanLists (l .recipes) (l .kinds)) first (getD (l .ends) i 0 - first)
     ≡ moveLines l i
 unfolding moveLine moveLines
 move-parts l i first e = rw (scans-same l first (getD (l .ends) i 0 - first), e)
@@ -92,48 +89,23 @@ ends-agree l n = ap (λ (k : ℕ). ltb k n) (go n)
 -- ---- the lists hold the pass
 
 -- a test of each list in turn, as the code groups them
-held-parts : (a b c d e f g : Bool) → ((a && b) && (c && d && e && f) && g) ≡ (a && b && c && d && e && f && g)
-held-parts true true c d e f g = refl
-held-parts true false c d e f g = refl
-held-parts false b c d e f g = refl
+grouped : (a b c d e f g : Bool) → ((a && b) && (c && d && e) && (f && g)) ≡ (a && b && c && d && e && f && g)
+grouped true true true true true f g = refl
+grouped true true true true false f g = refl
+grouped true true true false e f g = refl
+grouped true true false d e f g = refl
+grouped true false c d e f g = refl
+grouped false b c d e f g = refl
 
-module _ (sizes : List ℕ) (f : Figures) (l : Listing) where
-  abbrev filesHeld : Bool
-  filesHeld = eqb (length (l .gains)) (length sizes) && leb (f .tried) (length sizes)
-
-  abbrev movesHeld : Bool
-  movesHeld =
-      leb (f .tried) (length (l .tried)) && leb (f .tried) (length (l .gained)) && leb (f .tried) (length (l .cuts)) && leb (f .tried) (length (l .ends))
-
-  abbrev scansHeld : Bool
-  scansHeld = not (someBelow (badEnd l) (f .tried))
-
-  grouped : (filesHeld && movesHeld && scansHeld) ≡ holdsPass sizes f l
-  grouped =
-      held-parts (eqb (length (l .gains)) (length sizes)) (leb (f .tried) (length sizes)) (leb (f .tried) (length (l .tried))) (leb (f .tried) (length (l .gained)))
-      (leb (f .tried) (length (l .cuts))) (leb (f .tried) (length (l .ends))) scansHeld
-
-  module _ {files : Bool} (e : files ≡ filesHeld) where
-    first-is : {b : Bool} → files ≡ b → (b && movesHeld && scansHeld) ≡ holdsPass sizes f l
-    first-is h = ap (λ (b : Bool). b && movesHeld && scansHeld) (sym h ∙ e) ∙ grouped
-
-    pub no-files : files ≡ false → false ≡ holdsPass sizes f l
-    no-files h = first-is h
-
-    module _ {moves : Bool} (q : moves ≡ movesHeld) where
-      second-is : {b : Bool} → files ≡ true → moves ≡ b → (b && scansHeld) ≡ holdsPass sizes f l
-      second-is h k = ap (λ (b : Bool). b && scansHeld) (sym k ∙ q) ∙ first-is h
-
-      pub no-moves : files ≡ true → moves ≡ false → false ≡ holdsPass sizes f l
-      no-moves h k = second-is h k
-
-      pub all-ends : moves ≡ true → f .tried ≤ length (l .ends)
-      all-ends k =
-          let others : Bool = leb (f .tried) (length (l .tried)) && leb (f .tried) (length (l .gained)) && leb (f .tried) (length (l .cuts)) in
-          leb-true (f .tried) (length (l .ends)) (and-yes others (leb (f .tried) (length (l .ends))) (sym q ∙ k) .1)
-
-      pub all-held : {scans : Bool} → files ≡ true → moves ≡ true → scans ≡ not (someBelow (badEnd (onlyEnds l)) (f .tried)) → scans ≡ holdsPass sizes f l
-      all-held h k m = m ∙ ap not (ends-agree l (f .tried)) ∙ second-is h k
+pub held-is : (sizes : List ℕ) (f : Figures) (l : Listing) {files moves scans : Bool}
+    → files ≡ (eqb (length (l .gains)) (length sizes) && leb (f .tried) (length sizes))
+    → moves ≡ (leb (f .tried) (length (l .tried)) && leb (f .tried) (length (l .gained)) && leb (f .tried) (length (l .cuts)))
+    → scans ≡ (leb (f .tried) (length (l .ends)) && not (someBelow (badEnd (onlyEnds l)) (f .tried)))
+    → (files && moves && scans) ≡ holdsPass sizes f l
+held-is sizes f l x y z =
+    rw (x, y, z, ends-agree l (f .tried))
+    (grouped (eqb (length (l .gains)) (length sizes)) (leb (f .tried) (length sizes)) (leb (f .tried) (length (l .tried))) (leb (f .tried) (length (l .gained)))
+    (leb (f .tried) (length (l .cuts))) (leb (f .tried) (length (l .ends))) (not (someBelow (badEnd l) (f .tried))))
 
 pub record PassHeld (sizes : List ℕ) (f : Figures) (l : Listing) : Type 0 where
   pub gains : length (l .gains) ≡ length sizes
@@ -186,6 +158,9 @@ pub record Ending (l : Listing) (n i first : ℕ) : Type 0 where
   pub starts : first ≡ scansBefore l i
   pub passed : Passed (badEnd l) n i
 
+pub ending-short : (l : Listing) (n : ℕ) → length (l .ends) < n → false ≡ (leb n (length (l .ends)) && not (someBelow (badEnd l) n))
+ending-short l n h = rw (lt-leb n (length (l .ends)) h)
+
 pub ending-none : {l : Listing} {n : ℕ} → Ending l n 0 0
 ending-none = record { starts = refl; passed = passed-none }
 
@@ -202,11 +177,12 @@ module _ {l : Listing} {n i first : ℕ} (x : Ending l n i first) where
     passed = passed-more (x .passed) h (sym is-judged ∙ sym e ∙ k);
   }
 
-  pub ending-hit : {b : Bool} → i < n → b ≡ judged → b ≡ true → false ≡ not (someBelow (badEnd l) n)
-  ending-hit h e k = ap not (passed-some (x .passed) h (sym is-judged ∙ sym e ∙ k))
+  module _ (all : n ≤ length (l .ends)) where
+    pub ending-hit : {b : Bool} → i < n → b ≡ judged → b ≡ true → false ≡ (leb n (length (l .ends)) && not (someBelow (badEnd l) n))
+    ending-hit h e k = rw (le-leb n (length (l .ends)) all) (ap not (passed-some (x .passed) h (sym is-judged ∙ sym e ∙ k)))
 
-  pub ending-end : n ≤ i → true ≡ not (someBelow (badEnd l) n)
-  ending-end h = ap not (passed-no (x .passed) h)
+    pub ending-end : n ≤ i → true ≡ (leb n (length (l .ends)) && not (someBelow (badEnd l) n))
+    ending-end h = rw (le-leb n (length (l .ends)) all) (ap not (passed-no (x .passed) h))
 
 -- ---- a loop over the scans of a move
 
@@ -245,7 +221,7 @@ module _ {l : Listing} {n at i first next : ℕ} {room mid : List ℕ} (x : Movi
   ownLine = moveLine (getD (l .tried) i 0) (getD (l .gained) i (pos 0)) (getD (l .cuts) i 0)
 
   abbrev ownScans : List ℕ
-  ownScans = scanLines (scansOf (l .recipes) (l .kinds)) first (getD (l .ends) i 0 - first)
+  ownScans = scanLines (scanLists (l .recipes) (l .kinds)) first (getD (l .ends) i 0 - first)
 
   pub moving-order : MovesHeld n l → i < n → InOrder (l .recipes) (l .kinds) first (getD (l .ends) i 0)
   moving-order m h = rw (x .starts) (in-order l i (m .scans i h))
@@ -270,51 +246,55 @@ module _ {l : Listing} {n at i first next : ℕ} {room mid : List ℕ} (x : Movi
       let e : i ≡ n = omega (arith, growing-stop (x .laying)) in
       rw (← e) (omega (arith, x .short, x .starts))
 
--- ---- the lines grouped as they are written
+-- ---- forms filled in
 
+pub scan-form : (recipe kind : ℕ) → filled (recipe ∷ kind ∷ []) (text "scan 0 1\n") ≡ line "scan" (recipe ∷ kind ∷ [])
+unfolding line spaced text pieces shown
+scan-form recipe kind = simp (append-assoc, append-nil)
+
+file-form : (n : ℕ) → filled (n ∷ []) (text "move 0") ≡ text "move" ++ spaced (n ∷ [])
+unfolding spaced text pieces shown
+file-form n = refl
+
+cut-form : (n : ℕ) → filled (n ∷ []) (text " 0\n") ≡ spaced (n ∷ []) ++ (10 ∷ [])
+unfolding spaced text pieces shown
+cut-form n = simp append-nil
+
+pub move-form : (file : ℕ) (gain : ℤ) (cut : ℕ) → filled (file ∷ []) (text "move 0") ++ signed gain ++ filled (cut ∷ []) (text " 0\n") ≡ moveLine file gain cut
+unfolding moveLine
+move-form file gain cut = rw (file-form file, cut-form cut) (simp append-assoc)
+
+figures-form : (a b c d t k s v : ℕ) → filled (a ∷ b ∷ c ∷ d ∷ t ∷ k ∷ s ∷ v ∷ []) (text "cut 0 1\nsize 2 3\ntried 4\nkept 5\nscans 6\nvisits 7\n")
+    ≡ line "cut" (a ∷ b ∷ []) ++ line "size" (c ∷ d ∷ []) ++ line "tried" (t ∷ []) ++ line "kept" (k ∷ []) ++ line "scans" (s ∷ []) ++ line "visits" (v ∷ [])
+unfolding line spaced text pieces shown
+figures-form a b c d t k s v =
+    let ns : List ℕ = a ∷ b ∷ c ∷ d ∷ t ∷ k ∷ s ∷ v ∷ [] in
+    let cut : filled ns (text "cut 0 1\n") ≡ line "cut" (a ∷ b ∷ []) = simp (append-assoc, append-nil) in
+    let size : filled ns (text "size 2 3\n") ≡ line "size" (c ∷ d ∷ []) = simp (append-assoc, append-nil) in
+    let tried : filled ns (text "tried 4\n") ≡ line "tried" (t ∷ []) = simp append-nil in
+    let kept : filled ns (text "kept 5\n") ≡ line "kept" (k ∷ []) = simp append-nil in
+    let scans : filled ns (text "scans 6\n") ≡ line "scans" (s ∷ []) = simp append-nil in
+    let visits : filled ns (text "visits 7\n") ≡ line "visits" (v ∷ []) = simp append-nil in
+    joined ns (text "cut 0 1\nsize 2 3\ntried 4\nkept 5\nscans 6\n") (text "visits 7\n")
+    (joined ns (text "cut 0 1\nsize 2 3\ntried 4\nkept 5\n") (text "scans 6\n")
+    (joined ns (text "cut 0 1\nsize 2 3\ntried 4\n") (text "kept 5\n")
+    (joined ns (text "cut 0 1\nsize 2 3\n") (text "tried 4\n") (joined ns (text "cut 0 1\n") (text "size 2 3\n") cut size) tried) kept) scans) visits
+
+pub tail-form : (f : Figures) (b : ℕ) (gains : List ℤ) (sides : List ℕ)
+    → gainsLine gains
+    ++ filled (f .before ∷ f .cut ∷ f .size ∷ b ∷ f .tried ∷ f .kept ∷ f .scans ∷ f .visits ∷ []) (text "cut 0 1\nsize 2 3\ntried 4\nkept 5\nscans 6\nvisits 7\n")
+    ++ sidesLine sides
+    ≡ tailLines f b gains sides
+unfolding tailLines
+tail-form f b gains sides = rw (figures-form (f .before) (f .cut) (f .size) b (f .tried) (f .kept) (f .scans) (f .visits)) (simp append-assoc)
+
+-- the lines grouped as they are written
 pub pass-lines : (job : Job) (f : Figures) (sides : List ℕ) (l : Listing) (b : ℕ) → b ≡ sizeOn job 1 sides
     → line "done" [] ++ movesLines (onlyMoves l) (f .tried) ++ tailLines f b (l .gains) sides ≡ passLines job f sides l
-unfolding tailLines passLines cutLines tallyLines gainsLine sizeLine
+unfolding tailLines passLines gainsLine sizeLine
 pass-lines job f sides l b e = rw (e, moves-same l (f .tried)) (simp append-assoc)
 
--- ---- how long: each number is one that the code holds
-
-pub scan-length : (recipe kind : ℕ) → Long recipe → Long kind → length (line "scan" (recipe ∷ kind ∷ [])) ≤ 47
-unfolding text
-scan-length recipe kind h k = omega (arith, line-two "scan" recipe kind h k)
-
-pub move-length : (file : ℕ) (gain : ℤ) (cut : ℕ) → Long file → SFits w32 gain → Long cut → length (moveLine file gain cut) ≤ 69
-unfolding moveLine text spaced
-move-length file gain cut h k m =
-    let first : List ℕ = spaced (file ∷ []) in
-    let last : List ℕ = spaced (cut ∷ []) in
-    omega (
-      arith,
-      length-append (text "move" ++ first ++ signed gain ++ last) (10 ∷ []),
-      length-append (text "move" ++ first ++ signed gain) last,
-      length-append (text "move" ++ first) (signed gain),
-      length-append (text "move") first,
-      spaced-length file [] h,
-      signed-length gain k,
-      spaced-length cut [] m,
-    )
-
-pub tally-length : (f : Figures) → Held f → length (tallyLines (f .tried) (f .kept) (f .scans) (f .visits)) ≤ 108
-unfolding tallyLines text
-tally-length f h =
-    let first : List ℕ = line "tried" (f .tried ∷ []) in
-    let second : List ℕ = line "kept" (f .kept ∷ []) in
-    let third : List ℕ = line "scans" (f .scans ∷ []) in
-    omega (
-      arith,
-      length-append (first ++ second ++ third) (line "visits" (f .visits ∷ [])),
-      length-append (first ++ second) third,
-      length-append first second,
-      line-one "tried" (f .tried) (h .tried),
-      line-one "kept" (f .kept) (h .kept),
-      line-one "scans" (f .scans) (h .scans),
-      line-one "visits" (f .visits) (h .visits),
-    )
+-- ---- how many scans
 
 -- where the lists hold the moves, their scans are no more than the scan lists have
 pub before-held : (l : Listing) (n : ℕ) → MovesHeld n l → scansBefore l n ≤ length (l .recipes)

@@ -1,10 +1,12 @@
 -- Text laid into a room. Assumes nothing.
 use mathlib.Core.Path.{_≡_}
-use Prim.Native.Nat.{ℕ, _+_, _<_}
+use Prim.Native.Nat.{ℕ, _+_, _%_, _<_}
+use mathlib.Core.Bool.{cond}
 use mathlib.Core.List.{List, [], _∷_, _++_}
-use lib.ListN.{length}
+use lib.Dec.{ltb}
+use lib.ListN.{length, getD}
 use lib.Seq.{sets}
-use Rattle.rules.specs.Report.{spaced}
+use Rattle.rules.specs.Report.{digits}
 
 -- the room with text in it from a position on, cut off where the room ends
 unfoldable pub over : ℕ → List ℕ → List ℕ → List ℕ
@@ -22,6 +24,27 @@ pub record Laid (at : ℕ) (text room : List ℕ) (next : ℕ) (after : List ℕ
   pub ends : next ≡ at + length text
   pub holds : after ≡ over at text room
 
--- a line, of the bytes of its word
-unfoldable pub lineOf : List ℕ → List ℕ → List ℕ
-lineOf word numbers = word ++ spaced numbers ++ (10 ∷ [])
+-- pieces, one for each entry of a list
+unfoldable pub pieces : {A : Type 0} → (A → List ℕ) → List A → List ℕ
+pieces piece [] = []
+pieces piece (x ∷ xs) = piece x ++ pieces piece xs
+
+-- ---- a form: a text in which a digit stands for the number at its place, where there is one
+
+-- a digit's value; that of any other byte of a text is over 9
+abbrev pub valueOf : ℕ → ℕ
+valueOf b = (b + 208) % 256
+
+unfoldable pub shown : List ℕ → ℕ → List ℕ
+shown ns b = cond (ltb (valueOf b) (length ns)) (digits (getD ns (valueOf b) 0)) (b ∷ [])
+
+abbrev pub filled : List ℕ → List ℕ → List ℕ
+filled ns form = pieces (shown ns) form
+
+-- how long a part can be, and the whole, where there are n numbers
+unfoldable pub widest : ℕ → ℕ → ℕ
+widest n b = cond (ltb (valueOf b) n) 20 1
+
+unfoldable pub longest : ℕ → List ℕ → ℕ
+longest n [] = 0
+longest n (b ∷ form) = widest n b + longest n form

@@ -3,13 +3,12 @@ use mathlib.Core.Path.{_≡_}
 use mathlib.Core.Logic.{_≢_}
 use Prim.Native.Nat.{ℕ, _+_, _≤_}
 use mathlib.Core.Bool.{Bool, not, cond}
-use mathlib.Core.List.{List, [], _∷_, _++_}
+use mathlib.Core.List.{List, []}
 use lib.ListN.{length, getD}
 use lib.Dec.{ltb, eqb}
 use Rattle.rules.specs.declared.Verdict.{Verdict}
-use Rattle.rules.specs.declared.RunFigures.{RunFigures}
 use Rattle.rules.specs.Check.{refuseIf, refuseAt, _orElse_}
-use Rattle.rules.specs.Report.{line, sidesLine}
+use Rattle.rules.specs.Report.{line}
 
 -- the verdict on a split in two parts: before its text is counted, and after
 unfoldable pub lengthsVerdict : ℕ → List ℕ → List ℕ → Verdict
@@ -20,27 +19,9 @@ lengthsVerdict most sizes sides =
 unfoldable pub roomVerdict : List ℕ → Bool → Verdict
 roomVerdict sides lent = refuseIf (not lent) 3 0 orElse refuseAt 6 (λ f. ltb 1 (getD sides f 0)) (length sides)
 
-unfoldable pub figuresVerdict : ℕ → List ℕ → List ℕ → Bool → Verdict
-figuresVerdict most sizes sides lent = lengthsVerdict most sizes sides orElse roomVerdict sides lent
-
 -- room that is this much longer than the sides holds every text, so that it is never refused
 abbrev pub Enough : Verdict → List ℕ → List ℕ → List ℕ → Type 0
 Enough v sizes sides room = length sides ≡ length sizes → 256 + length sides ≤ length room → v .number ≢ 3
 
--- the lines of a report, grouped as they are written; the sizes of A and B are a and b
-unfoldable pub cutLines : ℕ → ℕ → ℕ → ℕ → List ℕ
-cutLines before after a b = line "cut" (before ∷ after ∷ []) ++ line "size" (a ∷ b ∷ [])
-
 abbrev pub settledLine : Bool → List ℕ
 settledLine settled = line (cond settled "settled yes" "settled no") []
-
-unfoldable pub countLines : ℕ → Bool → ℕ → ℕ → List ℕ
-countLines passes settled kept visits =
-    line "passes" (passes ∷ []) ++ settledLine settled ++ line "kept" (kept ∷ []) ++ line "visits" (visits ∷ [])
-
-unfoldable pub runLines : RunFigures → ℕ → List ℕ → List ℕ
-runLines r b sides =
-    line "done" []
-    ++ cutLines (r .figures .before) (r .figures .cut) (r .figures .size) b
-    ++ countLines (r .passes) (r .settled) (r .figures .kept) (r .figures .visits)
-    ++ sidesLine sides

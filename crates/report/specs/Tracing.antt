@@ -12,7 +12,7 @@ use Rattle.rules.specs.declared.Figures.{Figures}
 use Rattle.rules.specs.Check.{refuseIf, _orElse_}
 use Rattle.rules.specs.Report.{text, spaced, line, sidesLine}
 use Rattle.rules.specs.Trace.{Listing, listingOf, signed, gainWords, badEnd, holdsPass}
-use Rattle.report.specs.Steps.{lengthsVerdict, roomVerdict, cutLines}
+use Rattle.report.specs.Steps.{lengthsVerdict}
 
 -- where the lists hold the pass, room of this length holds every text, so that it is never refused
 abbrev pub EnoughTold : Verdict → List ℕ → Figures → List ℕ → Listing → List ℕ → Type 0
@@ -22,14 +22,14 @@ EnoughTold v sizes f sides l room =
 
 -- ---- the lists that a step reads, the others empty
 
-abbrev pub scansOf : List ℕ → List ℕ → Listing
-scansOf recipes kinds = listingOf [] [] [] [] [] recipes kinds
+abbrev pub scanLists : List ℕ → List ℕ → Listing
+scanLists recipes kinds = listingOf [] [] [] [] [] recipes kinds
 
 abbrev pub endsOf : List ℕ → List ℕ → List ℕ → Listing
 endsOf ends recipes kinds = listingOf [] [] [] [] ends recipes kinds
 
-abbrev pub movesOf : List ℕ → List ℤ → List ℕ → List ℕ → List ℕ → List ℕ → Listing
-movesOf tried gained cuts ends recipes kinds = listingOf [] tried gained cuts ends recipes kinds
+abbrev pub moveLists : List ℕ → List ℤ → List ℕ → List ℕ → List ℕ → List ℕ → Listing
+moveLists tried gained cuts ends recipes kinds = listingOf [] tried gained cuts ends recipes kinds
 
 -- the scans of a move end no earlier than they begin, and within the scan lists
 pub record InOrder (recipes kinds : List ℕ) (first end : ℕ) : Type 0 where
@@ -45,13 +45,10 @@ pub record MovesHeld (n : ℕ) (l : Listing) : Type 0 where
   pub ends : n ≤ length (l .ends)
   pub scans : (i : ℕ) → i < n → badEnd l i ≡ false
 
--- ---- the verdict before the text is counted, and the whole
+-- ---- the verdict before the text is counted
 
 unfoldable pub passVerdict : ℕ → List ℕ → List ℕ → Bool → Verdict
 passVerdict most sizes sides held = lengthsVerdict most sizes sides orElse refuseIf (not held) 3 0
-
-unfoldable pub toldVerdict : ℕ → List ℕ → List ℕ → Bool → Bool → Verdict
-toldVerdict most sizes sides held lent = passVerdict most sizes sides held orElse roomVerdict sides lent
 
 -- ---- the lines of a pass, grouped as they are written
 
@@ -62,14 +59,14 @@ moveLine file gain cut = text "move" ++ spaced (file ∷ []) ++ signed gain ++ s
 unfoldable pub gainsLine : List ℤ → List ℕ
 gainsLine gains = text "gains" ++ gainWords gains ++ (10 ∷ [])
 
-unfoldable pub tallyLines : ℕ → ℕ → ℕ → ℕ → List ℕ
-tallyLines tried kept scans visits =
-    line "tried" (tried ∷ []) ++ line "kept" (kept ∷ []) ++ line "scans" (scans ∷ []) ++ line "visits" (visits ∷ [])
-
 -- those after the moves; the size of B after is b
 unfoldable pub tailLines : Figures → ℕ → List ℤ → List ℕ → List ℕ
 tailLines f b gains sides =
     gainsLine gains
-    ++ cutLines (f .before) (f .cut) (f .size) b
-    ++ tallyLines (f .tried) (f .kept) (f .scans) (f .visits)
+    ++ line "cut" (f .before ∷ f .cut ∷ [])
+    ++ line "size" (f .size ∷ b ∷ [])
+    ++ line "tried" (f .tried ∷ [])
+    ++ line "kept" (f .kept ∷ [])
+    ++ line "scans" (f .scans ∷ [])
+    ++ line "visits" (f .visits ∷ [])
     ++ sidesLine sides

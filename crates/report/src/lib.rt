@@ -14,10 +14,10 @@ ghost use lib.Dec.{leb};
 ghost use lib.ListN.{length};
 ghost use Rattle.rules.specs.Job.{limitsOf};
 ghost use Rattle.rules.specs.Check.{refuseIf};
-ghost use Rattle.rules.specs.Report.{printed, printing, refusal, figureLines, ofSizes, reporting};
-ghost use Rattle.rules.specs.Trace.{listingOf, holdsPass, passLines, tracing};
-ghost use Rattle.report.specs.Steps.{figuresVerdict, Enough};
-ghost use Rattle.report.specs.Tracing.{toldVerdict, EnoughTold};
+ghost use Rattle.rules.specs.Report.{printed, printing, refusal, reporting};
+ghost use Rattle.rules.specs.Trace.{listingOf, tracing};
+ghost use Rattle.report.specs.Steps.{Enough};
+ghost use Rattle.report.specs.Tracing.{EnoughTold};
 use figures::put_figures;
 use figures::put_refusal;
 use job::Job;
@@ -36,7 +36,7 @@ fn print_refusal(told: Verdict, out: &mut [u8]) -> Printed
     ensures { λ r. ⌜ printed r (now (out .exit)) ≡ printing (refuseIf (not (leb (length (refusal told)) (length (now (out .entry))))) 3 0) (refusal told) (now (out .entry)) ⌝ }
     ensures { λ r. ⌜ (256 ≤ length (now (out .entry)) → r .verdict .number ≢ 3) ⌝ }
 {
-    let bytes = put_refusal(&mut out[0..0], told);
+    let bytes = put_refusal(&mut [], told);
     let verdict = refuse_if(!(bytes <= out.len()), 3, 0);
     if verdict.number != 0 {
         return Printed { verdict, bytes: 0 };
@@ -45,28 +45,8 @@ fn print_refusal(told: Verdict, out: &mut [u8]) -> Printed
     Printed { verdict, bytes }
 }
 
-// The figures of a run told. The text is counted only once C is within its most, so that the count is small.
-fn print_figures(answer: RunFigures, sizes: &[u16], sides: &[u16], out: &mut [u8]) -> Printed
-    ensures { λ r. do ⌜ printed r (now (out .exit)) ≡ printing (figuresVerdict (← ⟦Job::MOST_FILES⟧ .entry) (now (sizes .entry)) (now (sides .entry)) (leb (length (figureLines (ofSizes (now (sizes .entry))) answer (now (sides .entry)))) (length (now (out .entry))))) (figureLines (ofSizes (now (sizes .entry))) answer (now (sides .entry))) (now (out .entry)) ⌝ }
-    ensures { λ r. ⌜ Enough (r .verdict) (now (sizes .entry)) (now (sides .entry)) (now (out .entry)) ⌝ }
-{
-    let lengths = lengths_verdict(sizes, sides);
-    if lengths.number != 0 {
-        return Printed {
-            verdict: lengths,
-            bytes: 0,
-        };
-    }
-    let bytes = put_figures(&mut out[0..0], answer, sizes, sides);
-    let verdict = room_verdict(sides, bytes <= out.len());
-    if verdict.number != 0 {
-        return Printed { verdict, bytes: 0 };
-    }
-    put_figures(out, answer, sizes, sides);
-    Printed { verdict, bytes }
-}
-
 // The report of a run's answer, refused or not, as bytes in the lent room; the answer and the room are those of the reporting, for every input.
+// The text is counted only once C is within its most, so that the count is small.
 pub fn report(answer: RunFigures, sizes: &[u16], sides: &[u16], out: &mut [u8]) -> Printed
     ensures { λ r. do ⌜ printed r (now (out .exit)) ≡ reporting (limitsOf (← ⟦Job::MOST_FILES⟧ .entry) (← ⟦Job::MOST_RECIPES⟧ .entry) (← ⟦Job::MOST_PINS⟧ .entry) (← ⟦Job::MOST_DEN⟧ .entry)) (now (sizes .entry)) answer (now (sides .entry)) (now (out .entry)) ⌝ }
     ensures { λ r. ⌜ Enough (r .verdict) (now (sizes .entry)) (now (sides .entry)) (now (out .entry)) ⌝ }
@@ -75,78 +55,21 @@ pub fn report(answer: RunFigures, sizes: &[u16], sides: &[u16], out: &mut [u8]) 
         let told = answer.figures.verdict;
         return print_refusal(told, out);
     }
-    print_figures(answer, sizes, sides, out)
-}
-
-// The figures, moves and scans of a pass told. The text is counted only once the lists hold the pass, so that the count is small.
-fn print_pass(
-    answer: Figures,
-    sizes: &[u16],
-    sides: &[u16],
-    gains: &[i32],
-    tried: &[u16],
-    gained: &[i32],
-    cuts: &[u16],
-    ends: &[u16],
-    recipes: &[u16],
-    kinds: &[u16],
-    out: &mut [u8],
-) -> Printed
-    ensures { λ r. do ⌜ printed r (now (out .exit)) ≡ printing (toldVerdict (← ⟦Job::MOST_FILES⟧ .entry) (now (sizes .entry)) (now (sides .entry)) (holdsPass (now (sizes .entry)) answer (listingOf (now (gains .entry)) (now (tried .entry)) (now (gained .entry)) (now (cuts .entry)) (now (ends .entry)) (now (recipes .entry)) (now (kinds .entry)))) (leb (length (passLines (ofSizes (now (sizes .entry))) answer (now (sides .entry)) (listingOf (now (gains .entry)) (now (tried .entry)) (now (gained .entry)) (now (cuts .entry)) (now (ends .entry)) (now (recipes .entry)) (now (kinds .entry))))) (length (now (out .entry))))) (passLines (ofSizes (now (sizes .entry))) answer (now (sides .entry)) (listingOf (now (gains .entry)) (now (tried .entry)) (now (gained .entry)) (now (cuts .entry)) (now (ends .entry)) (now (recipes .entry)) (now (kinds .entry)))) (now (out .entry)) ⌝ }
-    ensures { λ r. ⌜ EnoughTold (r .verdict) (now (sizes .entry)) answer (now (sides .entry)) (listingOf (now (gains .entry)) (now (tried .entry)) (now (gained .entry)) (now (cuts .entry)) (now (ends .entry)) (now (recipes .entry)) (now (kinds .entry))) (now (out .entry)) ⌝ }
-{
-    let held = pass_verdict(
-        answer,
-        sizes,
-        sides,
-        gains,
-        tried,
-        gained,
-        cuts,
-        ends,
-        recipes,
-        kinds,
-    );
-    if held.number != 0 {
-        return Printed {
-            verdict: held,
-            bytes: 0,
-        };
-    }
-    let bytes = put_pass(
-        &mut out[0..0],
-        answer,
-        sizes,
-        sides,
-        gains,
-        tried,
-        gained,
-        cuts,
-        ends,
-        recipes,
-        kinds,
-    );
-    let verdict = room_verdict(sides, bytes <= out.len());
+    let mut verdict = lengths_verdict(sizes, sides);
     if verdict.number != 0 {
         return Printed { verdict, bytes: 0 };
     }
-    put_pass(
-        out,
-        answer,
-        sizes,
-        sides,
-        gains,
-        tried,
-        gained,
-        cuts,
-        ends,
-        recipes,
-        kinds,
-    );
+    let bytes = put_figures(&mut [], answer, sizes, sides);
+    verdict = room_verdict(sides, bytes <= out.len());
+    if verdict.number != 0 {
+        return Printed { verdict, bytes: 0 };
+    }
+    put_figures(out, answer, sizes, sides);
     Printed { verdict, bytes }
 }
 
 // The trace of a pass's answer, refused or not, as bytes in the lent room; the answer and the room are those of the tracing, for every input.
+// The text is counted only once the lists hold the pass, so that the count is small.
 pub fn trace(
     answer: Figures,
     sizes: &[u16],
@@ -167,7 +90,7 @@ pub fn trace(
         let told = answer.verdict;
         return print_refusal(told, out);
     }
-    print_pass(
+    let mut verdict = pass_verdict(
         answer,
         sizes,
         sides,
@@ -178,6 +101,39 @@ pub fn trace(
         ends,
         recipes,
         kinds,
+    );
+    if verdict.number != 0 {
+        return Printed { verdict, bytes: 0 };
+    }
+    let bytes = put_pass(
+        &mut [],
+        answer,
+        sizes,
+        sides,
+        gains,
+        tried,
+        gained,
+        cuts,
+        ends,
+        recipes,
+        kinds,
+    );
+    verdict = room_verdict(sides, bytes <= out.len());
+    if verdict.number != 0 {
+        return Printed { verdict, bytes: 0 };
+    }
+    put_pass(
         out,
-    )
+        answer,
+        sizes,
+        sides,
+        gains,
+        tried,
+        gained,
+        cuts,
+        ends,
+        recipes,
+        kinds,
+    );
+    Printed { verdict, bytes }
 }

@@ -1,8 +1,6 @@
 // The moves of a pass with their scans, and the gain list.
 use crate::text::put;
-use crate::text::put_line2;
-use crate::text::put_number;
-use crate::text::put_spaced;
+use crate::text::put_form;
 use crate::text::put_text;
 ghost use mathlib.Core.Path.{_≡_};
 ghost use mathlib.Core.List.{[], _∷_};
@@ -10,9 +8,9 @@ ghost use Prim.Native.Nat.{_+_, _-_, _*_, _≤_};
 ghost use lib.ListN.{length};
 ghost use lib.IntN.{natAbs};
 ghost use Rattle.rules.specs.Report.{line};
-ghost use Rattle.rules.specs.Trace.{signed, gainWords, scanLines, scansBefore, movesLines};
+ghost use Rattle.rules.specs.Trace.{signed, scanLines, scansBefore, movesLines};
 ghost use Rattle.report.specs.Laying.{Ahead, Laid};
-ghost use Rattle.report.specs.Tracing.{scansOf, movesOf, InOrder, MovesHeld, moveLine, gainsLine};
+ghost use Rattle.report.specs.Tracing.{scanLists, moveLists, InOrder, MovesHeld, moveLine, gainsLine};
 
 // At eight bytes, where the least gain has one too.
 fn magnitude(gain: i32) -> u64
@@ -34,24 +32,9 @@ fn put_signed(out: &mut [u8], at: usize, gain: i32) -> usize
 {
     let n = magnitude(gain);
     if gain < 0 {
-        let next = put_text(out, at, b" -");
-        return put_number(out, next, n);
+        return put_form(out, at, b" -0", &[n]);
     }
-    put_spaced(out, at, n)
-}
-
-fn put_gain_words(out: &mut [u8], at: usize, gains: &[i32]) -> usize
-    requires { ⌜ Ahead at (22 * length (now gains)) ⌝ }
-    ensures { λ r. ⌜ Laid at (gainWords (now (gains .entry))) (now (out .entry)) r (now (out .exit)) ⌝ }
-    ensures { λ r. ⌜ r ≤ at + 22 * length (now (gains .entry)) ⌝ }
-{
-    let mut next = at;
-    let mut f = 0;
-    while f < gains.len() {
-        next = put_signed(out, next, gains[f]);
-        f += 1;
-    }
-    next
+    put_form(out, at, b" 0", &[n])
 }
 
 pub(crate) fn put_gains(out: &mut [u8], at: usize, gains: &[i32]) -> usize
@@ -60,7 +43,11 @@ pub(crate) fn put_gains(out: &mut [u8], at: usize, gains: &[i32]) -> usize
     ensures { λ r. ⌜ r ≤ at + (6 + 22 * length (now (gains .entry))) ⌝ }
 {
     let mut next = put_text(out, at, b"gains");
-    next = put_gain_words(out, next, gains);
+    let mut f = 0;
+    while f < gains.len() {
+        next = put_signed(out, next, gains[f]);
+        f += 1;
+    }
     put(out, next, 10)
 }
 
@@ -69,7 +56,7 @@ fn put_scan(out: &mut [u8], at: usize, recipe: u16, kind: u16) -> usize
     ensures { λ r. ⌜ Laid at (line "scan" (recipe ∷ kind ∷ [])) (now (out .entry)) r (now (out .exit)) ⌝ }
     ensures { λ r. ⌜ r ≤ at + 47 ⌝ }
 {
-    put_line2(out, at, b"scan", recipe as u64, kind as u64)
+    put_form(out, at, b"scan 0 1\n", &[recipe as u64, kind as u64])
 }
 
 // The scans from the first up to the end.
@@ -83,7 +70,7 @@ fn put_scans(
 ) -> usize
     requires { ⌜ Ahead at (47 * (end - first)) ⌝ }
     requires { ⌜ InOrder (now recipes) (now kinds) first end ⌝ }
-    ensures { λ r. ⌜ Laid at (scanLines (scansOf (now (recipes .entry)) (now (kinds .entry))) first (end - first)) (now (out .entry)) r (now (out .exit)) ⌝ }
+    ensures { λ r. ⌜ Laid at (scanLines (scanLists (now (recipes .entry)) (now (kinds .entry))) first (end - first)) (now (out .entry)) r (now (out .exit)) ⌝ }
     ensures { λ r. ⌜ r ≤ at + 47 * (end - first) ⌝ }
 {
     let a = first as usize;
@@ -102,11 +89,9 @@ fn put_move(out: &mut [u8], at: usize, file: u16, gain: i32, cut: u16) -> usize
     ensures { λ r. ⌜ Laid at (moveLine file gain cut) (now (out .entry)) r (now (out .exit)) ⌝ }
     ensures { λ r. ⌜ r ≤ at + 69 ⌝ }
 {
-    let mut next = put_text(out, at, b"move");
-    next = put_spaced(out, next, file as u64);
+    let mut next = put_form(out, at, b"move 0", &[file as u64]);
     next = put_signed(out, next, gain);
-    next = put_spaced(out, next, cut as u64);
-    put(out, next, 10)
+    put_form(out, next, b" 0\n", &[cut as u64])
 }
 
 // The first n moves; the scans of each begin where those of the move before it end.
@@ -122,9 +107,9 @@ pub(crate) fn put_moves(
     kinds: &[u16],
 ) -> usize
     requires { ⌜ Ahead at (69 * n + 47 * 65536) ⌝ }
-    requires { ⌜ MovesHeld n (movesOf (now tried) (now gained) (now cuts) (now ends) (now recipes) (now kinds)) ⌝ }
-    ensures { λ r. ⌜ Laid at (movesLines (movesOf (now (tried .entry)) (now (gained .entry)) (now (cuts .entry)) (now (ends .entry)) (now (recipes .entry)) (now (kinds .entry))) n) (now (out .entry)) r (now (out .exit)) ⌝ }
-    ensures { λ r. ⌜ r ≤ at + (69 * n + 47 * scansBefore (movesOf (now (tried .entry)) (now (gained .entry)) (now (cuts .entry)) (now (ends .entry)) (now (recipes .entry)) (now (kinds .entry))) n) ⌝ }
+    requires { ⌜ MovesHeld n (moveLists (now tried) (now gained) (now cuts) (now ends) (now recipes) (now kinds)) ⌝ }
+    ensures { λ r. ⌜ Laid at (movesLines (moveLists (now (tried .entry)) (now (gained .entry)) (now (cuts .entry)) (now (ends .entry)) (now (recipes .entry)) (now (kinds .entry))) n) (now (out .entry)) r (now (out .exit)) ⌝ }
+    ensures { λ r. ⌜ r ≤ at + (69 * n + 47 * scansBefore (moveLists (now (tried .entry)) (now (gained .entry)) (now (cuts .entry)) (now (ends .entry)) (now (recipes .entry)) (now (kinds .entry))) n) ⌝ }
 {
     let mut next = at;
     let mut first = 0;

@@ -1,10 +1,9 @@
 // A pass told: whether the lists hold it, and its lines.
-use crate::figures::put_cuts;
 use crate::moves::put_gains;
 use crate::moves::put_moves;
 use crate::split::put_sides;
 use crate::split::size_on;
-use crate::text::put_line1;
+use crate::text::put_form;
 use crate::text::put_text;
 use crate::verdict::lengths_verdict;
 use job::Job;
@@ -19,8 +18,8 @@ ghost use lib.Dec.{leb, ltb, eqb};
 ghost use Rattle.rules.specs.Lists.{someBelow};
 ghost use Rattle.rules.specs.Report.{ofSizes};
 ghost use Rattle.rules.specs.Trace.{listingOf, badEnd, holdsPass, passLines};
-ghost use Rattle.report.specs.Laying.{Ahead, Near, Laid};
-ghost use Rattle.report.specs.Tracing.{endsOf, passVerdict, tallyLines, tailLines};
+ghost use Rattle.report.specs.Laying.{Ahead, Laid};
+ghost use Rattle.report.specs.Tracing.{endsOf, passVerdict, tailLines};
 
 // A gain for each file, and no more moves than files.
 fn holds_files(n: u64, sizes: &[u16], gains: &[i32]) -> bool
@@ -29,11 +28,11 @@ fn holds_files(n: u64, sizes: &[u16], gains: &[i32]) -> bool
     (gains.len() == sizes.len()) & (n as usize <= sizes.len())
 }
 
-fn holds_moves(n: u64, tried: &[u16], gained: &[i32], cuts: &[u16], ends: &[u16]) -> bool
-    ensures { λ r. ⌜ r ≡ (leb n (length (now (tried .entry))) && leb n (length (now (gained .entry))) && leb n (length (now (cuts .entry))) && leb n (length (now (ends .entry)))) ⌝ }
+fn holds_moves(n: u64, tried: &[u16], gained: &[i32], cuts: &[u16]) -> bool
+    ensures { λ r. ⌜ r ≡ (leb n (length (now (tried .entry))) && leb n (length (now (gained .entry))) && leb n (length (now (cuts .entry)))) ⌝ }
 {
     let m = n as usize;
-    (m <= tried.len()) & (m <= gained.len()) & (m <= cuts.len()) & (m <= ends.len())
+    (m <= tried.len()) & (m <= gained.len()) & (m <= cuts.len())
 }
 
 fn is_bad_end(first: u16, end: u16, recipes: usize, kinds: usize) -> bool
@@ -42,12 +41,14 @@ fn is_bad_end(first: u16, end: u16, recipes: usize, kinds: usize) -> bool
     (end < first) | (recipes < end as usize) | (kinds < end as usize)
 }
 
-// The scans of each move end no earlier than they begin, and within the scan lists.
+// An end for each move; the scans of each end no earlier than they begin, and within the scan lists.
 fn holds_scans(n: u64, ends: &[u16], recipes: &[u16], kinds: &[u16]) -> bool
-    requires { ⌜ n ≤ length (now ends) ⌝ }
-    ensures { λ r. ⌜ r ≡ not (someBelow (badEnd (endsOf (now (ends .entry)) (now (recipes .entry)) (now (kinds .entry)))) n) ⌝ }
+    ensures { λ r. ⌜ r ≡ (leb n (length (now (ends .entry))) && not (someBelow (badEnd (endsOf (now (ends .entry)) (now (recipes .entry)) (now (kinds .entry)))) n)) ⌝ }
 {
     let m = n as usize;
+    if ends.len() < m {
+        return false;
+    }
     let mut first = 0;
     let mut i = 0;
     while i < m {
@@ -59,29 +60,6 @@ fn holds_scans(n: u64, ends: &[u16], recipes: &[u16], kinds: &[u16]) -> bool
         i += 1;
     }
     true
-}
-
-fn holds_pass(
-    answer: Figures,
-    sizes: &[u16],
-    gains: &[i32],
-    tried: &[u16],
-    gained: &[i32],
-    cuts: &[u16],
-    ends: &[u16],
-    recipes: &[u16],
-    kinds: &[u16],
-) -> bool
-    ensures { λ r. ⌜ r ≡ holdsPass (now (sizes .entry)) answer (listingOf (now (gains .entry)) (now (tried .entry)) (now (gained .entry)) (now (cuts .entry)) (now (ends .entry)) (now (recipes .entry)) (now (kinds .entry))) ⌝ }
-{
-    let n = answer.tried;
-    if !holds_files(n, sizes, gains) {
-        return false;
-    }
-    if !holds_moves(n, tried, gained, cuts, ends) {
-        return false;
-    }
-    holds_scans(n, ends, recipes, kinds)
 }
 
 // 2, or 3 for sides that are not C long or lists that do not hold the pass.
@@ -103,29 +81,11 @@ pub(crate) fn pass_verdict(
     if lengths.number != 0 {
         return lengths;
     }
-    let held = holds_pass(
-        answer,
-        sizes,
-        gains,
-        tried,
-        gained,
-        cuts,
-        ends,
-        recipes,
-        kinds,
-    );
-    refuse_if(!held, 3, 0)
-}
-
-// Moves tried and kept, scans and visits.
-fn put_tallies(out: &mut [u8], at: usize, tried: u64, kept: u64, scans: u64, visits: u64) -> usize
-    requires { ⌜ Near at (tallyLines tried kept scans visits) ⌝ }
-    ensures { λ r. ⌜ Laid at (tallyLines tried kept scans visits) (now (out .entry)) r (now (out .exit)) ⌝ }
-{
-    let mut next = put_line1(out, at, b"tried", tried);
-    next = put_line1(out, next, b"kept", kept);
-    next = put_line1(out, next, b"scans", scans);
-    put_line1(out, next, b"visits", visits)
+    let n = answer.tried;
+    let files = holds_files(n, sizes, gains);
+    let moves = holds_moves(n, tried, gained, cuts);
+    let scans = holds_scans(n, ends, recipes, kinds);
+    refuse_if(!(files & moves & scans), 3, 0)
 }
 
 // The lines after the moves, where the size of B is b.
@@ -135,8 +95,21 @@ fn put_tail(out: &mut [u8], at: usize, f: Figures, b: u64, gains: &[i32], sides:
     ensures { λ r. ⌜ r ≤ at + (256 + 22 * length (now (gains .entry)) + length (now (sides .entry))) ⌝ }
 {
     let mut next = put_gains(out, at, gains);
-    next = put_cuts(out, next, f.before as u64, f.cut as u64, f.size, b);
-    next = put_tallies(out, next, f.tried, f.kept, f.scans, f.visits);
+    next = put_form(
+        out,
+        next,
+        b"cut 0 1\nsize 2 3\ntried 4\nkept 5\nscans 6\nvisits 7\n",
+        &[
+            f.before as u64,
+            f.cut as u64,
+            f.size,
+            b,
+            f.tried,
+            f.kept,
+            f.scans,
+            f.visits,
+        ],
+    );
     put_sides(out, next, sides)
 }
 

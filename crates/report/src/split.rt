@@ -4,7 +4,6 @@ use crate::text::put_text;
 use job::Job;
 ghost use mathlib.Core.Path.{_≡_};
 ghost use Prim.Native.Nat.{_≤_};
-ghost use mathlib.Core.List.{map};
 ghost use lib.Dec.{ltb};
 ghost use lib.ListN.{length, getD};
 ghost use Rattle.rules.specs.Lists.{lowest};
@@ -21,25 +20,16 @@ fn letter(side: u16) -> u8
     66
 }
 
-fn put_letters(out: &mut [u8], at: usize, sides: &[u16]) -> usize
-    requires { ⌜ Near at (map «letter» (now sides)) ⌝ }
-    ensures { λ r. ⌜ Laid at (map «letter» (now (sides .entry))) (now (out .entry)) r (now (out .exit)) ⌝ }
-{
-    let mut next = at;
-    let mut f = 0;
-    while f < sides.len() {
-        next = put(out, next, letter(sides[f]));
-        f += 1;
-    }
-    next
-}
-
 pub(crate) fn put_sides(out: &mut [u8], at: usize, sides: &[u16]) -> usize
     requires { ⌜ Near at (sidesLine (now sides)) ⌝ }
     ensures { λ r. ⌜ Laid at (sidesLine (now (sides .entry))) (now (out .entry)) r (now (out .exit)) ⌝ }
 {
     let mut next = put_text(out, at, b"sides ");
-    next = put_letters(out, next, sides);
+    let mut f = 0;
+    while f < sides.len() {
+        next = put(out, next, letter(sides[f]));
+        f += 1;
+    }
     put(out, next, 10)
 }
 

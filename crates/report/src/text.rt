@@ -1,8 +1,10 @@
 // Text laid into a lent room from a position on, as far as the room reaches. Each writer hands back the position after its
 // text, so that one lent no room counts.
 ghost use mathlib.Core.List.{[], _∷_};
+ghost use Prim.Native.Nat.{_+_, _≤_};
+ghost use lib.ListN.{length};
 ghost use Rattle.rules.specs.Report.{digits};
-ghost use Rattle.report.specs.Laying.{Near, Laid, lineOf};
+ghost use Rattle.report.specs.Laying.{Ahead, Near, Laid, shown, longest, widest, filled};
 
 pub(crate) fn put(out: &mut [u8], at: usize, byte: u8) -> usize
     requires { ⌜ Near at (byte ∷ []) ⌝ }
@@ -12,19 +14,6 @@ pub(crate) fn put(out: &mut [u8], at: usize, byte: u8) -> usize
         out[at] = byte;
     }
     at + 1
-}
-
-pub(crate) fn put_text(out: &mut [u8], at: usize, text: &[u8]) -> usize
-    requires { ⌜ Near at (now text) ⌝ }
-    ensures { λ r. ⌜ Laid at (now (text .entry)) (now (out .entry)) r (now (out .exit)) ⌝ }
-{
-    let mut next = at;
-    let mut i = 0;
-    while i < text.len() {
-        next = put(out, next, text[i]);
-        i += 1;
-    }
-    next
 }
 
 // In decimal.
@@ -39,30 +28,38 @@ pub(crate) fn put_number(out: &mut [u8], at: usize, n: u64) -> usize
     put(out, last, 48 + (n % 10) as u8)
 }
 
-// After one space.
-pub(crate) fn put_spaced(out: &mut [u8], at: usize, n: u64) -> usize
-    requires { ⌜ Near at (32 ∷ digits n) ⌝ }
-    ensures { λ r. ⌜ Laid at (32 ∷ digits n) (now (out .entry)) r (now (out .exit)) ⌝ }
+// A byte of a form: the number that it stands for, or itself.
+fn put_part(out: &mut [u8], at: usize, byte: u8, numbers: &[u64]) -> usize
+    requires { ⌜ Ahead at (widest (length (now numbers)) byte) ⌝ }
+    ensures { λ r. ⌜ Laid at (shown (now (numbers .entry)) byte) (now (out .entry)) r (now (out .exit)) ⌝ }
+    ensures { λ r. ⌜ r ≤ at + widest (length (now (numbers .entry))) byte ⌝ }
 {
-    let next = put(out, at, 32);
-    put_number(out, next, n)
+    // A digit's value; that of any other byte of a text is over 9.
+    let i = (byte as usize + 208) % 256;
+    if i < numbers.len() {
+        return put_number(out, at, numbers[i]);
+    }
+    put(out, at, byte)
 }
 
-pub(crate) fn put_line1(out: &mut [u8], at: usize, word: &[u8], n: u64) -> usize
-    requires { ⌜ Near at (lineOf (now word) (n ∷ [])) ⌝ }
-    ensures { λ r. ⌜ Laid at (lineOf (now (word .entry)) (n ∷ [])) (now (out .entry)) r (now (out .exit)) ⌝ }
+// A text in which each digit stands for the number at its place.
+pub(crate) fn put_form(out: &mut [u8], at: usize, form: &[u8], numbers: &[u64]) -> usize
+    requires { ⌜ Ahead at (longest (length (now numbers)) (now form)) ⌝ }
+    ensures { λ r. ⌜ Laid at (filled (now (numbers .entry)) (now (form .entry))) (now (out .entry)) r (now (out .exit)) ⌝ }
+    ensures { λ r. ⌜ r ≤ at + longest (length (now (numbers .entry))) (now (form .entry)) ⌝ }
 {
-    let mut next = put_text(out, at, word);
-    next = put_spaced(out, next, n);
-    put(out, next, 10)
+    let mut next = at;
+    let mut i = 0;
+    while i < form.len() {
+        next = put_part(out, next, form[i], numbers);
+        i += 1;
+    }
+    next
 }
 
-pub(crate) fn put_line2(out: &mut [u8], at: usize, word: &[u8], a: u64, b: u64) -> usize
-    requires { ⌜ Near at (lineOf (now word) (a ∷ b ∷ [])) ⌝ }
-    ensures { λ r. ⌜ Laid at (lineOf (now (word .entry)) (a ∷ b ∷ [])) (now (out .entry)) r (now (out .exit)) ⌝ }
+pub(crate) fn put_text(out: &mut [u8], at: usize, text: &[u8]) -> usize
+    requires { ⌜ Near at (now text) ⌝ }
+    ensures { λ r. ⌜ Laid at (now (text .entry)) (now (out .entry)) r (now (out .exit)) ⌝ }
 {
-    let mut next = put_text(out, at, word);
-    next = put_spaced(out, next, a);
-    next = put_spaced(out, next, b);
-    put(out, next, 10)
+    put_form(out, at, text, &[])
 }

@@ -13,7 +13,7 @@ use lib.ListN.{length, getD, take, length-append, List·getD-append, length-map}
 use lib.Seq.{getD-at}
 use borrow.Author.Tests.{eq-eqb, ne-eqb, ltb-true, ltb-false}
 use Rattle.rules.specs.Lists.{bit, total, count, largest, upTo}
-use Rattle.rules.specs.Split.{times, holds}
+use Rattle.rules.specs.Split.{onSide, countOn, times, holds}
 
 pub hit-eq : {a b : ℕ} → a ≡ b → bit (eqb a b) ≡ 1
 hit-eq {a} {b} e = ap bit (eq-eqb a b e)
@@ -104,6 +104,11 @@ pub count-le {ℓ} : {A : Type ℓ} (p : A → Bool) (l : List A) → count p l 
 unfolding count total
 count-le p [] = omega arith
 count-le p (x ∷ l) = omega (arith, count-le p l, bit-le (p x))
+
+-- a recipe has no more files on a side than files
+pub countOn-le : (sides : List ℕ) (u : ℕ) (r : List ℕ) → countOn sides u r ≤ length r
+unfolding countOn
+countOn-le sides u r = count-le (onSide sides u) r
 
 -- some number below n passes the test, where their count is not 0
 pub count-some : (p : ℕ → Bool) (n : ℕ) → count p (upTo n) ≢ 0 → (i : ℕ) × (i < n) × (p i ≡ true)
@@ -259,6 +264,14 @@ module _ {w : ℕ → ℕ} {b n i x : ℕ} (s : Summed w b n i x) where
 
   pub summed-end : n ≤ i → x ≡ total w (upTo n)
   summed-end h = let e : i ≡ n = omega (arith, s .stop) in s .is ∙ ap (λ (k : ℕ). total w (upTo k)) e
+
+-- a loop that counts: one test more, and the end where the tests are of a list's entries
+pub summed-bit : (p : ℕ → Bool) {n i x y : ℕ} → Summed (λ k. bit (p k)) 1 n i x → i < n → y ≡ bit (p i) → Summed (λ k. bit (p k)) 1 n (i + 1) (x + y)
+summed-bit p {n} {i} {x} s h e = summed-more s _ h (ap (λ (k : ℕ). x + k) e) (bit-le (p i))
+
+pub summed-entries : (p : ℕ → Bool) (l : List ℕ) {i x : ℕ} → Summed (λ k. bit (p (getD l k 0))) 1 (length l) i x → length l ≤ i → x ≡ count p l
+unfolding count
+summed-entries p l s h = summed-end s h ∙ count-entries p l
 
 -- ---- the largest
 

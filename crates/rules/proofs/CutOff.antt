@@ -51,8 +51,8 @@ module _ (most : Limits) (k : ℕ) (input : List ℕ) (more : mostBytes most < k
   zeroth-same h = ap (λ (block : List ℕ). refuseIf (not (eqb (word block 510) (blockCheck block))) 21 0 orElse refuseIf (not (laidOut block 0 (kindOf h 0) (valuesIn h 0))) 22 0) first-block
 
   -- what the most lets through is shorter
-  short : (h : Header) → check2Of most (h .files) (h .recipes) (h .pins) .number ≡ 0 → 512 * blockCount h < k
-  short h z =
+  blocks-short : (h : Header) → check2Of most (h .files) (h .recipes) (h .pins) .number ≡ 0 → 512 * blockCount h < k
+  blocks-short h z =
       let few = ok2-of most (h .files) (h .recipes) (h .pins) z in
       omega (
         arith,
@@ -87,7 +87,7 @@ module _ (most : Limits) (k : ℕ) (input : List ℕ) (more : mostBytes most < k
       let three = refuseIf (not (roomy h room)) 3 0 in
       let last : List ℕ → Verdict = λ bytes. refuseIf (not (eqb (length bytes) (512 * blockCount h))) 20 0 orElse blocksVerdict h bytes 1 (blockCount h - 1) in
       let ends : two .number ≡ 0 → last cut-off ≡ last input
-      = λ z. unlike h cut-off (blocksVerdict h cut-off 1 (blockCount h - 1)) (omega (arith, short h z, cut-length)) ∙ sym (unlike h input (blocksVerdict h input 1 (blockCount h - 1)) (omega (arith, short h z))) in
+      = λ z. unlike h cut-off (blocksVerdict h cut-off 1 (blockCount h - 1)) (omega (arith, blocks-short h z, cut-length)) ∙ sym (unlike h input (blocksVerdict h input 1 (blockCount h - 1)) (omega (arith, blocks-short h z))) in
       let figures : (one orElse two orElse three orElse last cut-off) ≡ (one orElse two orElse three orElse last input)
       = chain-same one (two orElse three orElse last cut-off) (two orElse three orElse last input)
       (λ _. chain-same two (three orElse last cut-off) (three orElse last input) (λ z. chain-same three (last cut-off) (last input) (λ _. ends z))) in
@@ -107,19 +107,19 @@ module _ (most : Limits) (k : ℕ) (input : List ℕ) (more : mostBytes most < k
       let d = passes-both (check1Of (h .files) (h .recipes)) _ (c .1) in
       let e = passes-both (check2Of most (h .files) (h .recipes) (h .pins)) _ (d .1) in
       let f = passes-both (refuseIf (not (roomy h room)) 3 0) _ (e .1) in
-      let l = short h (e .0) in
+      let l = blocks-short h (e .0) in
       omega (arith, ap (λ (v : Verdict). v .number) (unlike h input (blocksVerdict h input 1 (blockCount h - 1)) (omega (arith, l))), f .1)
 
-  refused-layout : (bytes : List ℕ) (room : Room) → layoutVerdict most bytes room .number ≢ 0 → readVerdict most bytes room ≡ layoutVerdict most bytes room
+  layout-refused : (bytes : List ℕ) (room : Room) → layoutVerdict most bytes room .number ≢ 0 → readVerdict most bytes room ≡ layoutVerdict most bytes room
   unfolding readVerdict
-  refused-layout bytes room n = sym (chain-stop (check4to6 (jobOf bytes)) refl n)
+  layout-refused bytes room n = sym (chain-stop (check4to6 (jobOf bytes)) refl n)
 
   read-same : (room : Room) → readVerdict most cut-off room ≡ readVerdict most input room
   read-same room =
-      refused-layout cut-off room (λ z. layout-no room (sym (ap (λ (v : Verdict). v .number) (layout-same room)) ∙ z)) ∙ layout-same room ∙ sym (refused-layout input room (layout-no room))
+      layout-refused cut-off room (λ z. layout-no room (sym (ap (λ (v : Verdict). v .number) (layout-same room)) ∙ z)) ∙ layout-same room ∙ sym (layout-refused input room (layout-no room))
 
   read-no : (room : Room) → readVerdict most input room .number ≢ 0
-  read-no room z = layout-no room (sym (ap (λ (v : Verdict). v .number) (refused-layout input room (layout-no room))) ∙ z)
+  read-no room z = layout-no room (sym (ap (λ (v : Verdict). v .number) (layout-refused input room (layout-no room))) ∙ z)
 
 -- a refusal is all that is printed of an input that is refused
 pub prints-no : (most : Limits) (bytes : List ℕ) → readVerdict most bytes (allRoom most) .number ≢ 0 → prints most bytes ≡ refusal (readVerdict most bytes (allRoom most))

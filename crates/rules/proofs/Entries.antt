@@ -5,7 +5,7 @@ use mathlib.Core.List.{List, [], _∷_, _++_}
 use native.Mathlib.Numerals.{add-one}
 use native.Mathlib.Omega.{arith}
 use lib.ListN.{length, getD, set, take, drop, replicate, length-append, length-drop, length-replicate, getD-replicate, List·getD-append}
-use lib.Seq.{getD-append-add, getD-drop, drop-cons, drop-drop, drop-append-add, append-snoc, set-append-seam, take-append-seam, take-suc, take-all, length-take-le}
+use lib.Seq.{getD-append-add, getD-drop, drop-cons, drop-drop, drop-append-add, append-snoc, set-append-seam, take-append-seam}
 use Rattle.rules.specs.Lists.{onto, padded, listed}
 use Rattle.rules.specs.Theorems.{Listed}
 
@@ -56,20 +56,6 @@ module _ {ℓ} {A : Type ℓ} where
       ∙ set-append-seam xs (getD old (length xs) v) (drop (suc (length xs)) old) v
       ∙ sym (append-snoc xs v (drop (suc (length xs)) old))
       ∙ ap (λ (n : ℕ). (xs ++ (v ∷ [])) ++ drop n old) (sym (length-append xs (v ∷ []) ∙ add-one (length xs)))
-
-  -- a list copied entry by entry: none, one more, and all
-  pub onto-none : (xs old : List A) → onto (take 0 xs) old ≡ old
-  unfolding onto
-  onto-none xs old = refl
-
-  pub onto-more : (d : A) (xs old : List A) (i : ℕ) → i < length xs → length xs ≤ length old → set (onto (take i xs) old) i (getD xs i d) ≡ onto (take (i + 1) xs) old
-  onto-more d xs old i h k =
-      let l : length (take i xs) ≡ i = length-take-le i xs (omega arith) in
-      ap (λ (n : ℕ). set (onto (take i xs) old) n (getD xs i d)) (sym l) ∙ onto-set (take i xs) old (getD xs i d) (omega arith)
-      ∙ ap (λ (t : List A). onto t old) (sym (ap (λ (n : ℕ). take n xs) (add-one i) ∙ take-suc xs i d h))
-
-  pub onto-all : (xs old : List A) (i : ℕ) → length xs ≤ i → onto (take i xs) old ≡ onto xs old
-  onto-all xs old i h = ap (λ (l : List A). onto l old) (take-all i xs h)
 
   pub take-replicate : (n m : ℕ) (x : A) → n ≤ m → take n (replicate m x) ≡ replicate n x
   take-replicate zero m x h = refl

@@ -71,8 +71,8 @@ module _ (ok : ℕ → Bool) (goes : ℕ → ℕ → Bool) where
       lower = r .lower;
     }
 
-    alone : (n : ℕ) → ok n ≡ true → ((g : ℕ) → g < n → ok g ≡ false) → First ok goes (suc n) n
-    alone n p empty = record {
+    only-one : (n : ℕ) → ok n ≡ true → ((g : ℕ) → g < n → ok g ≡ false) → First ok goes (suc n) n
+    only-one n p empty = record {
       below = omega arith;
       fine = p;
       before = λ g h k. elim (ℕ-discrete g n) [
@@ -88,7 +88,7 @@ module _ (ok : ℕ → Bool) (goes : ℕ → ℕ → Bool) where
     first-some (suc n) f e = go (firstBelow ok goes n) refl e (first-some n)
       where
         new : (b : Bool) → ok n ≡ b → firstBelow ok goes n ≡ none → _≡_ {A = Option ℕ} (cond b (some n) none) (some f) → First ok goes (suc n) f
-        new true p q r = rw (← some-inj n f r) (alone n p (first-none n q))
+        new true p q r = rw (← some-inj n f r) (only-one n p (first-none n q))
         new false p q r = no-some f r
 
         either : (b : Bool) (m : ℕ) → (ok n && goes n m) ≡ b → First ok goes n m → _≡_ {A = Option ℕ} (cond b (some n) (some m)) (some f) → First ok goes (suc n) f

@@ -8,7 +8,7 @@ use borrow.Author.Tests.{leb-true, eqb-true}
 use Rattle.rules.specs.Job.{Job, fileCount, recipeCount, Lent, scratchFor, fits}
 use Rattle.rules.proofs.Tests.{and-yes}
 
-pub record Roomy (job : Job) (l : Lent) : Type 0 where
+pub record LongEnough (job : Job) (l : Lent) : Type 0 where
   pub gains : length (l .gains) ≡ fileCount job
   pub tried : fileCount job ≤ length (l .tried)
   pub gained : fileCount job ≤ length (l .gained)
@@ -18,8 +18,8 @@ pub record Roomy (job : Job) (l : Lent) : Type 0 where
   pub scannedKinds : 4 * recipeCount job ≤ length (l .kinds)
   pub scratch : scratchFor job ≤ length (l .scratch)
 
-pub roomy : (job : Job) (l : Lent) → fits job l ≡ true → Roomy job l
-roomy job l ok =
+pub long-enough : (job : Job) (l : Lent) → fits job l ≡ true → LongEnough job l
+long-enough job l ok =
     let t8 = and-yes _ (leb (scratchFor job) (length (l .scratch))) ok in
     let t7 = and-yes _ (leb (4 * recipeCount job) (length (l .kinds))) (t8 .0) in
     let t6 = and-yes _ (leb (4 * recipeCount job) (length (l .recipes))) (t7 .0) in

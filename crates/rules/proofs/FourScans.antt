@@ -127,16 +127,16 @@ module _ (st : State) (f : ℕ) (m : Moves st (moved st f) f) where
 -- ---- all recipes, w a weight for each recipe number
 
 module _ (w : ℕ → ℕ) where
-  weigh : List Scan → ℕ
-  weigh cs = total (λ c. w (c .recipe)) cs
+  scanWeight : List Scan → ℕ
+  scanWeight cs = total (λ c. w (c .recipe)) cs
 
   stored : State → ℕ → List (List ℕ) → ℕ
   stored st j [] = 0
   stored st j (r ∷ rs) = w j * potential st r + stored st (suc j) rs
 
   fall-from : (st : State) (f : ℕ) → Moves st (moved st f) f → (j : ℕ) (rs : List (List ℕ)) → ((i : ℕ) → times f (getD rs i []) ≤ 1)
-      → weigh (scansFrom st f j rs) + stored (moved st f) j rs ≤ stored st j rs
-  unfolding weigh stored scansFrom
+      → scanWeight (scansFrom st f j rs) + stored (moved st f) j rs ≤ stored st j rs
+  unfolding scanWeight stored scansFrom
   fall-from st f m j [] d = unfold total in omega arith
   fall-from st f m j (r ∷ rs) d =
       let ks : List ℕ = kindsOf st f r in
@@ -150,8 +150,8 @@ module _ (w : ℕ → ℕ) where
       )
 
   fall-all : (rs : List (List ℕ)) → Distinct rs → (st : State) (fs : List ℕ) → Frees st fs → Binary (st .sides)
-      → weigh (scans rs st fs) + stored (after st fs) 0 rs ≤ stored st 0 rs
-  unfolding scans stepsBy weigh
+      → scanWeight (scans rs st fs) + stored (after st fs) 0 rs ≤ stored st 0 rs
+  unfolding scans stepsBy scanWeight
   fall-all rs dis st [] stop bin = unfold total in omega arith
   fall-all rs dis st (f ∷ fs) (move a b e rest) bin =
       let m : Moves st (moved st f) f = move-of st f a b e bin in
@@ -170,7 +170,7 @@ module _ (w : ℕ → ℕ) where
   -- a weight of the scanned recipes, summed over the scans of any moves, is at most four times its sum over all recipes
   pub at-most-four : (rs : List (List ℕ)) → Distinct rs → (st : State) (fs : List ℕ) → Frees st fs → Binary (st .sides)
       → total (λ c. w (c .recipe)) (scans rs st fs) ≤ 4 * total w (upTo (length rs))
-  unfolding weigh
+  unfolding scanWeight
   at-most-four rs dis st fs l bin = omega (arith, fall-all rs dis st fs l bin, stored-le st 0 rs, sumFrom-upTo w (length rs))
 
 module _ (rs : List (List ℕ)) (dis : Distinct rs) (st : State) (fs : List ℕ) (l : Frees st fs) (bin : Binary (st .sides)) where

@@ -70,15 +70,15 @@ scan-in st t k y (x ∷ r) g o h = elim (ℕ-discrete x y) [
     off n false = refl
 
 -- what a scan of kind k of the recipe r gives the file y, and takes from it
-given : State → ℕ → ℕ → ℕ → List ℕ → ℕ
-given st t y k r = bit (holds r y && (touches st t k y && raises k))
+upsOf : State → ℕ → ℕ → ℕ → List ℕ → ℕ
+upsOf st t y k r = bit (holds r y && (touches st t k y && raises k))
 
-taken : State → ℕ → ℕ → ℕ → List ℕ → ℕ
-taken st t y k r = bit (holds r y && (touches st t k y && not (raises k)))
+downsOf : State → ℕ → ℕ → ℕ → List ℕ → ℕ
+downsOf st t y k r = bit (holds r y && (touches st t k y && not (raises k)))
 
 scan-at : (st : State) (t k y : ℕ) (r : List ℕ) (g : List ℤ) → times y r ≤ 1 → y < length g
-    → at (scanPins st t k r g) y ≡ at g y +ℤ diff (given st t y k r) (taken st t y k r)
-unfolding given taken
+    → at (scanPins st t k r g) y ≡ at g y +ℤ diff (upsOf st t y k r) (downsOf st t y k r)
+unfolding upsOf downsOf
 scan-at st t k y r g o h = go (holds r y) refl
   where
     go : (b : Bool) → holds r y ≡ b → at (scanPins st t k r g) y ≡ at g y +ℤ diff (bit (b && (touches st t k y && raises k))) (bit (b && (touches st t k y && not (raises k))))
@@ -95,17 +95,17 @@ module _ (rs : List (List ℕ)) (dis : Distinct rs) (st : State) (t : ℕ) where
 
   all-sum : (cs : List Scan) (g : List ℤ) (y : ℕ) → y < length g
       → at (scanAll rs st t cs g) y ≡ at g y
-      +ℤ diff (total (λ c. given st t y (c .kind) (getD rs (c .recipe) [])) cs) (total (λ c. taken st t y (c .kind) (getD rs (c .recipe) [])) cs)
+      +ℤ diff (total (λ c. upsOf st t y (c .kind) (getD rs (c .recipe) [])) cs) (total (λ c. downsOf st t y (c .kind) (getD rs (c .recipe) [])) cs)
   unfolding scanAll total
   all-sum [] g y h = sym (ap (λ z. at g y +ℤ z) diff-zero ∙ +ℤ-idr (at g y))
   all-sum (c ∷ cs) g y h =
       let r : List ℕ = getD rs (c .recipe) [] in
-      let U : ℕ = total (λ c. given st t y (c .kind) (getD rs (c .recipe) [])) cs in
-      let D : ℕ = total (λ c. taken st t y (c .kind) (getD rs (c .recipe) [])) cs in
+      let U : ℕ = total (λ c. upsOf st t y (c .kind) (getD rs (c .recipe) [])) cs in
+      let D : ℕ = total (λ c. downsOf st t y (c .kind) (getD rs (c .recipe) [])) cs in
       all-sum cs (scanPins st t (c .kind) r g) y (rw (scan-length st t (c .kind) r g) h)
       ∙ ap (λ z. z +ℤ diff U D) (scan-at st t (c .kind) y r g (dis (c .recipe) y) h)
-      ∙ +ℤ-assoc (at g y) (diff (given st t y (c .kind) r) (taken st t y (c .kind) r)) (diff U D)
-      ∙ ap (λ z. at g y +ℤ z) (diff-add (given st t y (c .kind) r) (taken st t y (c .kind) r) U D)
+      ∙ +ℤ-assoc (at g y) (diff (upsOf st t y (c .kind) r) (downsOf st t y (c .kind) r)) (diff U D)
+      ∙ ap (λ z. at g y +ℤ z) (diff-add (upsOf st t y (c .kind) r) (downsOf st t y (c .kind) r) U D)
 
 -- a sum over the scans of a move, by recipes: `look` finds a recipe by its number
 pub total-scans : (st : State) (f : ℕ) (W : ℕ → List ℕ → ℕ) (look : ℕ → List ℕ) (rs : List (List ℕ)) (j : ℕ)
@@ -124,13 +124,13 @@ total-scans st f W look (r ∷ rs) j h =
 -- ---- one move
 
 -- the gain list after the move of f, by its own scans
-abbrev pub scanned : List (List ℕ) → State → ℕ → List ℤ → List ℤ
-scanned rs st f g = scanAll rs (moved st f) (other (sideOf (st .sides) f)) (scansOf rs st f) g
+abbrev pub gainsScanned : List (List ℕ) → State → ℕ → List ℤ → List ℤ
+gainsScanned rs st f g = scanAll rs (moved st f) (other (sideOf (st .sides) f)) (scansOf rs st f) g
 
 -- and after a list of moves
 unfoldable pub keptUp : List (List ℕ) → State → List ℕ → List ℤ → List ℤ
 keptUp rs st [] g = g
-keptUp rs st (f ∷ fs) g = keptUp rs (moved st f) fs (scanned rs st f g)
+keptUp rs st (f ∷ fs) g = keptUp rs (moved st f) fs (gainsScanned rs st f g)
 
 untouched : (st : State) (t y : ℕ) (rs : List (List ℕ)) (up : ℕ → Bool) (cs : List Scan) → 1 ≤ lockOf st y
     → total (λ c. bit (holds (getD rs (c .recipe) []) y && (touches st t (c .kind) y && up (c .kind)))) cs ≡ 0
@@ -143,7 +143,7 @@ untouched st t y rs up (c ∷ cs) l =
 module _ (rs : List (List ℕ)) (dis : Distinct rs) (st : State) (f : ℕ) (m : Moves st (moved st f) f) where
   -- the scans of a move turn the gain of a file that stays free into its gain after the move
   pub scanned-free : (g : List ℤ) (y : ℕ) → y < length g → lockOf (moved st f) y ≡ 0 → at g y ≡ gain (st .sides) rs y
-      → at (scanned rs st f g) y ≡ gain (moved st f .sides) rs y
+      → at (gainsScanned rs st f g) y ≡ gain (moved st f .sides) rs y
   unfolding gain count
   scanned-free g y h l e =
       let st' : State = moved st f in
@@ -152,21 +152,21 @@ module _ (rs : List (List ℕ)) (dis : Distinct rs) (st : State) (f : ℕ) (m : 
       let M : List ℕ → ℕ = λ r. bit (together (st .sides) y r) in
       let P' : List ℕ → ℕ = λ r. bit (alone (st' .sides) y r) in
       let M' : List ℕ → ℕ = λ r. bit (together (st' .sides) y r) in
-      let U : List ℕ → ℕ = λ r. total (λ k. given st' t y k r) (kindsOf st f r) in
-      let D : List ℕ → ℕ = λ r. total (λ k. taken st' t y k r) (kindsOf st f r) in
+      let U : List ℕ → ℕ = λ r. total (λ k. upsOf st' t y k r) (kindsOf st f r) in
+      let D : List ℕ → ℕ = λ r. total (λ k. downsOf st' t y k r) (kindsOf st f r) in
       let look : (i : ℕ) → getD rs (0 + i) [] ≡ getD rs i [] = λ i. ap (λ n. getD rs n []) (zero-add i) in
-      let eu = total-scans st f (given st' t y) (λ j. getD rs j []) rs 0 look in
-      let ed = total-scans st f (taken st' t y) (λ j. getD rs j []) rs 0 look in
+      let eu = total-scans st f (upsOf st' t y) (λ j. getD rs j []) rs 0 look in
+      let ed = total-scans st f (downsOf st' t y) (λ j. getD rs j []) rs 0 look in
       let q : total P' rs + total M rs + total D rs ≡ total P rs + total U rs + total M' rs
-      = total-law P' M D P U M' rs (λ j. unfold law kindsOf alone together given taken in rw (kinds-by st f (getD rs j [])) (recipe-law m (getD rs j []) y (dis j f) (dis j y) l)) in
+      = total-law P' M D P U M' rs (λ j. unfold law kindsOf alone together upsOf downsOf in rw (kinds-by st f (getD rs j [])) (recipe-law m (getD rs j []) y (dis j f) (dis j y) l)) in
       all-sum rs dis st' t (scansOf rs st f) g y h
       ∙ ap₂ (λ z w. z +ℤ w) e (ap₂ diff eu ed)
       ∙ diff-add (total P rs) (total M rs) (total U rs) (total D rs)
       ∙ diff-eq (total P rs + total U rs) (total M rs + total D rs) (total P' rs) (total M' rs) (omega arith)
 
   -- no scan of it touches a locked file
-  pub scanned-locked : (g : List ℤ) (y : ℕ) → y < length g → 1 ≤ lockOf (moved st f) y → at (scanned rs st f g) y ≡ at g y
-  unfolding given taken
+  pub scanned-locked : (g : List ℤ) (y : ℕ) → y < length g → 1 ≤ lockOf (moved st f) y → at (gainsScanned rs st f g) y ≡ at g y
+  unfolding upsOf downsOf
   scanned-locked g y h l =
       let t : ℕ = other (sideOf (st .sides) f) in
       let z : (up : ℕ → Bool) → total (λ c. bit (holds (getD rs (c .recipe) []) y && (touches (moved st f) t (c .kind) y && up (c .kind)))) (scansOf rs st f) ≡ 0
@@ -215,7 +215,7 @@ lock-stays st st' f m y l = elim (ℕ-discrete y f) [
 ]
 
 module _ (rs : List (List ℕ)) (dis : Distinct rs) where
-  scanned-length : (st : State) (f : ℕ) (g : List ℤ) → length (scanned rs st f g) ≡ length g
+  scanned-length : (st : State) (f : ℕ) (g : List ℤ) → length (gainsScanned rs st f g) ≡ length g
   scanned-length st f g = all-length rs dis (moved st f) (other (sideOf (st .sides) f)) (scansOf rs st f) g
 
   pub kept-length : (st : State) (fs : List ℕ) (g : List ℤ) → length (keptUp rs st fs g) ≡ length g
@@ -229,7 +229,7 @@ module _ (rs : List (List ℕ)) (dis : Distinct rs) where
   gain-kept st [] stop bin g fresh = fresh
   gain-kept st (f ∷ fs) (move a b e rest) bin g fresh =
       let m : Moves st (moved st f) f = move-of st f a b e bin in
-      gain-kept (moved st f) fs rest (stays-binary m) (scanned rs st f g)
+      gain-kept (moved st f) fs rest (stays-binary m) (gainsScanned rs st f g)
       (λ y h l. let k : y < length g = rw (← scanned-length st f g) h in scanned-free rs dis st f m g y k l (fresh y k (was-free m y l)))
 
   -- a locked file's entry stays
@@ -240,7 +240,7 @@ module _ (rs : List (List ℕ)) (dis : Distinct rs) where
   locked-kept st (f ∷ fs) (move a b e rest) bin g y h l =
       let m : Moves st (moved st f) f = move-of st f a b e bin in
       let k : 1 ≤ lockOf (moved st f) y = lock-stays st (moved st f) f m y l in
-      locked-kept (moved st f) fs rest (stays-binary m) (scanned rs st f g) y (rw (scanned-length st f g) h) k
+      locked-kept (moved st f) fs rest (stays-binary m) (gainsScanned rs st f g) y (rw (scanned-length st f g) h) k
       ∙ scanned-locked rs dis st f m g y h k
 
   -- a move leaves the entry of every file that is locked after it
@@ -250,7 +250,7 @@ module _ (rs : List (List ℕ)) (dis : Distinct rs) where
   kept-more st [] stop bin g k y p h l = absurd (omega arith)
   kept-more st (f ∷ fs) (move a b e rest) bin g zero y p h l = scanned-locked rs dis st f (move-of st f a b e bin) g y h l
   kept-more st (f ∷ fs) (move a b e rest) bin g (suc k) y p h l =
-      kept-more (moved st f) fs rest (stays-binary (move-of st f a b e bin)) (scanned rs st f g) k y (omega arith) (rw (scanned-length st f g) h) l
+      kept-more (moved st f) fs rest (stays-binary (move-of st f a b e bin)) (gainsScanned rs st f g) k y (omega arith) (rw (scanned-length st f g) h) l
 
   -- the same after every move
   pub gain-kept-at : (k : ℕ) (st : State) (fs : List ℕ) → Frees st fs → Binary (st .sides) → (g : List ℤ) → Fresh rs st g
@@ -304,17 +304,17 @@ module _ (rs : List (List ℕ)) (dis : Distinct rs) where
   standing-kept st [] stop bin g fresh y h l = fresh y h l
   standing-kept st (f ∷ fs) (move a b e rest) bin g fresh y h l =
       let m : Moves st (moved st f) f = move-of st f a b e bin in
-      let long : y < length (scanned rs st f g) = rw (scanned-length rs dis st f g) h in
+      let long : y < length (gainsScanned rs st f g) = rw (scanned-length rs dis st f g) h in
       elim (ℕ-discrete f y) [
         | yes q ↦
             let k : 1 ≤ lockOf (moved st f) y = omega (arith, ap (lockOf (moved st f)) q, m .lock) in
             rw (eq-eqb f y q)
-            (locked-kept rs dis (moved st f) fs rest (stays-binary m) (scanned rs st f g) y long k
+            (locked-kept rs dis (moved st f) fs rest (stays-binary m) (gainsScanned rs st f g) y long k
             ∙ scanned-locked rs dis st f m g y h k
             ∙ fresh y h l)
         | no n ↦
             rw (ne-eqb f y n)
-            (standing-kept (moved st f) fs rest (stays-binary m) (scanned rs st f g)
+            (standing-kept (moved st f) fs rest (stays-binary m) (gainsScanned rs st f g)
             (λ x p q. let k : x < length g = rw (← scanned-length rs dis st f g) p in scanned-free rs dis st f m g x k q (fresh x k (was-free m x q)))
             y long (m .locks y (λ q. n (sym q)) ∙ l))
       ]

@@ -5,12 +5,13 @@ use mathlib.Core.Bool.{Bool, true, false, not, cond, _&&_}
 use mathlib.Core.List.{List, [], _∷_, _++_}
 use native.Mathlib.Omega.{arith}
 use lib.Dec.{eqb}
+use lib.ListN.{length}
 use native.Mathlib.Nat.{zero-add}
 use borrow.Author.Tests.{eqb-true, eq-eqb, ne-eqb}
 use Rattle.rules.specs.Lists.{bit, total, count}
 use Rattle.rules.specs.Split.{other, sideOf, onSide, countOn}
 use Rattle.rules.specs.Move.{State, free, moved, fileOn, kindIf, kindsIn}
-use Rattle.rules.proofs.Count.{and-le, total-le}
+use Rattle.rules.proofs.Count.{and-le, total-le, count-le}
 
 -- how many files of r on side u are locked
 unfoldable pub lockedOn : State → ℕ → List ℕ → ℕ
@@ -21,6 +22,10 @@ unfolding lockedOn countOn count
 locked-le st u r =
     total-le (λ x. bit (onSide (st .sides) u x)) (λ x. bit (onSide (st .sides) u x && not (free st x)))
     (λ x. and-le (onSide (st .sides) u x) (not (free st x))) r
+
+pub lockedOn-le : (st : State) (u : ℕ) (r : List ℕ) → lockedOn st u r ≤ length r
+unfolding lockedOn
+lockedOn-le st u r = count-le (λ x. onSide (st .sides) u x && not (free st x)) r
 
 -- where one file of r is on side u, it is free exactly if none there is locked
 pub one-free : (st : State) (u : ℕ) (r : List ℕ) → countOn (st .sides) u r ≡ 1 → free st (fileOn (st .sides) u r) ≡ eqb (lockedOn st u r) 0

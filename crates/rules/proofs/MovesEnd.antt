@@ -58,15 +58,15 @@ set-less [] f h e = absurd (omega arith)
 set-less (x ∷ l) zero h e = omega (arith, hit-eq e)
 set-less (x ∷ l) (suc f) h e = omega (arith, set-less l f (omega arith) e)
 
-pub record Long (n : ℕ) (st : State) : Type 0 where
+pub record StateLong (n : ℕ) (st : State) : Type 0 where
   pub sides : length (st .sides) ≡ n
   pub locks : length (st .locks) ≡ n
 
-pub moved-long : {n : ℕ} {st : State} (f : ℕ) → Long n st → Long n (moved st f)
+pub moved-long : {n : ℕ} {st : State} (f : ℕ) → StateLong n st → StateLong n (moved st f)
 unfolding moved
 moved-long {n} {st} f l = record { sides = length-set (st .sides) f _ ∙ l .sides; locks = length-set (st .locks) f 1 ∙ l .locks }
 
-pub after-long : {n : ℕ} (st : State) (fs : List ℕ) → Long n st → Long n (after st fs)
+pub after-long : {n : ℕ} (st : State) (fs : List ℕ) → StateLong n st → StateLong n (after st fs)
 unfolding stepsBy
 after-long st [] l = l
 after-long st (f ∷ fs) l = after-long (moved st f) fs (moved-long f l)
@@ -77,23 +77,23 @@ pub record Picks {ℓ} (n : ℕ) {S : Type ℓ} (pick : S → Option ℕ) (step 
   pub good : (s : S) (f : ℕ) → pick s ≡ some f → (f < n) × (lockOf (see s) f ≡ 0)
 
 module _ {ℓ} {n : ℕ} {S : Type ℓ} {pick : S → Option ℕ} {step : S → ℕ → S} {see : S → State} (p : Picks n pick step see) where
-  seen-long : (s : S) (f : ℕ) → Long n (see s) → Long n (see (step s f))
-  seen-long s f l = rw (p .seen s f) (moved-long f l)
+  step-long : (s : S) (f : ℕ) → StateLong n (see s) → StateLong n (see (step s f))
+  step-long s f l = rw (p .seen s f) (moved-long f l)
 
   -- each move is of a file then still free
-  pub moves-free : (k : ℕ) (s : S) → Long n (see s) → Frees (see s) (movesBy pick step k s)
+  pub moves-free : (k : ℕ) (s : S) → StateLong n (see s) → Frees (see s) (movesBy pick step k s)
   moves-free zero s l = unfold movesBy in stop
   moves-free (suc k) s l = go (pick s) refl (λ f. moves-free k (step s f))
     where
-      go : (o : Option ℕ) → pick s ≡ o → ((f : ℕ) → Long n (see (step s f)) → Frees (see (step s f)) (movesBy pick step k (step s f))) → Frees (see s) (movesBy pick step (suc k) s)
+      go : (o : Option ℕ) → pick s ≡ o → ((f : ℕ) → StateLong n (see (step s f)) → Frees (see (step s f)) (movesBy pick step k (step s f))) → Frees (see s) (movesBy pick step (suc k) s)
       go none e ih = rw (moves-stop pick step (suc k) s e) stop
       go (some f) e ih =
           let q = p .good s f e in
           rw (moves-go pick step k s f e)
-          (move {st = see s} {f = f} (omega (arith, q .0, l .sides)) (omega (arith, q .0, l .locks)) (q .1) (rw (p .seen s f) at (ih f (seen-long s f l))))
+          (move {st = see s} {f = f} (omega (arith, q .0, l .sides)) (omega (arith, q .0, l .locks)) (q .1) (rw (p .seen s f) at (ih f (step-long s f l))))
 
   -- and with no fewer turns than free files, they end where nothing is picked
-  pub moves-end : (k : ℕ) (s : S) → Long n (see s) → freeCount (see s) ≤ k → pick (stepsBy step s (movesBy pick step k s)) ≡ none
+  pub moves-end : (k : ℕ) (s : S) → StateLong n (see s) → freeCount (see s) ≤ k → pick (stepsBy step s (movesBy pick step k s)) ≡ none
   moves-end zero s l h = go (pick s) refl
     where
       go : (o : Option ℕ) → pick s ≡ o → pick (stepsBy step s (movesBy pick step zero s)) ≡ none
@@ -104,13 +104,13 @@ module _ {ℓ} {n : ℕ} {S : Type ℓ} {pick : S → Option ℕ} {step : S → 
   moves-end (suc k) s l h = go (pick s) refl (λ f. moves-end k (step s f))
     where
       go : (o : Option ℕ) → pick s ≡ o
-          → ((f : ℕ) → Long n (see (step s f)) → freeCount (see (step s f)) ≤ k → pick (stepsBy step (step s f) (movesBy pick step k (step s f))) ≡ none)
+          → ((f : ℕ) → StateLong n (see (step s f)) → freeCount (see (step s f)) ≤ k → pick (stepsBy step (step s f) (movesBy pick step k (step s f))) ≡ none)
           → pick (stepsBy step s (movesBy pick step (suc k) s)) ≡ none
       go none e ih = rw (moves-stop pick step (suc k) s e) (unfold stepsBy in e)
       go (some f) e ih =
           let q = p .good s f e in
           let less : freeCount (moved (see s) f) ≤ k = unfold moved in omega (arith, set-less (see s .locks) f (omega (arith, q .0, l .locks)) (q .1)) in
-          rw (moves-go pick step k s f e) (unfold stepsBy in ih f (seen-long s f l) (rw (p .seen s f) less))
+          rw (moves-go pick step k s f e) (unfold stepsBy in ih f (step-long s f l) (rw (p .seen s f) less))
 
 -- no file moves twice
 locked-out : {st : State} {fs : List ℕ} (x : ℕ) → 1 ≤ lockOf st x → Frees st fs → times x fs ≡ 0
@@ -139,7 +139,7 @@ frees-few {st} l = omega (arith, free-count l, count-le (λ l. eqb l 0) (st .loc
 
 -- ---- one pass of document 01
 
-module _ (job : Job) (st : State) (long : Long (fileCount job) st) where
+module _ (job : Job) (st : State) (long : StateLong (fileCount job) st) where
   picks : Picks (fileCount job) (choose job) moved (λ s. s)
   unfolding legal
   picks = record {

@@ -81,18 +81,18 @@ comes (suc (suc T)) LT (suc zero) zero h = simp (is0, is1)
 comes (suc (suc T)) LT (suc zero) (suc LF) h = simp (is0, is1)
 comes (suc (suc T)) LT (suc (suc F)) LF h = simp (is0, is1)
 
-both : ℕ → ℕ → Bool
-both a b = ltb 0 a && ltb 0 b
+onBoth : ℕ → ℕ → Bool
+onBoth a b = ltb 0 a && ltb 0 b
 
-both-comm : (a b : ℕ) → both a b ≡ both b a
-unfolding both
+both-comm : (a b : ℕ) → onBoth a b ≡ onBoth b a
+unfolding onBoth
 both-comm zero zero = refl
 both-comm zero (suc b) = simp pos0
 both-comm (suc a) zero = simp pos0
 both-comm (suc a) (suc b) = simp pos0
 
-cut-numbers : (F T : ℕ) → bit (both F (suc T)) + bit (eqb (suc F) 1) ≡ bit (both (suc F) T) + bit (eqb T 0)
-unfolding both
+cut-numbers : (F T : ℕ) → bit (onBoth F (suc T)) + bit (eqb (suc F) 1) ≡ bit (onBoth (suc F) T) + bit (eqb T 0)
+unfolding onBoth
 cut-numbers zero zero = refl
 cut-numbers zero (suc T) = simp (pos0, is0)
 cut-numbers (suc F) zero = simp (pos0, is1)
@@ -111,7 +111,7 @@ has-free st g u r e l o =
           (rw (eq-eqb (sideOf (st .sides) g) u e, eq-eqb (lockOf st g) 0 l) (omega arith)) r,
     )
 
-cut-at : (sides : List ℕ) (s : ℕ) (r : List ℕ) → s ≤ 1 → both (countOn sides 0 r) (countOn sides 1 r) ≡ both (countOn sides s r) (countOn sides (1 - s) r)
+cut-at : (sides : List ℕ) (s : ℕ) (r : List ℕ) → s ≤ 1 → onBoth (countOn sides 0 r) (countOn sides 1 r) ≡ onBoth (countOn sides s r) (countOn sides (1 - s) r)
 cut-at sides zero r h = refl
 cut-at sides (suc zero) r h = both-comm (countOn sides 0 r) (countOn sides 1 r)
 cut-at sides (suc (suc s)) r h = absurd (omega arith)
@@ -241,7 +241,7 @@ module _ {st st' : State} {f : ℕ} (m : Moves st st' f) where
   -- the cut of one recipe
   pub cut-law : (r : List ℕ) → times f r ≤ 1
       → bit (isCut (st' .sides) r) + bit (alone (st .sides) f r) ≡ bit (isCut (st .sides) r) + bit (together (st .sides) f r)
-  unfolding alone together isCut both
+  unfolding alone together isCut onBoth
   cut-law r p = go (holds r f) refl
     where
       go : (hf : Bool) → holds r f ≡ hf

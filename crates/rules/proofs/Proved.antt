@@ -29,10 +29,10 @@ use Rattle.rules.proofs.FourScans.{recipe-scans, all-scans, all-visits}
 use Rattle.rules.proofs.Sizes.{sizes-kept, gain-range}
 use Rattle.rules.proofs.SoundJob.{sound, recipes-distinct, recipes-length, views-total}
 use Rattle.rules.proofs.Choice.{chosen-one}
-use Rattle.rules.proofs.MovesEnd.{Long, after-long, pass-free, pass-each, pass-end, frees-once, frees-few}
-use Rattle.rules.proofs.Fits.{roomy}
+use Rattle.rules.proofs.MovesEnd.{StateLong, after-long, pass-free, pass-each, pass-end, frees-once, frees-few}
+use Rattle.rules.proofs.Fits.{long-enough}
 use Rattle.rules.proofs.Steps.{after-snoc, cuts-at, gains-take, gains-length, cuts-length, ends-length}
-use Rattle.rules.proofs.Runs.{keeps-le, keeps-least, keeps-shortest, one, pass-falls, pass-to, pass-size, Passes, passes-come, come-first, come-next, come-less, come-few, come-turns, come-settled, come-full, come-each, come-last, come-some, turns-none, turns-cap}
+use Rattle.rules.proofs.Runs.{keeps-le, keeps-least, keeps-shortest, onePass, pass-falls, pass-to, pass-size, Passes, passes-come, come-first, come-next, come-less, come-few, come-turns, come-settled, come-full, come-each, come-last, come-some, turns-none, turns-cap}
 
 -- ---- an accepted job
 
@@ -61,7 +61,7 @@ accepted most job lent ok =
 -- ---- any moves of files then free
 
 module _ (most : Limits) (job : Job) (s : Sound most job) where
-  start-long : (sides : List ℕ) → Sides job sides → Long (fileCount job) (start job sides)
+  start-long : (sides : List ℕ) → Sides job sides → StateLong (fileCount job) (start job sides)
   start-long sides w = record { sides = w .long; locks = s .marksLong }
 
   pub moves-hold : (sides ms : List ℕ) → Sides job sides → Frees (start job sides) ms → MovesHold job sides ms
@@ -109,7 +109,7 @@ module _ (most : Limits) (job : Job) (s : Sound most job) where
   pub left : (sides ms : List ℕ) (l : Lent) → fits job l ≡ true → MovesHold job sides ms → Left job l (passOf job sides ms)
   unfolding leaves passOf
   left sides ms l ok m =
-      let r = roomy job l ok in
+      let r = long-enough job l ok in
       record {
         gains = refl;
         tried = listed-holds (fileCount job) 0 ms (l .tried) (m .few) (r .tried);
@@ -168,13 +168,13 @@ module _ (most : Limits) (job : Job) (s : Sound most job) where
       let try : List ℕ → List ℕ = tries job in
       let ps : List Pass = run job in
       let came : Passes job try (mostPasses job) (job .sides) ps = passes-come job try (mostPasses job) (job .sides) in
-      let next : (sides : List ℕ) → Sides job sides → Sides job (one job try sides .sidesAfter) = λ sides w. pass-holds sides w .moves .next in
+      let next : (sides : List ℕ) → Sides job sides → Sides job (onePass job try sides .sidesAfter) = λ sides w. pass-holds sides w .moves .next in
       let turn : 1 ≤ mostPasses job = elim (ℕ-discrete (job .cap) 0) [
         | yes e ↦ omega (arith, turns-none job e)
         | no n ↦ omega (arith, turns-cap job n)
       ] in
       let some : 1 ≤ length ps = come-some job try came turn in
-      let last = come-last job try (Sides job) next came given-sides (one job try (job .sides)) (job .sides, given-sides, refl) in
+      let last = come-last job try (Sides job) next came given-sides (onePass job try (job .sides)) (job .sides, given-sides, refl) in
       record {
         some = some;
         first = λ d. come-first job try came d some;
@@ -184,11 +184,11 @@ module _ (most : Limits) (job : Job) (s : Sound most job) where
             rw (t .2) (next (t .0) (t .1));
         lessened = λ d i h. come-less job try came d i h;
         few = come-few job try came;
-        settled = λ e. come-settled job try came (one job try (job .sides)) (omega (arith, turns-none job e));
+        settled = λ e. come-settled job try came (onePass job try (job .sides)) (omega (arith, turns-none job e));
         capped = λ n. omega (arith, come-turns job try came, turns-cap job n);
         full = λ h. elim (ℕ-discrete (job .cap) 0) [
-          | yes e ↦ clash (sym (come-settled job try came (one job try (job .sides)) (omega (arith, turns-none job e))) ∙ h)
-          | no n ↦ come-full job try came (one job try (job .sides)) h ∙ turns-cap job n
+          | yes e ↦ clash (sym (come-settled job try came (onePass job try (job .sides)) (omega (arith, turns-none job e))) ∙ h)
+          | no n ↦ come-full job try came (onePass job try (job .sides)) h ∙ turns-cap job n
         ];
         cut =
             ap (λ (p : Pass). p .cutAfter) (last .2) ∙ sym (pass-to job try (last .0))
@@ -199,7 +199,7 @@ module _ (most : Limits) (job : Job) (s : Sound most job) where
         returns = λ b.
             let t = come-last job try (λ sides. Sides job sides × (balanced job (sizeA job sides) ≡ true))
             (λ sides w. (next sides (w .0), rw (← pass-size job try sides) (pass-holds sides (w .0) .returns (w .1))))
-            came (given-sides, b) (one job try (job .sides)) (job .sides, (given-sides, b), refl) in
+            came (given-sides, b) (onePass job try (job .sides)) (job .sides, (given-sides, b), refl) in
             ap (λ (p : Pass). balanced job (p .sizeAfter)) (t .2) ∙ pass-holds (t .0) (t .1 .0) .returns (t .1 .1);
       }
 

@@ -35,56 +35,56 @@ module _ (rs : List (List ℕ)) (st : State) (ms : List ℕ) where
 
 module _ (job : Job) (try : List ℕ → List ℕ) where
   -- the pass from these sides
-  abbrev pub one : List ℕ → Pass
-  one sides = passOf job sides (try sides)
+  abbrev pub onePass : List ℕ → Pass
+  onePass sides = passOf job sides (try sides)
 
   -- a pass never raises the cut, and the next starts where it ends
-  pub pass-falls : (sides : List ℕ) → one sides .cutAfter ≤ one sides .cutBefore
+  pub pass-falls : (sides : List ℕ) → onePass sides .cutAfter ≤ onePass sides .cutBefore
   unfolding passOf cutAt stepsBy
   pass-falls sides = keeps-least (recipes job) _ _ 0 (omega arith)
 
-  pub pass-from : (sides : List ℕ) → one sides .cutBefore ≡ cut sides (recipes job)
+  pub pass-from : (sides : List ℕ) → onePass sides .cutBefore ≡ cut sides (recipes job)
   unfolding passOf
   pass-from sides = refl
 
-  pub pass-to : (sides : List ℕ) → cut (one sides .sidesAfter) (recipes job) ≡ one sides .cutAfter
+  pub pass-to : (sides : List ℕ) → cut (onePass sides .sidesAfter) (recipes job) ≡ onePass sides .cutAfter
   unfolding passOf
   pass-to sides = refl
 
-  pub pass-size : (sides : List ℕ) → one sides .sizeAfter ≡ sizeA job (one sides .sidesAfter)
+  pub pass-size : (sides : List ℕ) → onePass sides .sizeAfter ≡ sizeA job (onePass sides .sidesAfter)
   unfolding passOf
   pass-size sides = refl
 
   -- a pass that does not settle lessens the cut
-  pub lessens : (sides : List ℕ) → settles (one sides) ≡ false → one sides .cutAfter < one sides .cutBefore
+  pub lessens : (sides : List ℕ) → settles (onePass sides) ≡ false → onePass sides .cutAfter < onePass sides .cutBefore
   lessens sides e =
-      let n : one sides .cutAfter ≢ one sides .cutBefore = eqb-false (one sides .cutAfter) (one sides .cutBefore) e in
+      let n : onePass sides .cutAfter ≢ onePass sides .cutBefore = eqb-false (onePass sides .cutAfter) (onePass sides .cutBefore) e in
       omega (arith, pass-falls sides)
 
   -- how a list of passes came about: no turn was left, or a pass settled, or one did not and others followed it
   pub data Passes : ℕ → List ℕ → List Pass → Type 0 where
     out : {sides : List ℕ} → Passes zero sides []
-    ended : {n : ℕ} {sides : List ℕ} → settles (one sides) ≡ true → Passes (suc n) sides (one sides ∷ [])
-    on : {n : ℕ} {sides : List ℕ} {ps : List Pass} → settles (one sides) ≡ false → Passes n (one sides .sidesAfter) ps → Passes (suc n) sides (one sides ∷ ps)
+    ended : {n : ℕ} {sides : List ℕ} → settles (onePass sides) ≡ true → Passes (suc n) sides (onePass sides ∷ [])
+    on : {n : ℕ} {sides : List ℕ} {ps : List Pass} → settles (onePass sides) ≡ false → Passes n (onePass sides .sidesAfter) ps → Passes (suc n) sides (onePass sides ∷ ps)
 
   pub passes-come : (n : ℕ) (sides : List ℕ) → Passes n sides (passesBy job try n sides)
   unfolding passesBy
   passes-come zero sides = out
-  passes-come (suc n) sides = go (settles (one sides)) refl (passes-come n (one sides .sidesAfter))
+  passes-come (suc n) sides = go (settles (onePass sides)) refl (passes-come n (onePass sides .sidesAfter))
     where
-      go : (b : Bool) → settles (one sides) ≡ b → Passes n (one sides .sidesAfter) (passesBy job try n (one sides .sidesAfter))
+      go : (b : Bool) → settles (onePass sides) ≡ b → Passes n (onePass sides .sidesAfter) (passesBy job try n (onePass sides .sidesAfter))
           → Passes (suc n) sides (passesBy job try (suc n) sides)
       go true e rest = rw (e, passesBy) (ended e)
       go false e rest = rw (e, passesBy) (on e rest)
 
   -- the first is from the sides given, each other from the sides that the one before left
-  pub come-first : {n : ℕ} {sides : List ℕ} {ps : List Pass} → Passes n sides ps → (d : Pass) → 1 ≤ length ps → getD ps 0 d ≡ one sides
+  pub come-first : {n : ℕ} {sides : List ℕ} {ps : List Pass} → Passes n sides ps → (d : Pass) → 1 ≤ length ps → getD ps 0 d ≡ onePass sides
   come-first out d h = absurd (omega arith)
   come-first (ended e) d h = refl
   come-first (on e rest) d h = refl
 
   pub come-next : {n : ℕ} {sides : List ℕ} {ps : List Pass} → Passes n sides ps → (d : Pass) (i : ℕ) → suc i < length ps
-      → getD ps (suc i) d ≡ one (getD ps i d .sidesAfter)
+      → getD ps (suc i) d ≡ onePass (getD ps i d .sidesAfter)
   come-next out d i h = absurd (omega arith)
   come-next (ended e) d i h = absurd (omega arith)
   come-next (on e rest) d zero h = come-first rest d (omega arith)
@@ -114,19 +114,19 @@ module _ (job : Job) (try : List ℕ → List ℕ) where
   unfolding lastOf
   come-settled out d h = absurd (omega arith)
   come-settled (ended e) d h = e
-  come-settled (on {sides = s} e rest) d h = come-settled rest (one s) (omega (arith, lessens s e, pass-from s, pass-to s))
+  come-settled (on {sides = s} e rest) d h = come-settled rest (onePass s) (omega (arith, lessens s e, pass-from s, pass-to s))
 
   -- if the last does not settle, every turn was taken
   pub come-full : {n : ℕ} {sides : List ℕ} {ps : List Pass} → Passes n sides ps → (d : Pass) → settles (lastOf d ps) ≡ false → length ps ≡ n
   unfolding lastOf
   come-full out d h = refl
   come-full (ended e) d h = clash (sym e ∙ h)
-  come-full (on {sides = s} e rest) d h = ap suc (come-full rest (one s) h)
+  come-full (on {sides = s} e rest) d h = ap suc (come-full rest (onePass s) h)
 
   -- what a pass hands on from sides to sides holds at each pass, and at the last
-  module _ {ℓ} (good : List ℕ → Type ℓ) (keep : (sides : List ℕ) → good sides → good (one sides .sidesAfter)) where
+  module _ {ℓ} (good : List ℕ → Type ℓ) (keep : (sides : List ℕ) → good sides → good (onePass sides .sidesAfter)) where
     pub come-each : {n : ℕ} {sides : List ℕ} {ps : List Pass} → Passes n sides ps → good sides → (d : Pass) (i : ℕ) → i < length ps
-        → (before : List ℕ) × good before × (getD ps i d ≡ one before)
+        → (before : List ℕ) × good before × (getD ps i d ≡ onePass before)
     come-each out w d i h = absurd (omega arith)
     come-each (ended {sides = s} e) w d zero h = (s, w, refl)
     come-each (ended e) w d (suc i) h = absurd (omega arith)
@@ -134,11 +134,11 @@ module _ (job : Job) (try : List ℕ → List ℕ) where
     come-each (on {sides = s} e rest) w d (suc i) h = come-each rest (keep s w) d i (omega arith)
 
     pub come-last : {n : ℕ} {sides : List ℕ} {ps : List Pass} → Passes n sides ps → good sides → (d : Pass)
-        → ((before : List ℕ) × good before × (d ≡ one before)) → (before : List ℕ) × good before × (lastOf d ps ≡ one before)
+        → ((before : List ℕ) × good before × (d ≡ onePass before)) → (before : List ℕ) × good before × (lastOf d ps ≡ onePass before)
     unfolding lastOf
     come-last out w d q = q
     come-last (ended {sides = s} e) w d q = (s, w, refl)
-    come-last (on {sides = s} e rest) w d q = come-last rest (keep s w) (one s) (s, w, refl)
+    come-last (on {sides = s} e rest) w d q = come-last rest (keep s w) (onePass s) (s, w, refl)
 
 -- ---- the turns of a run: the cap, or one more than the starting cut
 

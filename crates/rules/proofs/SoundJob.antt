@@ -20,10 +20,10 @@ use Rattle.rules.proofs.Count.{total-map, total-upTo, getD-tabled, leng
 use Rattle.rules.proofs.Tests.{or-no, and-yes, and-no, not-no}
 use Rattle.rules.proofs.Searches.{none-below}
 use Rattle.rules.proofs.Verdicts.{passes-both, not-refused}
-use Rattle.rules.proofs.Views.{is-part}
+use Rattle.rules.proofs.Views.{bounds-rise, is-part}
 
-small : (l : List ℕ) (n : ℕ) → length l ≡ n → ((i : ℕ) → i < n → getD l i 0 ≤ 1) → (i : ℕ) → getD l i 0 ≤ 1
-small l n e h i = elim (decLt i n) [
+at-most-one : (l : List ℕ) (n : ℕ) → length l ≡ n → ((i : ℕ) → i < n → getD l i 0 ≤ 1) → (i : ℕ) → getD l i 0 ≤ 1
+at-most-one l n e h i = elim (decLt i n) [
   | yes p ↦ h i p
   | no q ↦ omega (arith, List·getD-eq-default l 0 {n = i} (omega arith))
 ]
@@ -139,24 +139,15 @@ sound most job lent ok =
       pinsBelow = r5 .0;
       apart = r5 .1;
       sizes = λ f h. r6 f h .0;
-      binary = small (job .sides) (fileCount job) (r3 .0) (λ i h. r6 i h .1);
-      marks = small (job .marks) (fileCount job) (r3 .1) (λ i h. r6 i h .2);
+      binary = at-most-one (job .sides) (fileCount job) (r3 .0) (λ i h. r6 i h .1);
+      marks = at-most-one (job .marks) (fileCount job) (r3 .1) (λ i h. r6 i h .2);
     }
 
 -- ---- what a sound job has
 
--- bounds of which each is 2 or more past the one before rise
-module _ (job : Job) (two : (j : ℕ) → j < recipeCount job → 2 + bound job j ≤ bound job (suc j)) where
-  rises : (d i j : ℕ) → i + d ≡ j → j ≤ recipeCount job → bound job i ≤ bound job j
-  rises zero i j e h = let q : i ≡ j = omega arith in omega (arith, ap (bound job) q)
-  rises (suc d) i j e h = omega (arith, two i (omega arith), rises d (suc i) j (omega arith) h)
-
-  pub bounds-rise : (i j : ℕ) → i ≤ j → j ≤ recipeCount job → bound job i ≤ bound job j
-  bounds-rise i j l h = rises (j - i) i j (omega arith) h
-
 module _ (most : Limits) (job : Job) (s : Sound most job) where
   pub bound-le : (j : ℕ) → j ≤ recipeCount job → bound job j ≤ pinCount job
-  bound-le j h = omega (arith, bounds-rise job (s .two) j (recipeCount job) h (omega arith), s .last)
+  bound-le j h = omega (arith, bounds-rise (job .bounds) (recipeCount job) (λ i l. omega (arith, s .two i l)) j (recipeCount job) h (omega arith), s .last)
 
   -- the view of a recipe that is there
   pub view-is : (j : ℕ) → j < recipeCount job → view job j ≡ take (bound job (suc j) - bound job j) (drop (bound job j) (job .pins))

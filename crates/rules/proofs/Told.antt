@@ -19,16 +19,16 @@ use Rattle.rules.specs.Theorems.{Sound, MovesHold, Left}
 use Rattle.rules.proofs.Proved.{pass-holds, left, given-sides}
 use Rattle.rules.proofs.Searches.{some-none}
 use Rattle.rules.proofs.Steps.{ends-length}
-use Rattle.rules.proofs.Fits.{roomy}
+use Rattle.rules.proofs.Fits.{long-enough}
 
 -- where the scans of move i begin, if the first begin at n
-abbrev begins : List ℕ → ℕ → ℕ → ℕ
-begins ends n zero = n
-begins ends n (suc i) = getD ends i 0
+abbrev beginsAt : List ℕ → ℕ → ℕ → ℕ
+beginsAt ends n zero = n
+beginsAt ends n (suc i) = getD ends i 0
 
 -- the ends rise, and do not pass the scans
 ends-rise : (rs : List (List ℕ)) (n : ℕ) (st : State) (ms : List ℕ) (i : ℕ) → i < length ms
-    → (begins (endsFrom rs n st ms) n i ≤ getD (endsFrom rs n st ms) i 0) × (getD (endsFrom rs n st ms) i 0 ≤ n + length (scans rs st ms))
+    → (beginsAt (endsFrom rs n st ms) n i ≤ getD (endsFrom rs n st ms) i 0) × (getD (endsFrom rs n st ms) i 0 ≤ n + length (scans rs st ms))
 unfolding endsFrom scans
 ends-rise rs n st [] i h = absurd (omega arith)
 ends-rise rs n st (f ∷ fs) zero h = (omega arith, omega (arith, length-append (scansOf rs st f) (scans rs (moved st f) fs)))
@@ -43,11 +43,11 @@ module _ (most : Limits) (job : Job) (s : Sound most job) (l : Lent) (ok : fits 
   abbrev one : Pass
   one = pass job (job .sides)
 
-  moves : MovesHold job (job .sides) (tries job (job .sides))
-  moves = pass-holds most job s (job .sides) (given-sides most job s) .moves
+  these-hold : MovesHold job (job .sides) (tries job (job .sides))
+  these-hold = pass-holds most job s (job .sides) (given-sides most job s) .moves
 
   there : Left job l one
-  there = left most job s (job .sides) (tries job (job .sides)) l ok moves
+  there = left most job s (job .sides) (tries job (job .sides)) l ok these-hold
 
   abbrev told : Listing
   told = listing (leaves job l one)
@@ -57,19 +57,19 @@ module _ (most : Limits) (job : Job) (s : Sound most job) (l : Lent) (ok : fits 
   unfolding passOf
   end-told i h = there .ends .holds 0 i (rw (ends-length (recipes job) 0 (start job (job .sides)) (tries job (job .sides))) h)
 
-  begin-told : (i : ℕ) → i < length (tries job (job .sides)) → scansBefore told i ≡ begins (endsFrom (recipes job) 0 (start job (job .sides)) (tries job (job .sides))) 0 i
+  begin-told : (i : ℕ) → i < length (tries job (job .sides)) → scansBefore told i ≡ beginsAt (endsFrom (recipes job) 0 (start job (job .sides)) (tries job (job .sides))) 0 i
   begin-told zero h = refl
   begin-told (suc i) h = end-told i (omega arith)
 
   few-scans : length (scans (recipes job) (start job (job .sides)) (tries job (job .sides))) ≤ 4 * recipeCount job
   unfolding passOf
-  few-scans = moves .scans
+  few-scans = these-hold .scans
 
   no-bad-end : (i : ℕ) → i < length (tries job (job .sides)) → badEnd told i ≡ false
   no-bad-end i h =
       let r = ends-rise (recipes job) 0 (start job (job .sides)) (tries job (job .sides)) i h in
       let e = end-told i h in
-      let f = roomy job l ok in
+      let f = long-enough job l ok in
       let rise : ltb (getD (told .ends) i 0) (scansBefore told i) ≡ false = le-ltb (getD (told .ends) i 0) (scansBefore told i) (omega (arith, e, begin-told i h, r .0)) in
       let within : ltb (length (told .recipes)) (getD (told .ends) i 0) ≡ false = le-ltb (length (told .recipes)) (getD (told .ends) i 0) (omega (arith, e, r .1, few-scans, there .recipes .long, f .scannedRecipes)) in
       let kinds : ltb (length (told .kinds)) (getD (told .ends) i 0) ≡ false = le-ltb (length (told .kinds)) (getD (told .ends) i 0) (omega (arith, e, r .1, few-scans, there .kinds .long, f .scannedKinds)) in
@@ -81,17 +81,17 @@ module _ (most : Limits) (job : Job) (s : Sound most job) (l : Lent) (ok : fits 
 
   pub pass-told : holdsPass (job .sizes) (figuresOf done one (one ∷ [])) told ≡ true
   pass-told =
-      let f = roomy job l ok in
+      let f = long-enough job l ok in
       let n = length (tries job (job .sides)) in
       let ends : someBelow (badEnd told) n ≡ false = some-none (badEnd told) n no-bad-end in
-      let gains : length (told .gains) ≡ fileCount job = ap length (there .gains) ∙ moves .all in
+      let gains : length (told .gains) ≡ fileCount job = ap length (there .gains) ∙ these-hold .all in
       rw (
         tried-told,
         eq-eqb (length (told .gains)) (fileCount job) gains,
-        le-leb n (fileCount job) (moves .few),
-        le-leb n (length (told .tried)) (omega (arith, moves .few, there .tried .long, f .tried)),
-        le-leb n (length (told .gained)) (omega (arith, moves .few, there .gained .long, f .gained)),
-        le-leb n (length (told .cuts)) (omega (arith, moves .few, there .cuts .long, f .cuts)),
-        le-leb n (length (told .ends)) (omega (arith, moves .few, there .ends .long, f .scansSoFar)),
+        le-leb n (fileCount job) (these-hold .few),
+        le-leb n (length (told .tried)) (omega (arith, these-hold .few, there .tried .long, f .tried)),
+        le-leb n (length (told .gained)) (omega (arith, these-hold .few, there .gained .long, f .gained)),
+        le-leb n (length (told .cuts)) (omega (arith, these-hold .few, there .cuts .long, f .cuts)),
+        le-leb n (length (told .ends)) (omega (arith, these-hold .few, there .ends .long, f .scansSoFar)),
         ends,
       ) refl

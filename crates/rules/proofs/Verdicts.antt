@@ -1,5 +1,5 @@
 -- A chain of checks: the first refusal is the answer, and what a check that lets through tells. Assumes nothing.
-use mathlib.Core.Path.{_≡_, refl, sym, ap, _∙_}
+use mathlib.Core.Path.{_≡_, refl, sym, ap, ap₂, _∙_}
 use mathlib.Core.Logic.{_≢_}
 use Prim.Native.Nat.{ℕ, suc, _≤_, _<_}
 use mathlib.Core.Bool.{Bool, true, false, not, cond, _&&_, _||_}
@@ -25,6 +25,13 @@ zero-of e z = sym (ap (λ (y : Verdict). y .number) e) ∙ z
 pub chain-go : {a v w r : Verdict} → a ≡ v → a .number ≡ 0 → r ≡ w → r ≡ (v orElse w)
 chain-go {a} {v} e z r = r ∙ simp (eq-eqb (v .number) 0 (zero-of e z))
 
+pub passes-both : (v w : Verdict) → (v orElse w) .number ≡ 0 → (v .number ≡ 0) × (w .number ≡ 0)
+passes-both v w h = go (eqb (v .number) 0) refl h
+  where
+    go : (b : Bool) → eqb (v .number) 0 ≡ b → cond b w v .number ≡ 0 → (v .number ≡ 0) × (w .number ≡ 0)
+    go true e k = (eqb-true (v .number) 0 e, k)
+    go false e k = absurd (eqb-false (v .number) 0 e k)
+
 -- what follows a check counts only where it lets through
 pub chain-same : (v w w' : Verdict) → (v .number ≡ 0 → w ≡ w') → (v orElse w) ≡ (v orElse w')
 chain-same v w w' f = go (eqb (v .number) 0) refl
@@ -33,19 +40,39 @@ chain-same v w w' f = go (eqb (v .number) 0) refl
     go true e = f (eqb-true (v .number) 0 e)
     go false e = refl
 
+-- a chain may be gone through in parts
+pub or-assoc : (v w x : Verdict) → ((v orElse w) orElse x) ≡ (v orElse w orElse x)
+or-assoc v w x = go (eqb (v .number) 0) refl
+  where
+    go : (b : Bool) → eqb (v .number) 0 ≡ b → (cond b w v orElse x) ≡ cond b (w orElse x) v
+    go true e = refl
+    go false e = rw e
+
+pub or-three : (u v w x : Verdict) → ((u orElse v orElse w) orElse x) ≡ (u orElse v orElse w orElse x)
+or-three u v w x = or-assoc u (v orElse w) x ∙ ap (λ (y : Verdict). u orElse y) (or-assoc v w x)
+
+-- o is the first refusal of three checks: the chain stops at it, or goes on
+module _ {o p v1 v2 v3 u v w : Verdict} (e : o ≡ (v1 orElse p)) (f : p ≡ (v2 orElse v3)) (g : v1 ≡ u) (h : v2 ≡ v) (k : v3 ≡ w) where
+  first : o ≡ (u orElse v orElse w)
+  first = e ∙ ap₂ _orElse_ g (f ∙ ap₂ _orElse_ h k)
+
+  pub three-stop : (x : Verdict) → (o .number ≡ 0 → ⊥) → o ≡ (u orElse v orElse w orElse x)
+  three-stop x n = chain-stop x first n ∙ or-three u v w x
+
+  pub three-go : {r x : Verdict} → o .number ≡ 0 → r ≡ x → r ≡ (u orElse v orElse w orElse x)
+  three-go {x = x} z q = chain-go first z q ∙ or-three u v w x
+
+  pub three-pass : o .number ≡ 0 → (u .number ≡ 0) × (w .number ≡ 0)
+  three-pass z =
+      let l = passes-both u (v orElse w) (zero-of first z) in
+      (l .0, passes-both v w (l .1) .1)
+
 -- a test that refuses, in a chain
 pub refuse-stop : {t : Bool} {r : Verdict} (n p : ℕ) (w : Verdict) → t ≡ true → r ≡ refuseIf true (suc n) p → r ≡ (refuseIf t (suc n) p orElse w)
 refuse-stop n p w e z = chain-stop w (z ∙ ap (λ (b : Bool). refuseIf b (suc n) p) (sym e)) (λ q. omega (arith, ap (λ (v : Verdict). v .number) z))
 
 pub refuse-go : {t : Bool} {w r : Verdict} (n p : ℕ) → t ≡ false → r ≡ w → r ≡ (refuseIf t n p orElse w)
 refuse-go n p e z = chain-go {a = done} (ap (λ (b : Bool). refuseIf b n p) (sym e)) refl z
-
-pub passes-both : (v w : Verdict) → (v orElse w) .number ≡ 0 → (v .number ≡ 0) × (w .number ≡ 0)
-passes-both v w h = go (eqb (v .number) 0) refl h
-  where
-    go : (b : Bool) → eqb (v .number) 0 ≡ b → cond b w v .number ≡ 0 → (v .number ≡ 0) × (w .number ≡ 0)
-    go true e k = (eqb-true (v .number) 0 e, k)
-    go false e k = absurd (eqb-false (v .number) 0 e k)
 
 pub both-pass : (v w : Verdict) → v .number ≡ 0 → w .number ≡ 0 → (v orElse w) .number ≡ 0
 both-pass v w a b = rw (eq-eqb (v .number) 0 a) b

@@ -1,16 +1,21 @@
--- The cases of the view, and what its entries are. Assumes nothing.
+-- Bounds that rise, and the cases of the view. Assumes nothing.
 use mathlib.Core.Path.{_≡_, ap, _∙_}
-use Prim.Native.Nat.{ℕ, suc, _+_, _-_, _≤_, _<_}
-use mathlib.Core.Bool.{Bool, true, false, cond, _&&_}
+use Prim.Native.Nat.{ℕ, zero, suc, _+_, _-_, _≤_, _<_}
 use mathlib.Core.List.{List, []}
 use native.Mathlib.Omega.{arith}
 use native.Mathlib.Numerals.{add-one}
-use lib.ListN.{length, getD, take, drop, length-take, length-drop}
-use lib.Seq.{getD-take, getD-drop}
-use lib.Dec.{ltb, leb}
+use lib.ListN.{length, getD, take, drop}
 use borrow.Author.Tests.{le-ltb, lt-ltb, le-leb, lt-leb}
-use Rattle.rules.specs.Lists.{allBelow}
 use Rattle.rules.specs.Job.{viewOf}
+
+-- bounds of which none of the first n is over the next one rise
+module _ (bs : List ℕ) (n : ℕ) (up : (j : ℕ) → j < n → getD bs j 0 ≤ getD bs (suc j) 0) where
+  rises : (d i j : ℕ) → i + d ≡ j → j ≤ n → getD bs i 0 ≤ getD bs j 0
+  rises zero i j e h = let q : i ≡ j = omega arith in omega (arith, ap (λ (k : ℕ). getD bs k 0) q)
+  rises (suc d) i j e h = omega (arith, up i (omega arith), rises d (suc i) j (omega arith) h)
+
+  pub bounds-rise : (i j : ℕ) → i ≤ j → j ≤ n → getD bs i 0 ≤ getD bs j 0
+  bounds-rise i j l h = rises (j - i) i j (omega arith) h
 
 module _ (bs ps : List ℕ) (j : ℕ) where
   pub none-past : length bs - 1 ≤ j → [] ≡ viewOf bs ps j
@@ -33,23 +38,3 @@ module _ (bs ps : List ℕ) (j : ℕ) where
     pub is-part : a ≤ b → b ≤ length ps → take (b - a) (drop a ps) ≡ viewOf bs ps j
     unfolding viewOf
     is-part k l = rw (lt-ltb (suc j) (length bs) (omega arith), ← p, ← next, le-leb a b k, le-leb b (length ps) l)
-
--- a part of a list has the list's entries
-part-below : (n m a : ℕ) (ps : List ℕ) → allBelow n ps → allBelow n (take m (drop a ps))
-part-below n m a ps h i l =
-    let t : i < m = omega (arith, length-take m (drop a ps)) in
-    rw (getD-take m (drop a ps) i 0 t, getD-drop a ps i 0) (h (a + i) (omega (arith, length-take m (drop a ps), length-drop a ps)))
-
-pub view-within : (n : ℕ) (bs ps : List ℕ) (j : ℕ) → allBelow n ps → allBelow n (viewOf bs ps j)
-unfolding viewOf
-view-within n bs ps j h = go (ltb (suc j) (length bs) && leb a b && leb b (length ps))
-  where
-    a : ℕ
-    a = getD bs j 0
-
-    b : ℕ
-    b = getD bs (suc j) 0
-
-    go : (t : Bool) → allBelow n (cond t (take (b - a) (drop a ps)) [])
-    go true = part-below n (b - a) a ps h
-    go false = λ i l. absurd (omega arith)

@@ -14,7 +14,7 @@ use Rattle.rules.specs.Theorems.{Sound, Sides, MovesHold, Left}
 use Rattle.rules.proofs.Entries.{listed-again}
 use Rattle.rules.proofs.Proved.{left, pass-holds}
 use Rattle.rules.proofs.Steps.{gains-length, cuts-length, ends-length}
-use Rattle.rules.proofs.Fits.{roomy}
+use Rattle.rules.proofs.Fits.{long-enough}
 
 -- ---- the lists after two passes are the second's
 
@@ -56,7 +56,7 @@ leaves-alike most job s l ok before w =
     let v : Left job l (pass job before) = left most job s before (tries job before) l ok m in
     record {
       sides = m .next .long ∙ sym (s .sidesLong);
-      gains = ap length (v .gains) ∙ m .all ∙ sym (roomy job l ok .gains);
+      gains = ap length (v .gains) ∙ m .all ∙ sym (long-enough job l ok .gains);
       tried = v .tried .long;
       gained = v .gained .long;
       cuts = v .cuts .long;

@@ -62,10 +62,10 @@ record SumsSmall (k : ℕ) (sum : Figures) : Type 0 where
   pub scans : sum .scans ≤ k * 65536
   pub visits : sum .visits ≤ k * 262144
 
-grows : (k : ℕ) (sum : Figures) (p : Pass) → SumsSmall k sum → length (p .tried) ≤ 65536 → p .kept ≤ 65536 → length (p .scanned) ≤ 65536 → p .visited ≤ 262144
+sums-grow : (k : ℕ) (sum : Figures) (p : Pass) → SumsSmall k sum → length (p .tried) ≤ 65536 → p .kept ≤ 65536 → length (p .scanned) ≤ 65536 → p .visited ≤ 262144
     → SumsSmall (suc k) (plusOf sum (figuresOf done p (p ∷ [])))
 unfolding plusOf figuresOf total
-grows k sum p r a b c d = record {
+sums-grow k sum p r a b c d = record {
   tried = omega (arith, r .tried);
   kept = omega (arith, r .kept);
   scans = omega (arith, r .scans);
@@ -81,8 +81,8 @@ module _ {most : Limits} {job : Job} (ok : Accepted most job) (l : Lent) where
   abbrev s : Sound most job
   s = ok .sound
 
-  holds : RunHolds job
-  holds = run-holds most job s
+  run-holding : RunHolds job
+  run-holding = run-holds most job s
 
   take-more : (k : ℕ) → k < length (run job) → take (suc k) (run job) ≡ take k (run job) ++ (getD (run job) k (pass job (job .sides)) ∷ [])
   take-more k h = take-suc (run job) k (pass job (job .sides)) h
@@ -99,24 +99,24 @@ module _ {most : Limits} {job : Job} (ok : Accepted most job) (l : Lent) where
 
   -- each pass is one from such sides
   pass-at : (j : ℕ) → j < length (run job) → (before : List ℕ) × Starts job before × (getD (run job) j (pass job (job .sides)) ≡ pass job before)
-  pass-at zero h = (job .sides, record { fit = given-sides most job s; balanced = ok .balanced }, holds .first (pass job (job .sides)))
+  pass-at zero h = (job .sides, record { fit = given-sides most job s; balanced = ok .balanced }, run-holding .first (pass job (job .sides)))
   pass-at (suc i) h =
       let b = pass-at i (omega arith) in
-      (getD (run job) i (pass job (job .sides)) .sidesAfter, rw (b .2) (starts-next (b .0) (b .1)), holds .each (pass job (job .sides)) i h)
+      (getD (run job) i (pass job (job .sides)) .sidesAfter, rw (b .2) (starts-next (b .0) (b .1)), run-holding .each (pass job (job .sides)) i h)
 
   -- the pass after it
   pass-there : (k : ℕ) → suc k < length (run job) → getD (run job) (suc k) (pass job (job .sides)) ≡ pass job (lastAt job (suc k) .sidesAfter)
-  pass-there k h = holds .each (pass job (job .sides)) k h ∙ ap (λ (p : Pass). pass job (p .sidesAfter)) (sym (last-is k (omega arith)))
+  pass-there k h = run-holding .each (pass job (job .sides)) k h ∙ ap (λ (p : Pass). pass job (p .sidesAfter)) (sym (last-is k (omega arith)))
 
   -- after the first pass
   pub runs-first : (f : Figures) (sides : List ℕ) (lent : Lent) → endedOf f sides lent ≡ passLeft job l
       → Running job l 1 f (eqb (f .cut) (f .before)) sides lent
   unfolding figuresOf lastOf
   runs-first f sides lent e =
-      let one : take 1 (run job) ≡ pass job (job .sides) ∷ [] = take-more 0 (holds .some) ∙ ap (λ (p : Pass). p ∷ []) (holds .first (pass job (job .sides))) in
+      let one : take 1 (run job) ≡ pass job (job .sides) ∷ [] = take-more 0 (run-holding .some) ∙ ap (λ (p : Pass). p ∷ []) (run-holding .first (pass job (job .sides))) in
       record {
         some = omega arith;
-        few = holds .some;
+        few = run-holding .some;
         sums = ap (λ (x : Ended Figures). x .answer) e ∙ ap (figuresOf done (pass job (job .sides))) (sym one);
         equal =
             ap₂ eqb (ap (λ (x : Ended Figures). x .answer .cut) e) (ap (λ (x : Ended Figures). x .answer .before) e)
@@ -133,7 +133,7 @@ module _ {most : Limits} {job : Job} (ok : Accepted most job) (l : Lent) where
         let q : k ≡ length (run job) = omega arith in
         let t = and-yes (not (settles (lastAt job k))) (eqb (job .cap) 0 || ltb k (job .cap)) e in
         let whole : take k (run job) ≡ run job = ap (λ (i : ℕ). take i (run job)) q ∙ take-length (run job) in
-        let full : length (run job) ≡ job .cap = holds .full (ap (λ (ps : List Pass). settles (lastOf (pass job (job .sides)) ps)) (sym whole) ∙ not-true (settles (lastAt job k)) (t .0)) in
+        let full : length (run job) ≡ job .cap = run-holding .full (ap (λ (ps : List Pass). settles (lastOf (pass job (job .sides)) ps)) (sym whole) ∙ not-true (settles (lastAt job k)) (t .0)) in
         absurd (cap-no (job .cap) k (t .1) (omega arith) a)
   ]
     where
@@ -144,11 +144,11 @@ module _ {most : Limits} {job : Job} (ok : Accepted most job) (l : Lent) where
   not-settled : (j : ℕ) → suc j < length (run job) → settles (lastAt job (suc j)) ≡ false
   not-settled j h =
       let p : Pass = getD (run job) j (pass job (job .sides)) in
-      ap settles (last-is j (omega arith)) ∙ ne-eqb (p .cutAfter) (p .cutBefore) (λ e. omega (arith, holds .lessened (pass job (job .sides)) j h))
+      ap settles (last-is j (omega arith)) ∙ ne-eqb (p .cutAfter) (p .cutBefore) (λ e. omega (arith, run-holding .lessened (pass job (job .sides)) j h))
 
   follows-not : (j : ℕ) → suc j ≤ length (run job) → follows (job .cap) (suc j) (settles (lastAt job (suc j))) ≡ false → suc j ≡ length (run job)
   follows-not j b e = elim (decLt (suc j) (length (run job))) [
-    | yes h ↦ clash (sym (ap (λ (t : Bool). not t && (eqb (job .cap) 0 || ltb (suc j) (job .cap))) (not-settled j h) ∙ under (job .cap) (holds .capped) h) ∙ e)
+    | yes h ↦ clash (sym (ap (λ (t : Bool). not t && (eqb (job .cap) 0 || ltb (suc j) (job .cap))) (not-settled j h) ∙ under (job .cap) (run-holding .capped) h) ∙ e)
     | no n ↦ omega arith
   ]
     where
@@ -247,7 +247,7 @@ module _ {most : Limits} {job : Job} (ok : Accepted most job) (l : Lent) where
         let r = sums-at k (omega arith) in
         let p : Pass = getD (run job) k (pass job (job .sides)) in
         subst (SumsSmall (suc k)) (sym (ap (figuresOf done (pass job (job .sides))) (take-more k h) ∙ figures-more (pass job (job .sides)) (take k (run job)) p))
-        (grows k (figuresOf done (pass job (job .sides)) (take k (run job))) p r (o .0) (o .1) (o .2) (o .3))
+        (sums-grow k (figuresOf done (pass job (job .sides)) (take k (run job))) p r (o .0) (o .1) (o .2) (o .3))
 
     start-cut : cut (job .sides) (recipes job) ≤ most .recipes
     start-cut = unfold stepsBy in omega (arith, cut-few most job s 0, s .fewRecipes)
@@ -256,5 +256,5 @@ module _ {most : Limits} {job : Job} (ok : Accepted most job) (l : Lent) where
     pub sums-fit : {k : ℕ} {sum : Figures} {settled : Bool} {sides : List ℕ} {lent : Lent} → Running job l k sum settled sides lent → SumsFit sum × (k ≤ 65536)
     sums-fit {k} r =
         let b = subst (SumsSmall k) (sym (r .sums)) (sums-at k (r .few)) in
-        let n : k ≤ 65536 = omega (arith, r .few, holds .few, start-cut, narrow .recipes) in
+        let n : k ≤ 65536 = omega (arith, r .few, run-holding .few, start-cut, narrow .recipes) in
         (record { tried = omega (arith, b .tried); kept = omega (arith, b .kept); scans = omega (arith, b .scans); visits = omega (arith, b .visits) }, n)

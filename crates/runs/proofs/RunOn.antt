@@ -124,8 +124,8 @@ module _ (most : Limits) (job : Job) (l : Lent) where
             on = rw w (going z r);
           }
 
-      turn-first : Turned most job l sum f sides' lent'
-      turn-first = elim (ℕ-discrete (verdict .number) 0) [ yes z ↦ first-made z | no n ↦ first-refused n ]
+      pass-first : Turned most job l sum f sides' lent'
+      pass-first = elim (ℕ-discrete (verdict .number) 0) [ yes z ↦ first-made z | no n ↦ first-refused n ]
 
     -- a later one
     module _ (z : verdict .number ≡ 0) (r : Running job l (sum .passes) (sum .figures) (sum .settled) sides lent) (go : goesOn (job .cap) sum ≡ true)
@@ -141,20 +141,20 @@ module _ (most : Limits) (job : Job) (l : Lent) where
           let fit : fits job lent ≡ true = fits-alike (alike-there (job-is z) l ok r) ∙ ok in
           rw fit (check-again job sides most (fits job l) z (t .fit) (t .balanced))
 
-      left : endedOf f sides' lent' ≡ passLeft (withSides job sides) lent
-      left = p ∙ answers most (withSides job sides) lent .passDone passes-again
+      pass-left : endedOf f sides' lent' ≡ passLeft (withSides job sides) lent
+      pass-left = p ∙ answers most (withSides job sides) lent .passDone passes-again
 
       next : Running job l (suc (sum .passes)) (plusOf (sum .figures) f) (eqb (f .cut) (f .before)) sides' lent'
-      next = runs-more (job-is z) l r follow f sides' lent' left
+      next = runs-more (job-is z) l r follow f sides' lent' pass-left
 
       early : sum .passes < suc (cut (job .sides) (recipes job))
       early =
           let h : sum .passes < length (run job) = follows-there (job-is z) l (sum .passes) (r .some) (r .few) (rw (← r .equal) follow) in
           omega (arith, run-holds most job (job-is z .sound) .few)
 
-      turn-later : Turned most job l sum f sides' lent'
-      turn-later =
-          let v : f .verdict .number ≡ 0 = ap (λ (x : Ended Figures). x .answer .verdict .number) left ∙ figures-done _ _ in
+      pass-later : Turned most job l sum f sides' lent'
+      pass-later =
+          let v : f .verdict .number ≡ 0 = ap (λ (x : Ended Figures). x .answer .verdict .number) pass-left ∙ figures-done _ _ in
           let m : RunFigures = record { figures = plusOf (sum .figures) f; passes = sum .passes + 1; settled = eqb (f .cut) (f .before) } in
           let w : withPass sum f ≡ m = with-more sum f v (λ e. omega (arith, r .some)) in
           let u = sums-fit (job-is z) l narrow next in
@@ -166,12 +166,12 @@ module _ (most : Limits) (job : Job) (l : Lent) where
           }
 
   -- any turn
-  pub turned : Narrow most → {sum : RunFigures} {sides : List ℕ} {lent : Lent} → Onward most job l sum sides lent → goesOn (job .cap) sum ≡ true
+  pub turn-made : Narrow most → {sum : RunFigures} {sides : List ℕ} {lent : Lent} → Onward most job l sum sides lent → goesOn (job .cap) sum ≡ true
       → (f : Figures) (sides' : List ℕ) (lent' : Lent) → endedOf f sides' lent' ≡ passEnds most (withSides job sides) lent → Turned most job l sum f sides' lent'
-  turned narrow (begun e) go f sides' lent' p = turn-first narrow f sides' lent' e p
-  turned narrow {sum} (refused n e) go f sides' lent' p =
+  turn-made narrow (begun e) go f sides' lent' p = pass-first narrow f sides' lent' e p
+  turn-made narrow {sum} (refused n e) go f sides' lent' p =
       clash (sym go ∙ sym (stops-refused (job .cap) sum (λ z. n (sym (ap (λ (x : Ended RunFigures). x .answer .figures .verdict .number) e) ∙ z))))
-  turned narrow (going z r) go f sides' lent' p = turn-later narrow f sides' lent' z r go p
+  turn-made narrow (going z r) go f sides' lent' p = pass-later narrow f sides' lent' z r go p
 
   -- ---- at the end
 
@@ -195,9 +195,9 @@ module _ (most : Limits) (job : Job) (l : Lent) where
   alike (refused n e) = still verdict e
   alike (going z r) = alike-there (job-is z) l (answers most job l .fitting z) r
 
-  pub ended : {sum : RunFigures} {sides : List ℕ} {lent : Lent} → Onward most job l sum sides lent → goesOn (job .cap) sum ≡ false
+  pub run-ended : {sum : RunFigures} {sides : List ℕ} {lent : Lent} → Onward most job l sum sides lent → goesOn (job .cap) sum ≡ false
       → endedOf sum sides lent ≡ runEnds most job l
-  ended (begun e) go = clash (sym (first-goes (job .cap)) ∙ sym (ap (λ (x : Ended RunFigures). goesOn (job .cap) (x .answer)) e) ∙ go)
-  ended (refused n e) go = e ∙ sym (answers most job l .runRefused n)
-  ended {sum} (going z r) go =
+  run-ended (begun e) go = clash (sym (first-goes (job .cap)) ∙ sym (ap (λ (x : Ended RunFigures). goesOn (job .cap) (x .answer)) e) ∙ go)
+  run-ended (refused n e) go = e ∙ sym (answers most job l .runRefused n)
+  run-ended {sum} (going z r) go =
       runs-last (job-is z) l r (sym (goes-where (job .cap) sum (running-done r)) ∙ go) ∙ sym (answers most job l .runDone z)

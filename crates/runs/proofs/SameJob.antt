@@ -40,9 +40,9 @@ module _ (job : Job) (sides : List ℕ) where
   unfolding balanced weight smax sizeOn files
   start-same = refl
 
-  first-same : check1 job ≡ check1 (withSides job sides)
+  check1-same : check1 job ≡ check1 (withSides job sides)
   unfolding check1
-  first-same = refl
+  check1-same = refl
 
   second-same : (most : Limits) → check2 most job ≡ check2 most (withSides job sides)
   unfolding check2
@@ -99,7 +99,7 @@ module _ (job : Job) (sides : List ℕ) where
       let c8 = passes-both (check8 job) (check9 job) (c7 .1) in
       let x : Job = withSides job sides in
       both-pass (check1to6 most x true) (check7to9 most x)
-      (both-pass (check1 x) (check2 most x orElse check3 x true orElse check4to6 x) (zero-of first-same (c1 .0))
+      (both-pass (check1 x) (check2 most x orElse check3 x true orElse check4to6 x) (zero-of check1-same (c1 .0))
       (both-pass (check2 most x) (check3 x true orElse check4to6 x) (zero-of (second-same most) (c2 .0))
       (both-pass (check3 x true) (check4to6 x) (third-passes s w)
       (both-pass (check4 x) (check5 x orElse check6 x) (zero-of fourth-same (c4 .0))

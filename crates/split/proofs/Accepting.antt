@@ -48,17 +48,17 @@ module _ (job : Job) (two : (i : ℕ) → sizeOf job i < 65536) where
   smax-most = largest-most (sizeOf job) two (fileCount job)
 
 -- s answers for the job and the lists lent, and g and z are then the gains and the scratch; sizes are two-byte numbers
-pub record Surveyed (most : Limits) (job : Job) (l : Lent) (g : List ℤ) (z : List ℕ) (s : Survey) : Type 0 where
+pub record Accepting (most : Limits) (job : Job) (l : Lent) (g : List ℤ) (z : List ℕ) (s : Survey) : Type 0 where
   pub narrow : Narrow most
   pub sizes : (i : ℕ) → sizeOf job i < 65536
   pub lays : LaysOut most job (fits job l) (l .gains) (l .scratch) g z s
 
 -- from what the step promises
-pub surveyed : (most : Limits) (job : Job) (l : Lent) {g : List ℤ} {z : List ℕ} {s : Survey} → LaysOut most job (fits job l) (l .gains) (l .scratch) g z s
-    → Narrow most → ((i : ℕ) → sizeOf job i < 65536) → Surveyed most job l g z s
-surveyed most job l lays narrow sizes = record { narrow = narrow; sizes = sizes; lays = lays }
+pub accepting : (most : Limits) (job : Job) (l : Lent) {g : List ℤ} {z : List ℕ} {s : Survey} → LaysOut most job (fits job l) (l .gains) (l .scratch) g z s
+    → Narrow most → ((i : ℕ) → sizeOf job i < 65536) → Accepting most job l g z s
+accepting most job l lays narrow sizes = record { narrow = narrow; sizes = sizes; lays = lays }
 
-module _ {most : Limits} {job : Job} {l : Lent} {g : List ℤ} {z : List ℕ} {s : Survey} (a : Surveyed most job l g z s) where
+module _ {most : Limits} {job : Job} {l : Lent} {g : List ℤ} {z : List ℕ} {s : Survey} (a : Accepting most job l g z s) where
   told : s .verdict ≡ check most job (fits job l)
   told = ap (λ (x : Survey). x .verdict) (a .lays .answer) ∙ verdict-is most job (fits job l)
 
@@ -74,11 +74,11 @@ module _ {most : Limits} {job : Job} {l : Lent} {g : List ℤ} {z : List ℕ} {s
   -- ---- let through
 
   module _ (d : s .verdict .number ≡ 0) where
-    done : check most job (fits job l) .number ≡ 0
-    done = zero-of told d
+    check-done : check most job (fits job l) .number ≡ 0
+    check-done = zero-of told d
 
     found : s ≡ record { verdict = check most job (fits job l); weight = weight job; largest = smax job; size = sizeAtStart job; cut = cutAtStart job }
-    found = a .lays .answer ∙ survey-is most job (fits job l) done
+    found = a .lays .answer ∙ survey-is most job (fits job l) check-done
 
     pub cut-is : s .cut ≡ cutAtStart job
     cut-is = ap (λ (x : Survey). x .cut) found
@@ -87,10 +87,10 @@ module _ {most : Limits} {job : Job} {l : Lent} {g : List ℤ} {z : List ℕ} {s
     begins-as e = e ∙ ap (λ (x : Survey). begun (x .size) (x .cut)) found
 
     pub pass-done : {x : Ended Figures} → x ≡ passLeft job l → x ≡ passEnds most job l
-    pass-done e = e ∙ sym (answers most job l .passDone done)
+    pass-done e = e ∙ sym (answers most job l .passDone check-done)
 
     job-is : Accepted most job
-    job-is = accepted most job (fits job l) done
+    job-is = accepted most job (fits job l) check-done
 
     weight-small : weight job < 2 ^ 40
     weight-small = omega (arith, weight-most job (a .sizes), job-is .sound .fewFiles, a .narrow .files)
@@ -110,7 +110,7 @@ module _ {most : Limits} {job : Job} {l : Lent} {g : List ℤ} {z : List ℕ} {s
         scans = omega (arith, job-is .sound .fewRecipes, a .narrow .recipes);
         weight = weight-small;
       };
-      fitting = answers most job l .fitting done;
+      fitting = answers most job l .fitting check-done;
       measured = record {
         den = ap (λ (w : Window). w .den) e;
         aim = ap (λ (w : Window). w .aim) e ∙ ap (λ (x : Survey). job .num * x .weight) found;

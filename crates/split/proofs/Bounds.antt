@@ -14,7 +14,7 @@ use Rattle.rules.specs.Split.{isCut, cut, holds, gain, weight, sizeA}
 use Rattle.rules.specs.Move.{State, free, moved, scans, endsFrom, visits}
 use Rattle.rules.specs.Pass.{gainsWhen, cutsAfter, standing, gainsAfter}
 use Rattle.rules.specs.Theorems.{Sound}
-use Rattle.rules.proofs.Fits.{Roomy, roomy}
+use Rattle.rules.proofs.Fits.{LongEnough, long-enough}
 use Rattle.rules.proofs.Count.{getD-tabled, length-tabled, count-le}
 use Rattle.rules.proofs.Signed.{up, down, abs, diff-key}
 use Rattle.rules.proofs.Entries.{onto-length}
@@ -104,7 +104,7 @@ pub record BoardLong (job : Job) (l : Lent) (b : Board) : Type 0 where
 
 pub board-long : (most : Limits) (job : Job) → Sound most job → {l : Lent} → fits job l ≡ true → {k : ℕ} {b : Board} → Going job l k b → BoardLong job l b
 board-long most job s {l} ok {k} {b} g =
-    let r : Roomy job l = roomy job l ok in
+    let r : LongEnough job l = long-enough job l ok in
     let rs : List (List ℕ) = recipes job in
     let ms : List ℕ = made job k in
     let few : length ms ≤ fileCount job = omega (arith, made-length job k (g .few), g .few, few-moves most job s) in
@@ -145,7 +145,7 @@ up-le a b (negsuc n) e = omega arith
 pub safe : (most : Limits) (job : Job) → Sound most job → recipeCount job ≤ 65536 → {l : Lent} → fits job l ≡ true
     → {k f : ℕ} {b : Board} → Going job l k b → Next job k f → Safe job k f b
 safe most job s small {l} ok {k} {f} {b} g n =
-    let r : Roomy job l = roomy job l ok in
+    let r : LongEnough job l = long-enough job l ok in
     let m : BoardLong job l b = board-long most job s ok g in
     let early : k < fileCount job = n .early in
     record {

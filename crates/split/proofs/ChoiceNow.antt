@@ -21,7 +21,7 @@ use Rattle.rules.proofs.Count.{hit-eq, total-upTo, length-tabled}
 use Rattle.rules.proofs.First.{first-same}
 use Rattle.rules.proofs.Sizes.{size-after}
 use Rattle.rules.proofs.SoundJob.{recipes-distinct}
-use Rattle.rules.proofs.MovesEnd.{Long}
+use Rattle.rules.proofs.MovesEnd.{StateLong}
 use Rattle.rules.proofs.GainKept.{Fresh, keptUp, kept-length, gain-kept, start-fresh}
 use Rattle.rules.proofs.Choice.{choose-listed}
 use Rattle.split.specs.declared.choice.Window.{Window}
@@ -75,7 +75,7 @@ module _ (most : Limits) (job : Job) (s : Sound most job) (k : ℕ) where
   pub size-moved-by : (f : ℕ) → f < fileCount job → lockOf (stands job k) f ≡ 0
       → sizeBy (sizeA job (stands job k .sides)) (sideOf (stands job k .sides) f) (sizeOf job f) ≡ sizeAfter job (stands job k) f
   size-moved-by f h e =
-      let long : Long (fileCount job) (stands job k) = stands-long most job s k in
+      let long : StateLong (fileCount job) (stands job k) = stands-long most job s k in
       size-by (sideOf (stands job k .sides) f) (sizeOf job f) (sizeA job (stands job k .sides)) (sizeAfter job (stands job k) f) (stands-binary most job s k f)
       (size-after job (stands job k) f (omega arith) (omega arith) e (stands-binary most job s k) h)
 

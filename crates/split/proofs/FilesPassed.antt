@@ -108,33 +108,33 @@ module _ (w : Window) (size : ℕ) (sizes sides locks : List ℕ) (gains : List 
   abbrev kept : Option ℕ → Best
   kept = bestOf gainOf dist (length sizes)
 
-  abbrev pub next : Best → ℕ → Best
-  next b f = challenged w b f (gainOf f) (getD locks f 0) (sizeBy size (sideOf sides f) (getD sizes f 0)) (length sizes)
+  abbrev pub nextBest : Best → ℕ → Best
+  nextBest b f = challenged w b f (gainOf f) (getD locks f 0) (sizeBy size (sideOf sides f) (getD sizes f 0)) (length sizes)
 
   -- what the code makes of a rival
   pub next-rival : (b : Best) (f : ℕ) → rivalIn b locks gains (length sizes) f ≡ true
-      → challenged w b f (gainOf f) 0 (sizeBy size (sideOf sides f) (getD sizes f 0)) (length sizes) ≡ next b f
+      → challenged w b f (gainOf f) 0 (sizeBy size (sideOf sides f) (getD sizes f 0)) (length sizes) ≡ nextBest b f
   next-rival b f e =
       ap (λ (l : ℕ). challenged w b f (gainOf f) l (sizeBy size (sideOf sides f) (getD sizes f 0)) (length sizes))
       (sym (eqb-true (getD locks f 0) 0 (and-yes (eqb (getD locks f 0) 0) (noLess (gainOf f) b (length sizes)) e .0)))
 
-  next-same : (b : Best) (f : ℕ) → rivalIn b locks gains (length sizes) f ≡ false → next b f ≡ b
+  next-same : (b : Best) (f : ℕ) → rivalIn b locks gains (length sizes) f ≡ false → nextBest b f ≡ b
   unfolding challenged
   next-same b f e =
       ap (λ (t : Bool). cond t (bestIs f (gainOf f) (dist f)) b)
       (outdone-last (eqb (getD locks f 0) 0) (leb (dist f) (w .span)) (eqb (b .file) (length sizes)) (ltZ (b .gain) (gainOf f)) (ltZ (gainOf f) (b .gain)) (ltb (dist f) (b .dist)) e (no-less-first (gainOf f) (b .gain)))
 
   -- the files below f are passed, and b is the best of them
-  pub record Passed (f : ℕ) (b : Best) : Type 0 where
+  pub record FilesPassed (f : ℕ) (b : Best) : Type 0 where
     pub few : f ≤ length sizes
     pub best : b ≡ kept (chosenIn w size sizes sides locks gains f)
 
   -- and f is a rival of b, or there is none
   pub record AtRival (f : ℕ) (b : Best) : Type 0 where
-    pub passed : Passed f b
+    pub passed : FilesPassed f b
     pub rival : f < length sizes → rivalIn b locks gains (length sizes) f ≡ true
 
-  against : (o : Option ℕ) (f : ℕ) → ((g : ℕ) → o ≡ some g → g < length sizes) → next (kept o) f ≡ kept (challenge ok goes o f)
+  against : (o : Option ℕ) (f : ℕ) → ((g : ℕ) → o ≡ some g → g < length sizes) → nextBest (kept o) f ≡ kept (challenge ok goes o f)
   unfolding challenged challenge
   against none f h = rw (eq-eqb (length sizes) (length sizes) refl) (go (ok f))
     where
@@ -148,14 +148,14 @@ module _ (w : Window) (size : ℕ) (sizes sides locks : List ℕ) (gains : List 
       go false = refl
 
 module _ {w : Window} {size : ℕ} {sizes sides locks : List ℕ} {gains : List ℤ} where
-  pub passed-none : Passed w size sizes sides locks gains 0 (bestIs (length sizes) (pos 0) 0)
+  pub files-none : FilesPassed w size sizes sides locks gains 0 (bestIs (length sizes) (pos 0) 0)
   unfolding chosenIn firstBelow
-  passed-none = record { few = omega arith; best = refl }
+  files-none = record { few = omega arith; best = refl }
 
-  pub passed-more : {f : ℕ} {b : Best} → f < length sizes → Passed w size sizes sides locks gains f b
-      → Passed w size sizes sides locks gains (f + 1) (next w size sizes sides locks gains b f)
+  pub files-more : {f : ℕ} {b : Best} → f < length sizes → FilesPassed w size sizes sides locks gains f b
+      → FilesPassed w size sizes sides locks gains (f + 1) (nextBest w size sizes sides locks gains b f)
   unfolding chosenIn firstBelow
-  passed-more {f} {b} h p =
+  files-more {f} {b} h p =
       let fits = ok w size sizes sides locks gains in
       let first = goes w size sizes sides locks gains in
       record {
@@ -164,23 +164,23 @@ module _ {w : Window} {size : ℕ} {sizes sides locks : List ℕ} {gains : List 
       }
 
   -- the files up to the next rival change nothing
-  passed-over : {f : ℕ} {b : Best} (r : ℕ) → Outdone b locks gains (length sizes) f r → Passed w size sizes sides locks gains f b
-      → Passed w size sizes sides locks gains r b
-  passed-over {f} {b} zero o p =
+  files-over : {f : ℕ} {b : Best} (r : ℕ) → Outdone b locks gains (length sizes) f r → FilesPassed w size sizes sides locks gains f b
+      → FilesPassed w size sizes sides locks gains r b
+  files-over {f} {b} zero o p =
       let e : f ≡ 0 = omega (arith, o .least) in
       rw e at p
-  passed-over {f} {b} (suc r) o p = elim (ℕ-discrete f (suc r)) [
+  files-over {f} {b} (suc r) o p = elim (ℕ-discrete f (suc r)) [
     | yes e ↦ rw e at p
     | no z ↦
-        let q = passed-over r (record { least = omega (arith, o .least); most = omega (arith, o .most); each = λ g k l. o .each g k (omega arith) }) p in
-        rw (add-one r, next-same w size sizes sides locks gains b r (o .each r (omega (arith, o .least)) (omega arith))) at (passed-more (omega (arith, o .most)) q)
+        let q = files-over r (record { least = omega (arith, o .least); most = omega (arith, o .most); each = λ g k l. o .each g k (omega arith) }) p in
+        rw (add-one r, next-same w size sizes sides locks gains b r (o .each r (omega (arith, o .least)) (omega arith))) at (files-more (omega (arith, o .most)) q)
   ]
 
-  pub at-rival : {f r : ℕ} {b : Best} → Passed w size sizes sides locks gains f b → NextRival b locks gains (length sizes) f r
+  pub at-rival : {f r : ℕ} {b : Best} → FilesPassed w size sizes sides locks gains f b → NextRival b locks gains (length sizes) f r
       → AtRival w size sizes sides locks gains r b
-  at-rival {r = r} p n = record { passed = passed-over r (n .outdone) p; rival = n .rival }
+  at-rival {r = r} p n = record { passed = files-over r (n .outdone) p; rival = n .rival }
 
-  pub passed-all : {f : ℕ} {b : Best} → length sizes ≤ f → Passed w size sizes sides locks gains f b → b ≡ bestIn w size sizes sides locks gains
-  passed-all {f} {b} h p =
+  pub files-all : {f : ℕ} {b : Best} → length sizes ≤ f → FilesPassed w size sizes sides locks gains f b → b ≡ bestIn w size sizes sides locks gains
+  files-all {f} {b} h p =
       let e : f ≡ length sizes = omega (arith, p .few) in
       rw (p .best, e)

@@ -14,7 +14,7 @@ use Rattle.rules.specs.Move.{State, Scan, scans, endsFrom, visits}
 use Rattle.rules.specs.Pass.{gainsWhen, cutsAfter, cutAt, keeps, gainsAfter, passOf, tries, pass, leaves}
 use Rattle.rules.specs.Theorems.{Sound}
 use Rattle.rules.proofs.Entries.{onto-in}
-use Rattle.rules.proofs.MovesEnd.{Long}
+use Rattle.rules.proofs.MovesEnd.{StateLong}
 use Rattle.rules.proofs.GainKept.{gains-kept}
 use Rattle.rules.proofs.Steps.{move-back, gains-length, cuts-length, ends-length}
 use Rattle.rules.proofs.Runs.{keeps-le}
@@ -37,7 +37,7 @@ back-to most job s tried best (suc d) h e =
     let k : ℕ = best + d in
     let f : ℕ = getD (tries job (job .sides)) k 0 in
     let n : Next job k f = next-at most job s k (omega arith) in
-    let long : Long (fileCount job) (stands job k) = stands-long most job s k in
+    let long : StateLong (fileCount job) (stands job k) = stands-long most job s k in
     ap (λ (i : ℕ). backTo tried best d (turned (stands job i .sides) (getD tried k 0))) (add-suc best d)
     ∙ ap₂ (λ (st : State) (x : ℕ). backTo tried best d (turned (st .sides) x)) (n .then) (e k (omega arith))
     ∙ ap (λ (x : List ℕ). backTo tried best d x) (move-back (stands job k) f (omega (arith, n .below, long .sides)) (stands-binary most job s k f))
@@ -79,8 +79,8 @@ module _ (most : Limits) (job : Job) (s : Sound most job) {l : Lent} {k : ℕ} {
   kept : b .rest .scanned .progress .best ≡ keeps (recipes job) (begins job) (tries job (job .sides))
   kept = g .progress .best ∙ ap (λ (ms : List ℕ). keeps (recipes job) (begins job) ms) all-made
 
-  counted : b .rest .scanned .progress .moves ≡ length (made job k)
-  counted = g .progress .moves ∙ end ∙ sym (ap length all-made)
+  moves-made : b .rest .scanned .progress .moves ≡ length (made job k)
+  moves-made = g .progress .moves ∙ end ∙ sym (ap length all-made)
 
   tried-at : (i : ℕ) → i < k → getD (b .tried) i 0 ≡ getD (tries job (job .sides)) i 0
   tried-at i h =
@@ -122,13 +122,13 @@ module _ (most : Limits) (job : Job) (s : Sound most job) {l : Lent} {k : ℕ} {
             g .gains
             ∙ gains-kept rs (recipes-distinct most job s) (fileCount job) (begins job) (made job k) (made-free most job s k) (s .binary)
             ∙ ap (λ (x : List ℕ). gainsAfter rs (fileCount job) (begins job) x) all-made;
-        tried = fill-in (fileCount job) 0 (made job k) ms (l .tried) (b .tried) _ (g .tried) counted all-made few;
+        tried = fill-in (fileCount job) 0 (made job k) ms (l .tried) (b .tried) _ (g .tried) moves-made all-made few;
         gained = fill-in (fileCount job) (pos 0) (gainsWhen rs (begins job) (made job k)) (gainsWhen rs (begins job) ms) (l .gained) (b .gained) _ (g .gained)
-            (counted ∙ sym (gains-length rs (begins job) (made job k))) (ap (λ (x : List ℕ). gainsWhen rs (begins job) x) all-made) (rw (gains-length rs (begins job) ms) few);
+            (moves-made ∙ sym (gains-length rs (begins job) (made job k))) (ap (λ (x : List ℕ). gainsWhen rs (begins job) x) all-made) (rw (gains-length rs (begins job) ms) few);
         cuts = fill-in (fileCount job) 0 (cutsAfter rs (begins job) (made job k)) (cutsAfter rs (begins job) ms) (l .cuts) (b .cuts) _ (g .cuts)
-            (counted ∙ sym (cuts-length rs (begins job) (made job k))) (ap (λ (x : List ℕ). cutsAfter rs (begins job) x) all-made) (rw (cuts-length rs (begins job) ms) few);
+            (moves-made ∙ sym (cuts-length rs (begins job) (made job k))) (ap (λ (x : List ℕ). cutsAfter rs (begins job) x) all-made) (rw (cuts-length rs (begins job) ms) few);
         scansSoFar = fill-in (fileCount job) 0 (endsFrom rs 0 (begins job) (made job k)) (endsFrom rs 0 (begins job) ms) (l .ends) (b .ends) _ (g .scansSoFar)
-            (counted ∙ sym (ends-length rs 0 (begins job) (made job k))) (ap (λ (x : List ℕ). endsFrom rs 0 (begins job) x) all-made) (rw (ends-length rs 0 (begins job) ms) few);
+            (moves-made ∙ sym (ends-length rs 0 (begins job) (made job k))) (ap (λ (x : List ℕ). endsFrom rs 0 (begins job) x) all-made) (rw (ends-length rs 0 (begins job) ms) few);
         scannedRecipes = fill-in (4 * recipeCount job) 0 (map (λ c. c .recipe) (scans rs (begins job) (made job k))) (map (λ c. c .recipe) (scans rs (begins job) ms)) (l .recipes) (b .rest .scanned .recipes) _ (g .scannedRecipes)
             (g .progress .scanned ∙ sym (length-map (scans rs (begins job) (made job k)) (λ c. c .recipe))) (ap (λ (x : List Scan). map (λ c. c .recipe) x) scanned) (rw length-map some);
         scannedKinds = fill-in (4 * recipeCount job) 0 (map (λ c. c .kind) (scans rs (begins job) (made job k))) (map (λ c. c .kind) (scans rs (begins job) ms)) (l .kinds) (b .rest .scanned .kinds) _ (g .scannedKinds)

@@ -14,7 +14,7 @@ use Rattle.split.specs.declared.scan.Way.{Way}
 use Rattle.rules.proofs.GainKept.{scan-length}
 use Rattle.tables.proofs.Parts.{part-set-above}
 use Rattle.tables.specs.Zones.{part}
-use Rattle.split.specs.Scanning.{scannedBy, Scanned, scanned, scanIf, Room, RoomFor, Fits, kindThere, countT, lockedT, countF, Treated, recount, treatOne, Treatable}
+use Rattle.split.specs.Scanning.{scannedBy, Scanned, scanned, scanIf, NearVisits, RoomFor, Fits, kindThere, countT, lockedT, countF, Treated, recount, treatOne, Treatable}
 use Rattle.split.proofs.ScanLaws.{scan-abs}
 
 -- ---- what comes later: lists as long, and no fewer scans and visits
@@ -46,10 +46,10 @@ fits-earlier l f = record {
 }
 
 -- the gains are within the visits made and some more
-abbrev pub Near : Scanned → Type 0
-Near x = Room (x .gains) (x .progress .visits)
+abbrev pub GainsNear : Scanned → Type 0
+GainsNear x = NearVisits (x .gains) (x .progress .visits)
 
-pub near-room : {gains : List ℤ} {visits : ℕ} (n : ℕ) → Room gains visits → visits + n ≤ 2 ^ 30 → RoomFor gains n
+pub near-room : {gains : List ℤ} {visits : ℕ} (n : ℕ) → NearVisits gains visits → visits + n ≤ 2 ^ 30 → RoomFor gains n
 near-room n h l f = omega (arith, h .near f)
 
 -- ---- one scan
@@ -61,14 +61,14 @@ pub record Scannable (x : Scanned) (n : ℕ) : Type 0 where
   pub visits : x .progress .visits + n ≤ 2 ^ 30
 
 module _ (st : State) (t j : ℕ) (r : List ℕ) (kind : ℕ) (x : Scanned) where
-  abbrev made : Scanned
-  made = scanned (scanPins st t kind r (x .gains)) (set (x .recipes) (x .progress .scans) j) (set (x .kinds) (x .progress .scans) kind) (scannedBy (x .progress) (length r))
+  abbrev scanMade : Scanned
+  scanMade = scanned (scanPins st t kind r (x .gains)) (set (x .recipes) (x .progress .scans) j) (set (x .kinds) (x .progress .scans) kind) (scannedBy (x .progress) (length r))
 
   pub scan-none : kind ≡ 0 → scanIf st t j r kind x ≡ x
   unfolding scanIf
   scan-none e = rw (eq-eqb kind 0 e)
 
-  scan-made : (kind ≡ 0 → ⊥) → scanIf st t j r kind x ≡ made
+  scan-made : (kind ≡ 0 → ⊥) → scanIf st t j r kind x ≡ scanMade
   unfolding scanIf
   scan-made n = rw (ne-eqb kind 0 n)
 
@@ -81,14 +81,14 @@ module _ (st : State) (t j : ℕ) (r : List ℕ) (kind : ℕ) (x : Scanned) wher
   pub scan-fits : (kind ≡ 0 → ⊥) → Fits (scanIf st t j r kind x) → Scannable x (length r)
   unfolding scannedBy
   scan-fits n f =
-      let m : Fits made = subst Fits (scan-made n) f in
+      let m : Fits scanMade = subst Fits (scan-made n) f in
       record {
         recipes = omega (arith, m .recipes, length-set (x .recipes) (x .progress .scans) j);
         kinds = omega (arith, m .kinds, length-set (x .kinds) (x .progress .scans) kind);
         visits = m .visits;
       }
 
-  later-made : Later x made
+  later-made : Later x scanMade
   unfolding scannedBy
   later-made = record {
     gains = scan-length st t kind r (x .gains);
@@ -98,7 +98,7 @@ module _ (st : State) (t j : ℕ) (r : List ℕ) (kind : ℕ) (x : Scanned) wher
     visits = omega arith;
   }
 
-  near-made : Near x → Near made
+  near-made : GainsNear x → GainsNear scanMade
   unfolding scannedBy
   near-made h = record { near = λ f. omega (arith, h .near f, scan-abs st t kind r (x .gains) f) }
 
@@ -108,10 +108,10 @@ module _ (st : State) (t j : ℕ) (r : List ℕ) (kind : ℕ) (x : Scanned) wher
     | no n ↦ subst (Later x) (sym (scan-made n)) later-made
   ]
 
-  pub near-if : Near x → Near (scanIf st t j r kind x)
+  pub near-if : GainsNear x → GainsNear (scanIf st t j r kind x)
   near-if h = elim (ℕ-discrete kind 0) [
-    | yes e ↦ subst (λ (y : Scanned). Near y) (sym (scan-none e)) h
-    | no n ↦ subst (λ (y : Scanned). Near y) (sym (scan-made n)) (near-made h)
+    | yes e ↦ subst (λ (y : Scanned). GainsNear y) (sym (scan-none e)) h
+    | no n ↦ subst (λ (y : Scanned). GainsNear y) (sym (scan-made n)) (near-made h)
   ]
 
 -- ---- one recipe
@@ -133,13 +133,13 @@ module _ (st : State) (way : Way) (j : ℕ) (r z : List ℕ) (x : Scanned) where
   abbrev first : Scanned
   first = scanIf st (way .side) j r (kindThere (countT way j z) (lockedT way j z)) x
 
-  abbrev both : Treated
-  both = treatOne st way j r (record { scratch = z; scanned = x })
+  abbrev bothScans : Treated
+  bothScans = treatOne st way j r (record { scratch = z; scanned = x })
 
-  pub later-one : Later x (both .scanned)
+  pub later-one : Later x (bothScans .scanned)
   unfolding treatOne
   later-one = later-then (later-if st (way .side) j r _ x) (later-if st (way .side) j r _ first)
 
-  pub near-one : Near x → Near (both .scanned)
+  pub near-recipe : GainsNear x → GainsNear (bothScans .scanned)
   unfolding treatOne
-  near-one h = near-if st (way .side) j r _ first (near-if st (way .side) j r _ x h)
+  near-recipe h = near-if st (way .side) j r _ first (near-if st (way .side) j r _ x h)

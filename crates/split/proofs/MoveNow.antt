@@ -26,7 +26,7 @@ use Rattle.split.specs.Movable.{Movable}
 use Rattle.split.proofs.Playable.{Small}
 use Rattle.split.proofs.Going.{begins, made, stands, Going}
 use Rattle.split.proofs.Treats.{Shifted, MoveTreated}
-use Rattle.rules.proofs.Fits.{Roomy, roomy}
+use Rattle.rules.proofs.Fits.{LongEnough, long-enough}
 use Rattle.split.proofs.Bounds.{BoardLong, board-long, cut-few, Safe, safe}
 use Rattle.split.proofs.NextBoard.{goes-on}
 use Rattle.split.proofs.ChoiceNow.{holds-now}
@@ -54,7 +54,8 @@ counts-set {rs} {st} {at} {n} {z} i v h c = record {
 }
 
 -- there is room for the entries of the move of f, which are two-byte numbers
-pub record Turns (sizes bounds pins : List ℕ) (f : ℕ) (b : Board) : Type 0 where
+pub record MoveFits (sizes bounds pins : List ℕ) (f : ℕ) (b : Board) : Type 0 where
+  pub few : b .rest .scanned .progress .moves < 65536
   pub tried : b .rest .scanned .progress .moves < length (b .tried)
   pub gained : b .rest .scanned .progress .moves < length (b .gained)
   pub cuts : b .rest .scanned .progress .moves < length (b .cuts)
@@ -85,8 +86,8 @@ module _ (most : Limits) (job : Job) (s : Sound most job) (small : Small job) {l
   abbrev locked : List ℕ
   locked = set z (locksAt c p + f) 1
 
-  abbrev begun : Treated
-  begun = treated locked (b .rest .scanned .gains) (b .rest .scanned .recipes) (b .rest .scanned .kinds)
+  abbrev treatBegun : Treated
+  treatBegun = treated locked (b .rest .scanned .gains) (b .rest .scanned .recipes) (b .rest .scanned .kinds)
       (shiftedTo (b .rest .scanned .progress) (sizeBy (b .rest .scanned .progress .size) (sideOf (b .sides) f) (getD (job .sizes) f 0))
       (cutBy (b .rest .scanned .progress .cut) (getD (b .rest .scanned .gains) f (pos 0))))
 
@@ -95,13 +96,13 @@ module _ (most : Limits) (job : Job) (s : Sound most job) (small : Small job) {l
   sees j h = sym (getD-tabled (view job) n j [] h)
 
   room : scratchFor job ≤ length z
-  room = omega (arith, roomy job l ok .scratch, board-long most job s ok g .scratch)
+  room = omega (arith, long-enough job l ok .scratch, board-long most job s ok g .scratch)
 
   long : length locked ≡ length z
   long = length-set z (locksAt c p + f) 1
 
-  counted : Counts rs st (countsAt c p) n locked
-  counted = counts-set (locksAt c p + f) 1 (omega (arith, x .below)) (g .counts)
+  counts-locked : Counts rs st (countsAt c p) n locked
+  counts-locked = counts-set (locksAt c p + f) 1 (omega (arith, x .below)) (g .counts)
 
   side : sideOf (turned (b .sides) f) f ≡ other (sideOf (st .sides) f)
   side = getD-set-same (b .sides) f (other (sideOf (b .sides) f)) 0 (omega (arith, x .below, board-long most job s ok g .sides)) ∙ ap (λ (u : List ℕ). other (sideOf u f)) (g .sides)
@@ -114,18 +115,18 @@ module _ (most : Limits) (job : Job) (s : Sound most job) (small : Small job) {l
   unfolding moved
   now = ap₂ (λ (u v : List ℕ). record { sides = u; locks = v }) (ap (λ (u : List ℕ). turned u f) (g .sides)) locks
 
-  is : treatMove (job .sizes) (job .bounds) (job .pins) f b ≡ treatAll (moved st f) (wayOf c n p st f) (viewOf (job .bounds) (job .pins)) (recipesOf rs f) begun
+  is : treatMove (job .sizes) (job .bounds) (job .pins) f b ≡ treatAll (moved st f) (wayOf c n p st f) (viewOf (job .bounds) (job .pins)) (recipesOf rs f) treatBegun
   unfolding treatFrom
   is =
-      ap (λ (u : State). treatAll u (wayTo c n p (sideOf (turned (b .sides) f) f)) (viewOf (job .bounds) (job .pins)) (cellsOf c p z f) begun) now
-      ∙ ap (λ (u : ℕ). treatAll (moved st f) (wayTo c n p u) (viewOf (job .bounds) (job .pins)) (cellsOf c p z f) begun) side
-      ∙ ap (λ (u : List ℕ). treatAll (moved st f) (wayOf c n p st f) (viewOf (job .bounds) (job .pins)) u begun) (g .cells .hold f (x .below))
+      ap (λ (u : State). treatAll u (wayTo c n p (sideOf (turned (b .sides) f) f)) (viewOf (job .bounds) (job .pins)) (cellsOf c p z f) treatBegun) now
+      ∙ ap (λ (u : ℕ). treatAll (moved st f) (wayTo c n p u) (viewOf (job .bounds) (job .pins)) (cellsOf c p z f) treatBegun) side
+      ∙ ap (λ (u : List ℕ). treatAll (moved st f) (wayOf c n p st f) (viewOf (job .bounds) (job .pins)) u treatBegun) (g .cells .hold f (x .below))
 
-  did : TreatedMove rs st (moved st f) f (countsAt c p) n begun (treatMove (job .sizes) (job .bounds) (job .pins) f b)
+  did : TreatedMove rs st (moved st f) f (countsAt c p) n treatBegun (treatMove (job .sizes) (job .bounds) (job .pins) f b)
   did =
       rw is
       (move-treated rs (recipes-distinct most job s) st f (x .moves) c n p (recipes-length most job s) (viewOf (job .bounds) (job .pins)) sees
-      (moved st f) begun (rw long (omega (arith, room))) counted)
+      (moved st f) treatBegun (rw long (omega (arith, room))) counts-locked)
 
   -- the scans so far, and this move's
   more : scans rs (begins job) (made job (suc k)) ≡ scans rs (begins job) (made job k) ++ scansOf rs st f
@@ -174,7 +175,7 @@ module _ (most : Limits) (job : Job) (s : Sound most job) (small : Small job) {l
   pub recipes-treated : MoveTreated job l k f b (treatMove (job .sizes) (job .bounds) (job .pins) f b)
   unfolding shiftedTo
   recipes-treated =
-      let r : Roomy job l = roomy job l ok in
+      let r : LongEnough job l = long-enough job l ok in
       let y : Treated = treatMove (job .sizes) (job .bounds) (job .pins) f b in
       record {
         locks = beside-part (did .beside) (locksAt c p) c (omega arith) ∙ locks ∙ ap (λ (u : State). u .locks) (sym (x .then));
@@ -199,15 +200,15 @@ module _ (most : Limits) (job : Job) (s : Sound most job) (small : Small job) {l
   pins-below : (j : ℕ) → j < n → allBelow c (viewOf (job .bounds) (job .pins) j)
   pins-below j h i q = view-below most job s j i h q
 
-  short : (j : ℕ) → j < n → length (getD rs j []) < 65535
-  short j h = rw (← sees j h) (omega (arith, view-length most job s j h, bound-le most job s (suc j) h, small .pins))
+  recipes-short : (j : ℕ) → j < n → length (getD rs j []) < 65535
+  recipes-short j h = rw (← sees j h) (omega (arith, view-length most job s j h, bound-le most job s (suc j) h, small .pins))
 
   ready : Ready (wayTo c n p (sideOf (turned (b .sides) f) f)) (viewOf (job .bounds) (job .pins)) (cellsOf c p z f) locked
   ready =
       subst (λ (u : ℕ). Ready (wayTo c n p u) (viewOf (job .bounds) (job .pins)) (cellsOf c p z f) locked) (sym side)
       (subst (λ (u : List ℕ). Ready (wayOf c n p st f) (viewOf (job .bounds) (job .pins)) u locked) (sym (g .cells .hold f (x .below)))
       (move-ready rs (recipes-distinct most job s) st f (x .moves) c n p (recipes-length most job s) (viewOf (job .bounds) (job .pins)) sees
-      locked (rw long (omega (arith, room))) counted pins-below short))
+      locked (rw long (omega (arith, room))) counts-locked pins-below recipes-short))
 
   -- the lists written are as long as those lent
   as-long : (h : Scan → ℕ) (old : List ℕ) → 4 * n ≤ length old → length (onto (map h (scans rs (begins job) (made job (suc k)))) old) ≡ length old
@@ -215,7 +216,7 @@ module _ (most : Limits) (job : Job) (s : Sound most job) (small : Small job) {l
 
   fitting : Fits (treatMove (job .sizes) (job .bounds) (job .pins) f b .scanned)
   fitting =
-      let r : Roomy job l = roomy job l ok in
+      let r : LongEnough job l = long-enough job l ok in
       record {
         recipes = omega (arith, shifted .scanned, care .scanning, ap length (recipes-treated .scannedRecipes) ∙ as-long (λ u. u .recipe) (l .recipes) (r .scannedRecipes), r .scannedRecipes);
         kinds = omega (arith, shifted .scanned, care .scanning, ap length (recipes-treated .scannedKinds) ∙ as-long (λ u. u .kind) (l .kinds) (r .scannedKinds), r .scannedKinds);
@@ -254,8 +255,9 @@ module _ (most : Limits) (job : Job) (s : Sound most job) (small : Small job) {l
   unfolding moveOne countedOn
   cut-now = move-goes .progress .cutNow
 
-  pub move-turns : Turns (job .sizes) (job .bounds) (job .pins) f b
-  move-turns = record {
+  pub move-fits : MoveFits (job .sizes) (job .bounds) (job .pins) f b
+  move-fits = record {
+    few = omega (arith, g .progress .moves, x .early, small .files);
     tried = omega (arith, care .tried, g .progress .moves);
     gained = omega (arith, care .gained, g .progress .moves);
     cuts = omega (arith, care .cuts, g .progress .moves);

@@ -14,7 +14,7 @@ use Rattle.rules.specs.Move.{State, moved, sizeAfter, scans, endsFrom}
 use Rattle.rules.specs.Pass.{gainsWhen, cutsAfter, cutAt, startGains}
 use Rattle.rules.specs.Theorems.{Sound}
 use Rattle.rules.proofs.Entries.{onto-set}
-use Rattle.rules.proofs.GainKept.{keptUp, scanned}
+use Rattle.rules.proofs.GainKept.{keptUp, gainsScanned}
 use Rattle.rules.proofs.Steps.{kept-snoc, gains-snoc, cuts-snoc, ends-snoc, gains-length, cuts-length, ends-length}
 use Rattle.split.specs.declared.progress.Progress.{Progress}
 use Rattle.split.specs.Choosing.{sizeBy}
@@ -25,7 +25,7 @@ use Rattle.split.proofs.Treats.{Shifted, MoveTreated}
 use Rattle.split.proofs.NextMove.{Next}
 use Rattle.split.proofs.ChoiceNow.{gainsNow, size-moved-by}
 use Rattle.split.proofs.BestSoFar.{costs, cost-now, made-length, keeps-made, least-made, counted-best, counted-least, counted-figure}
-use Rattle.rules.proofs.Fits.{Roomy, roomy}
+use Rattle.rules.proofs.Fits.{LongEnough, long-enough}
 use Rattle.split.proofs.Bounds.{gain-now, cut-next}
 
 -- one entry more in a list that holds one for each move made
@@ -41,9 +41,9 @@ module _ (most : Limits) (job : Job) (s : Sound most job) {l : Lent} (ok : fits 
   gain-of : getD (b .rest .scanned .gains) f (pos 0) ≡ gain (stands job k .sides) (recipes job) f
   gain-of = ap (λ (x : List ℤ). getD x f (pos 0)) (g .gains) ∙ gain-now most job s k f n
 
-  gains-on : scanned (recipes job) (stands job k) f (b .rest .scanned .gains) ≡ gainsNow job (suc k)
+  gains-on : gainsScanned (recipes job) (stands job k) f (b .rest .scanned .gains) ≡ gainsNow job (suc k)
   gains-on =
-      ap (λ (x : List ℤ). scanned (recipes job) (stands job k) f x) (g .gains)
+      ap (λ (x : List ℤ). gainsScanned (recipes job) (stands job k) f x) (g .gains)
       ∙ sym (ap (λ (ms : List ℕ). keptUp (recipes job) (begins job) ms (startGains (recipes job) (fileCount job) (begins job))) (n .more)
       ∙ kept-snoc (recipes job) (begins job) (made job k) f (startGains (recipes job) (fileCount job) (begins job)))
 
@@ -91,7 +91,7 @@ module _ (most : Limits) (job : Job) (s : Sound most job) {l : Lent} (ok : fits 
       → Going job l (suc k) (moveOne (job .sizes) (job .bounds) (job .pins) f b)
   unfolding moveOne
   goes-on t =
-      let r : Roomy job l = roomy job l ok in
+      let r : LongEnough job l = long-enough job l ok in
       let rs : List (List ℕ) = recipes job in
       let ms : List ℕ = made job k in
       let long : length ms ≡ k = made-length job k (g .few) in

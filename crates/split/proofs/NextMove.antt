@@ -15,7 +15,7 @@ use Rattle.rules.specs.Pass.{tries}
 use Rattle.rules.specs.Theorems.{Binary, Sound, Chosen}
 use Rattle.rules.proofs.Tests.{clash, and-yes}
 use Rattle.rules.proofs.Choice.{chosen}
-use Rattle.rules.proofs.MovesEnd.{Long, after-long, moves-each, pass-end, frees-few}
+use Rattle.rules.proofs.MovesEnd.{StateLong, after-long, moves-each, pass-end, frees-few}
 use Rattle.rules.proofs.OneMove.{Moves, move-of}
 use Rattle.rules.proofs.GainKept.{frees-take, after-binary}
 use Rattle.rules.proofs.Steps.{after-snoc}
@@ -40,11 +40,11 @@ never-both {ℓ} : {X : Type ℓ} (o : Option ℕ) (a : ℕ) → o ≡ some a �
 never-both o a p q = let z : _≡_ {A = ℕ} 0 1 = cc in absurd (omega arith)
 
 module _ (most : Limits) (job : Job) (s : Sound most job) where
-  begins-long : Long (fileCount job) (begins job)
+  begins-long : StateLong (fileCount job) (begins job)
   begins-long = record { sides = s .sidesLong; locks = s .marksLong }
 
   -- what holds of every state on the way
-  pub stands-long : (k : ℕ) → Long (fileCount job) (stands job k)
+  pub stands-long : (k : ℕ) → StateLong (fileCount job) (stands job k)
   stands-long k = after-long (begins job) (made job k) begins-long
 
   pub all-free : Frees (begins job) (tries job (job .sides))
@@ -81,7 +81,7 @@ module _ (most : Limits) (job : Job) (s : Sound most job) where
         let c : Chosen job (stands job k) f = chosen job (stands job k) f e in
         let lock : lockOf (stands job k) f ≡ 0
         = eqb-true (lockOf (stands job k) f) 0 (and-yes (free (stands job k) f) (balanced job (sizeAfter job (stands job k) f)) (c .lawful) .0) in
-        let long : Long (fileCount job) (stands job k) = stands-long k in
+        let long : StateLong (fileCount job) (stands job k) = stands-long k in
         record {
           few = l;
           early = omega (arith, few-moves);

@@ -17,7 +17,7 @@ use Rattle.rules.proofs.Signed.{up, down, diff-eq, diff-pos}
 use Rattle.split.specs.declared.progress.Progress.{Progress}
 use Rattle.split.specs.declared.scan.Way.{Way}
 use Rattle.tables.specs.Zones.{locksAt, part, stateOf}
-use Rattle.split.specs.Scanning.{Room, Fits, Treated, treated, treatAll, Ready}
+use Rattle.split.specs.Scanning.{NearVisits, Fits, Treated, treated, treatAll, Ready}
 use Rattle.tables.specs.Ending.{turned}
 use Rattle.split.specs.Moving.{shiftedTo, shiftOf, countedOn, cutBy, wayTo, cellsOf, Locked, Board, board, treatFrom, treatMove, moveOne}
 use Rattle.split.specs.Movable.{Movable}
@@ -86,7 +86,7 @@ module _ {sizes bounds pins : List ℕ} {f : ℕ} {sides : List ℕ} {y : Treate
   -- all that the call asks
   pub treats-safe : ((way .side ≤ 1) × (a ≤ e) × (e ≤ way .locks))
       × (((length (y .scanned .gains) ≡ way .files) × (length sides' ≡ way .files) × (way .locks + way .files ≤ length z))
-      × (Ready way look (part a (e - a) z) z × (Room (y .scanned .gains) (q .visits) × Fits (treats z .scanned))))
+      × (Ready way look (part a (e - a) z) z × (NearVisits (y .scanned .gains) (q .visits) × Fits (treats z .scanned))))
   treats-safe =
       let long : length (turned sides f) ≡ length sizes = length-set sides f (1 - sideOf sides f) ∙ m .sidesLong in
       let visits : q .visits ≡ y .scanned .progress .visits = ap (λ (p : Progress). p .visits) (h .shift) ∙ (unfold shiftedTo in refl) in
@@ -104,13 +104,10 @@ module _ {sizes bounds pins : List ℕ} {f : ℕ} {sides : List ℕ} {y : Treate
 
 -- ---- the board
 
-pub steps-move : (sizes bounds pins : List ℕ) (f : ℕ) (b : Board) {sides tried cuts ends : List ℕ} {gained : List ℤ} {y : Treated} {r : Progress}
-    → sides ≡ turned (b .sides) f → tried ≡ set (b .tried) (b .rest .scanned .progress .moves) f
-    → gained ≡ set (b .gained) (b .rest .scanned .progress .moves) (getD (b .rest .scanned .gains) f (pos 0))
-    → y ≡ treatMove sizes bounds pins f b
-    → cuts ≡ set (b .cuts) (b .rest .scanned .progress .moves) (y .scanned .progress .cut)
-    → ends ≡ set (b .ends) (b .rest .scanned .progress .moves) (y .scanned .progress .scans)
-    → r ≡ countedOn (y .scanned .progress)
-    → board sides tried gained cuts ends (y .scratch) (y .scanned .gains) (y .scanned .recipes) (y .scanned .kinds) r ≡ moveOne sizes bounds pins f b
+pub steps-move : (sizes bounds pins : List ℕ) (f : ℕ) (b : Board) {sides : List ℕ} {gained : List ℤ} {y : Treated} {r : Progress}
+    → (let k = b .rest .scanned .progress .moves in
+    sides ≡ turned (b .sides) f → gained ≡ set (b .gained) k (getD (b .rest .scanned .gains) f (pos 0)) → y ≡ treatMove sizes bounds pins f b → r ≡ countedOn (y .scanned .progress)
+    → board sides (set (b .tried) k f) gained (set (b .cuts) k (y .scanned .progress .cut)) (set (b .ends) k (y .scanned .progress .scans))
+    (y .scratch) (y .scanned .gains) (y .scanned .recipes) (y .scanned .kinds) r ≡ moveOne sizes bounds pins f b)
 unfolding moveOne
-steps-move sizes bounds pins f b d t g e u v w = rw (d, t, g, u, v, w, e)
+steps-move sizes bounds pins f b d g e w = rw (d, g, w, e)

@@ -1,6 +1,6 @@
 -- One pass, put together from what its steps answer. Assumes nothing.
 use mathlib.Core.Path.{_≡_, refl, sym, ap, subst, _∙_}
-use Prim.Native.Nat.{ℕ, _+_, _*_, _≤_, _<_}
+use Prim.Native.Nat.{ℕ, _+_, _-_, _*_, _≤_, _<_}
 use mathlib.Core.List.{List}
 use native.Mathlib.Nat.{add-zero}
 use native.Mathlib.Omega.{arith}
@@ -14,16 +14,17 @@ use Rattle.rules.specs.Check.{done}
 use Rattle.rules.specs.Pass.{tries, Pass, pass}
 use Rattle.rules.specs.Run.{endedOf, lastOf, figuresOf}
 use Rattle.rules.specs.Theorems.{Sound}
-use Rattle.rules.proofs.Fits.{Roomy, roomy}
+use Rattle.rules.proofs.Fits.{LongEnough, long-enough}
 use Rattle.rules.proofs.Runs.{pass-from}
 use Rattle.tables.specs.Zones.{countsAt}
 use Rattle.tables.specs.Clearing.{clearedIn}
+use Rattle.tables.specs.Ending.{backTo}
 use Rattle.tables.specs.LayingOut.{Prepared}
 use Rattle.tables.proofs.Filled.{cleared-front, cleared-in}
 use Rattle.split.specs.declared.choice.Window.{Window}
 use Rattle.split.specs.declared.progress.Progress.{Progress}
 use Rattle.split.specs.Moving.{Board, board, begun}
-use Rattle.split.specs.Playing.{KeptBest, passLeft}
+use Rattle.split.specs.Playing.{passLeft, figuresFrom}
 use Rattle.split.proofs.Going.{Going}
 use Rattle.split.proofs.Treats.{Begun}
 use Rattle.split.proofs.Playable.{Playable, sizeAtStart, cutAtStart}
@@ -75,9 +76,9 @@ first-under {job} {l} {w} {g} {z} y d e =
 
 -- ---- after the last
 
--- C, N and P as the code has them
-pub few-numbers : {job : Job} {l : Lent} {w : Window} {n : ℕ} → Playable job l w → n ≡ recipeCount job → (fileCount job < 65536) × (n < 65536) × (pinCount job < 65536)
-few-numbers y e = (y .small .files, omega (arith, y .small .bounds), omega (arith, y .small .pins))
+-- there are few files, bounds and pins
+pub few-numbers : {job : Job} {l : Lent} {w : Window} → Playable job l w → (fileCount job < 65536) × (length (job .bounds) < 65536) × (pinCount job < 65536)
+few-numbers y = (y .small .files, y .small .bounds, omega (arith, y .small .pins))
 
 module _ {job : Job} {l : Lent} {w : Window} (y : Playable job l w) {b : Board} (going : Going job l (length (tries job (job .sides))) b) where
   abbrev q : Progress
@@ -86,44 +87,42 @@ module _ {job : Job} {l : Lent} {w : Window} (y : Playable job l w) {b : Board} 
   ended : Finished job l b
   ended = finished (y .most) job (y .sound) going refl
 
-  -- what the pass leaves; n, scans and numbers as the code has them
-  pub pass-ends : {before n scans numbers : ℕ} {r : Figures} {sides tried : List ℕ} {gained : List ℤ} {cuts ends rs kinds scratch : List ℕ}
+  -- what the pass leaves; scans and numbers as the code has them
+  pub pass-ends : {before scans numbers : ℕ} {r : Figures} {sides tried : List ℕ} {gained : List ℤ} {cuts ends rs kinds scratch : List ℕ}
       → before ≡ cutAtStart job
-      → KeptBest (b .tried) before q (b .sides) sides r
-      → (tried ≡ clearedIn (q .moves) (fileCount job) 0 (b .tried))
+      → r ≡ figuresFrom before q
+      → (sides ≡ backTo (b .tried) (q .best) (q .moves - q .best) (b .sides))
+      × (tried ≡ clearedIn (q .moves) (fileCount job) 0 (b .tried))
       × (gained ≡ clearedIn (q .moves) (fileCount job) (pos 0) (b .gained))
       × (cuts ≡ clearedIn (q .moves) (fileCount job) 0 (b .cuts))
       × (ends ≡ clearedIn (q .moves) (fileCount job) 0 (b .ends))
-      → n ≡ recipeCount job
-      → (scans ≡ 4 * n) × (numbers ≡ pinCount job + 4 * fileCount job + 4 * n + 16)
+      → (scans ≡ 4 * recipeCount job) × (numbers ≡ scratchFor job)
       → (rs ≡ clearedIn (q .scans) scans 0 (b .rest .scanned .recipes))
       × (kinds ≡ clearedIn (q .scans) scans 0 (b .rest .scanned .kinds))
       × (scratch ≡ clearedIn 0 numbers 0 (b .rest .scratch))
       → endedOf r sides (lentOf (b .rest .scanned .gains) tried gained cuts ends rs kinds scratch) ≡ passLeft job l
   unfolding figuresOf lastOf total
-  pass-ends {scans = scans} {numbers = numbers} be k m ne ro s =
+  pass-ends {scans = scans} {numbers = numbers} be told m ro s =
       let p : Pass = pass job (job .sides) in
       let c : ℕ = fileCount job in
       let d : Finished job l b = ended in
-      let o : Roomy job l = roomy job l (y .fitting) in
+      let o : LongEnough job l = long-enough job l (y .fitting) in
       let long : BoardLong job l b = board-long (y .most) job (y .sound) (y .fitting) going in
       let early : q .moves ≤ c = d .early in
-      let most : scans ≡ 4 * recipeCount job = ro .0 ∙ ap (λ (i : ℕ). 4 * i) ne in
-      let all : numbers ≡ scratchFor job = ro .1 ∙ ap (λ (i : ℕ). pinCount job + 4 * c + 4 * i + 16) ne in
-      let back = k .back ∙ d .back in
-      let tr = m .0 ∙ cleared-in (q .moves) c 0 (b .tried) early (omega (arith, long .tried, o .tried)) ∙ d .tried in
-      let ga = m .1 ∙ cleared-in (q .moves) c (pos 0) (b .gained) early (omega (arith, long .gained, o .gained)) ∙ d .gained in
-      let cu = m .2 ∙ cleared-in (q .moves) c 0 (b .cuts) early (omega (arith, long .cuts, o .cuts)) ∙ d .cuts in
-      let en = m .3 ∙ cleared-in (q .moves) c 0 (b .ends) early (omega (arith, long .scansSoFar, o .scansSoFar)) ∙ d .scansSoFar in
-      let re = s .0 ∙ ap (λ (i : ℕ). clearedIn (q .scans) i 0 (b .rest .scanned .recipes)) most
+      let back = m .0 ∙ d .back in
+      let tr = m .1 ∙ cleared-in (q .moves) c 0 (b .tried) early (omega (arith, long .tried, o .tried)) ∙ d .tried in
+      let ga = m .2 ∙ cleared-in (q .moves) c (pos 0) (b .gained) early (omega (arith, long .gained, o .gained)) ∙ d .gained in
+      let cu = m .3 ∙ cleared-in (q .moves) c 0 (b .cuts) early (omega (arith, long .cuts, o .cuts)) ∙ d .cuts in
+      let en = m .4 ∙ cleared-in (q .moves) c 0 (b .ends) early (omega (arith, long .scansSoFar, o .scansSoFar)) ∙ d .scansSoFar in
+      let re = s .0 ∙ ap (λ (i : ℕ). clearedIn (q .scans) i 0 (b .rest .scanned .recipes)) (ro .0)
       ∙ cleared-in (q .scans) (4 * recipeCount job) 0 (b .rest .scanned .recipes) (d .few) (omega (arith, long .scannedRecipes, o .scannedRecipes)) ∙ d .scannedRecipes in
-      let ki = s .1 ∙ ap (λ (i : ℕ). clearedIn (q .scans) i 0 (b .rest .scanned .kinds)) most
+      let ki = s .1 ∙ ap (λ (i : ℕ). clearedIn (q .scans) i 0 (b .rest .scanned .kinds)) (ro .0)
       ∙ cleared-in (q .scans) (4 * recipeCount job) 0 (b .rest .scanned .kinds) (d .few) (omega (arith, long .scannedKinds, o .scannedKinds)) ∙ d .scannedKinds in
-      let sc = s .2 ∙ ap (λ (i : ℕ). clearedIn 0 i 0 (b .rest .scratch)) all
+      let sc = s .2 ∙ ap (λ (i : ℕ). clearedIn 0 i 0 (b .rest .scratch)) (ro .1)
       ∙ cleared-in 0 (scratchFor job) 0 (b .rest .scratch) (omega arith) (omega (arith, long .scratch, o .scratch))
       ∙ cleared-front 0 (scratchFor job) (b .rest .scratch) ∙ d .scratch in
       λ i. record {
-        answer = (k .told ∙ λ j. record {
+        answer = (told ∙ λ j. record {
           verdict = done;
           before = (be ∙ sym (pass-from job (tries job) (job .sides))) j;
           cut = d .least j;

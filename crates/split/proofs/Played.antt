@@ -1,11 +1,13 @@
 -- The moves of a pass, as a loop that chooses and moves has them. Assumes nothing.
 use mathlib.Core.Path.{_≡_, refl, sym, ap, subst, _∙_}
-use Prim.Native.Nat.{ℕ, suc, _+_, _-_, _≤_, _<_, _^_}
+use Prim.Native.Nat.{ℕ, suc, _+_, _-_, _*_, _≤_, _<_, _^_}
 use mathlib.Core.List.{List}
 use mathlib.Core.Option.{Option, none, some}
 use native.Mathlib.Omega.{arith}
 use lib.ListN.{length, getD}
 use lib.IntN.{ℤ, pos}
+use mir.Syntax.{w16, w64}
+use mir.Val.{Fits}
 use Rattle.rules.specs.Job.{Job, fileCount, pinCount, Lent}
 use Rattle.rules.specs.Move.{choose}
 use Rattle.rules.specs.Pass.{tries}
@@ -18,10 +20,10 @@ use Rattle.split.specs.Moving.{Board, moveOne}
 use Rattle.split.specs.Movable.{Movable}
 use Rattle.split.proofs.Going.{stands, Going}
 use Rattle.split.proofs.Playable.{Playable}
-use Rattle.rules.proofs.Fits.{roomy}
+use Rattle.rules.proofs.Fits.{long-enough}
 use Rattle.split.proofs.Bounds.{BoardLong, board-long, size-few}
 use Rattle.split.proofs.ChoiceNow.{choice-now, holds-now}
-use Rattle.split.proofs.MoveNow.{Turns, move-safe, move-turns, move-goes}
+use Rattle.split.proofs.MoveNow.{MoveFits, move-safe, move-fits, move-goes}
 use Rattle.split.proofs.NextMove.{Next, next-move, no-move}
 
 -- ---- numbers, for where many lists are known
@@ -29,8 +31,18 @@ use Rattle.split.proofs.NextMove.{Next, next-move, no-move}
 pub same-below : {a b n : ℕ} → a ≡ b → b < n → a < n
 same-below e h = omega arith
 
-pub below-less : {a b n : ℕ} → a < b → b < n → a < n
-below-less h k = omega arith
+-- two-byte numbers, and where an entry of a list stands
+pub file-fits : {f n : ℕ} → f < n → n < 65536 → Fits w16 f
+file-fits h k = record { fits = omega arith }
+
+pub count-fits : {a b : ℕ} → a ≡ b → b < 65536 → Fits w16 a
+count-fits e h = record { fits = omega arith }
+
+pub place-fits : {k : ℕ} → k < 65536 → Fits w64 (k * 2)
+place-fits h = record { fits = omega arith }
+
+pub gain-place-fits : {k : ℕ} → k < 65536 → Fits w64 (k * 4)
+gain-place-fits h = record { fits = omega arith }
 
 pub one-less : {k k' n : ℕ} → k < n → k' ≡ suc k → n - k' < n - k
 one-less h e = omega arith
@@ -97,7 +109,7 @@ module _ {job : Job} {l : Lent} {w : Window} {b : Board} (u : Underway job l w b
   sides-stay = under-long .sides ∙ sym (y .sound .sidesLong)
 
   pub gains-stay : length (b .rest .scanned .gains) ≡ length (l .gains)
-  gains-stay = under-long .gains ∙ sym (roomy job l (y .fitting) .gains)
+  gains-stay = under-long .gains ∙ sym (long-enough job l (y .fitting) .gains)
 
   pub choosable : Choosable job w b
   choosable =
@@ -105,7 +117,7 @@ module _ {job : Job} {l : Lent} {w : Window} {b : Board} (u : Underway job l w b
       record {
         sides = m .sides;
         gains = m .gains;
-        locks = omega (arith, roomy job l (y .fitting) .scratch, m .scratch);
+        locks = omega (arith, long-enough job l (y .fitting) .scratch, m .scratch);
         den = omega (arith, y .measured .den, y .measured .small);
         size = omega (arith, g .progress .size, size-few (y .most) job (y .sound) (movesOf b), y .small .weight);
         holds = holds-now g;
@@ -134,8 +146,8 @@ module _ {job : Job} {l : Lent} {w : Window} {b : Board} (u : Underway job l w b
       pub playing-safe : Movable (job .sizes) (job .bounds) (job .pins) f (b .sides) (b .rest)
       playing-safe = move-safe (y .most) job (y .sound) (y .small) (y .fitting) g playing-next
 
-      pub playing-turns : Turns (job .sizes) (job .bounds) (job .pins) f b
-      playing-turns = move-turns (y .most) job (y .sound) (y .small) (y .fitting) g playing-next
+      pub playing-fits : MoveFits (job .sizes) (job .bounds) (job .pins) f b
+      playing-fits = move-fits (y .most) job (y .sound) (y .small) (y .fitting) g playing-next
 
       module _ {b' : Board} (e : b' ≡ moveOne (job .sizes) (job .bounds) (job .pins) f b) where
         goes : Going job l (suc (movesOf b)) b'

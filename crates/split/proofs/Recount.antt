@@ -20,7 +20,7 @@ use Rattle.tables.proofs.Parts.{front-entry, front-part}
 -- ---- the zones of a way
 
 -- the counts of the two sides stand in the first two of four zones of n, those of the locked files in the other two
-pub record Laid (at n : ℕ) (way : Way) : Type 0 where
+pub record FourZones (at n : ℕ) (way : Way) : Type 0 where
   pub first : min (way .there) (way .left) ≡ at
   pub second : max (way .there) (way .left) ≡ at + n
   pub third : min (way .locked) (way .staying) ≡ at + 2 * n
@@ -36,9 +36,9 @@ side-high at n zero h = omega arith
 side-high at n (suc zero) h = omega arith
 side-high at n (suc (suc u)) h = absurd (omega arith)
 
-pub laid : (c n p t : ℕ) → t ≤ 1 → Laid (countsAt c p) n (wayTo c n p t)
+pub four-zones : (c n p t : ℕ) → t ≤ 1 → FourZones (countsAt c p) n (wayTo c n p t)
 unfolding wayTo
-laid c n p t h = record {
+four-zones c n p t h = record {
   first = side-low (countsAt c p) n t h;
   second = side-high (countsAt c p) n t h;
   third = side-low (countsAt c p + 2 * n) n t h;
@@ -126,11 +126,11 @@ pub record Places (at n : ℕ) (way : Way) (j : ℕ) : Type 0 where
   pub apart : (way .left + j ≢ way .there + j) × (way .left + j ≢ way .locked + j) × (way .there + j ≢ way .locked + j)
   pub stays : Elsewhere way j (way .staying + j)
 
-pub places : {at n : ℕ} {way : Way} → Laid at n way → (j : ℕ) → j < n → Places at n way j
+pub places : {at n : ℕ} {way : Way} → FourZones at n way → (j : ℕ) → j < n → Places at n way j
 places l j h = omega arith
 
 -- the counts of another recipe i stand elsewhere
-elsewhere : {at n : ℕ} {way : Way} → Laid at n way → (j i : ℕ) → j < n → i < n → i ≢ j
+elsewhere : {at n : ℕ} {way : Way} → FourZones at n way → (j i : ℕ) → j < n → i < n → i ≢ j
     → Elsewhere way j (at + i) × Elsewhere way j (at + n + i) × Elsewhere way j (at + 2 * n + i) × Elsewhere way j (at + 3 * n + i)
 elsewhere l j i h h' ne = omega arith
 
@@ -173,7 +173,7 @@ pub record Recounted (rs : List (List ℕ)) (st' : State) (at n j : ℕ) (z z' :
   pub others : (st : State) (i : ℕ) → i < n → i ≢ j → CountsOf rs st at n z i → CountsOf rs st at n z' i
   pub beside : Beside at n z z'
 
-others-stay : {rs : List (List ℕ)} {st : State} {at n : ℕ} {way : Way} {z : List ℕ} → Laid at n way → (j i : ℕ) → j < n → i < n → i ≢ j
+others-stay : {rs : List (List ℕ)} {st : State} {at n : ℕ} {way : Way} {z : List ℕ} → FourZones at n way → (j i : ℕ) → j < n → i < n → i ≢ j
     → CountsOf rs st at n z i → CountsOf rs st at n (recount way j z) i
 others-stay {at} {n} {way} {z} l j i h h' ne k =
     let e = elsewhere l j i h h' ne in
@@ -191,7 +191,7 @@ pub recounted : {rs : List (List ℕ)} {st st' : State} {f : ℕ} → Moves st s
 recounted {rs} {st} {f} m c n p z fits j h o k =
     let s = sideOf (st .sides) f in
     let r = getD rs j [] in
-    let l = laid c n p (other s) (omega arith) in
+    let l = four-zones c n p (other s) (omega arith) in
     let q = places l j h in
     let a = counts-seen c n p s (m .binary f) k in
     record {

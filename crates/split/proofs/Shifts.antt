@@ -12,18 +12,12 @@ use mir.Facts.{toZ-ofZ}
 use Rattle.rules.specs.Lists.{diff}
 use Rattle.rules.specs.Move.{reaches, change, raises}
 use Rattle.rules.proofs.Signed.{abs, abs-add}
+use Rattle.rules.proofs.Machine.{abs-fits}
 use Rattle.split.specs.Scanning.{shiftedBy}
-
-mag-abs : (z : ℤ) → mag z ≤ abs z
-mag-abs (pos n) = omega arith
-mag-abs (negsuc n) = omega arith
 
 -- what a call answers is what is read back from it
 pub mag-back : (z : ℤ) → mag z < 2 ^ 31 → toZ w32 (ofZ w32 z) ≡ z
 mag-back z h = toZ-ofZ (record { sfits = h })
-
-pub abs-fits : (z : ℤ) → abs z < 2 ^ 31 → SFits w32 z
-abs-fits z h = record { sfits = omega (arith, mag-abs z) }
 
 pub abs-back : (z : ℤ) → abs z < 2 ^ 31 → toZ w32 (ofZ w32 z) ≡ z
 abs-back z h = toZ-ofZ (abs-fits z h)

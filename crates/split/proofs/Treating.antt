@@ -8,29 +8,24 @@ use native.Mathlib.Omega.{arith}
 use native.Mathlib.Nat.{add-zero, zero-add, suc-add, add-suc}
 use lib.ListN.{length, getD}
 use Rattle.rules.specs.Lists.{allBelow}
-use Rattle.rules.specs.Split.{other, sideOf, onSide, countOn, times, holds}
+use Rattle.rules.specs.Split.{other, sideOf, times, holds}
 use Rattle.rules.specs.Move.{State, moved, Scan, kindsIn, scansOf, scanAll, visits}
 use Rattle.rules.specs.Theorems.{Distinct}
-use Rattle.rules.proofs.Count.{holds-yes, holds-no, count-le}
-use Rattle.rules.proofs.Locked.{locked-le}
+use Rattle.rules.proofs.Count.{holds-yes, holds-no, countOn-le}
+use Rattle.rules.proofs.Locked.{lockedOn-le}
 use Rattle.rules.proofs.OneMove.{Moves, left-count, out-count, out-locked}
 use Rattle.rules.proofs.Steps.{recipesFrom, recipesOf, scansOver, scans-cells}
 use Rattle.split.specs.declared.scan.Way.{Way}
 use Rattle.tables.specs.Zones.{countsAt, CountsOf, Counts}
 use Rattle.split.specs.Scanning.{Treated, treatOne, treatAll, Treatable, Ready, none, next}
 use Rattle.split.specs.Moving.{wayTo}
-use Rattle.split.proofs.Recount.{laid, places, counts-seen, Beside, beside-self, beside-then, Recounted, recounted}
+use Rattle.split.proofs.Recount.{four-zones, places, counts-seen, Beside, beside-self, beside-then, Recounted, recounted}
 use Rattle.split.proofs.ScanKinds.{scanOne, scansBy, scans-then, scans-map, kinds-scanned}
 use Rattle.split.proofs.ScansMade.{scansMade, withScans, Writes, gains-made, progress-made, recipes-made, kinds-made}
 
 -- the way of the move of f
 abbrev pub wayOf : ℕ → ℕ → ℕ → State → ℕ → Way
 wayOf c n p st f = wayTo c n p (other (sideOf (st .sides) f))
-
--- a recipe has no more files on a side than files
-countOn-le : (sides : List ℕ) (u : ℕ) (r : List ℕ) → countOn sides u r ≤ length r
-unfolding countOn
-countOn-le sides u r = count-le (onSide sides u) r
 
 -- ---- the recipes of f, one after the other
 
@@ -153,13 +148,13 @@ module _ (rs : List (List ℕ)) (st : State) (f : ℕ) (m : Moves st (moved st f
         let s = sideOf (st .sides) f in
         let r = getD rs j [] in
         let a = counts-seen c n p s (m .binary f) k in
-        let q = places (laid c n p (other s) (omega arith)) j h in
+        let q = places (four-zones c n p (other s) (omega arith)) j h in
         let l = locks-below c n p (other s) in
         record {
           counts = record {
             some = omega (arith, a .left, left-count m r o);
             there = omega (arith, a .there, countOn-le (st .sides) (other s) r, short j h);
-            locked = omega (arith, a .locked, locked-le st (other s) r, countOn-le (st .sides) (other s) r, short j h);
+            locked = omega (arith, a .locked, lockedOn-le st (other s) r, short j h);
             inside = omega arith;
           };
           above = omega arith;

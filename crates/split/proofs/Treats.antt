@@ -9,7 +9,7 @@ use Rattle.rules.specs.Job.{Job, fileCount, recipeCount, pinCount, views, recip
 use Rattle.rules.specs.Split.{sideOf, cut, sizeOf, sizeA}
 use Rattle.rules.specs.Move.{scans, visits}
 use Rattle.rules.specs.Pass.{startGains}
-use Rattle.rules.proofs.GainKept.{scanned}
+use Rattle.rules.proofs.GainKept.{gainsScanned}
 use Rattle.split.specs.declared.progress.Progress.{Progress}
 use Rattle.tables.specs.Zones.{locksAt, countsAt, part, Cells, Counts}
 use Rattle.split.specs.Scanning.{Treated}
@@ -52,7 +52,7 @@ pub record MoveTreated (job : Job) (l : Lent) (k f : ℕ) (b : Board) (y : Treat
   pub counts : Counts (recipes job) (stands job (suc k)) (countsAt (fileCount job) (pinCount job)) (recipeCount job) (y .scratch)
   pub long : length (y .scratch) ≡ length (b .rest .scratch)
   pub beyond : drop (scratchFor job) (y .scratch) ≡ drop (scratchFor job) (b .rest .scratch)
-  pub gains : y .scanned .gains ≡ scanned (recipes job) (stands job k) f (b .rest .scanned .gains)
+  pub gains : y .scanned .gains ≡ gainsScanned (recipes job) (stands job k) f (b .rest .scanned .gains)
   pub scannedRecipes : y .scanned .recipes ≡ onto (map (λ s. s .recipe) (scans (recipes job) (begins job) (made job (suc k)))) (l .recipes)
   pub scannedKinds : y .scanned .kinds ≡ onto (map (λ s. s .kind) (scans (recipes job) (begins job) (made job (suc k)))) (l .kinds)
   pub progress : Shifted job k f b (y .scanned .progress)

@@ -11,8 +11,8 @@ use Rattle.rules.specs.Move.{State}
 use Rattle.split.specs.declared.scan.Way.{Way}
 use Rattle.split.specs.declared.scan.Kinds.{Kinds}
 use Rattle.tables.specs.Zones.{part, stateOf}
-use Rattle.split.specs.Scanning.{Fits, Scanned, scanIf, Treated, recount, kindsBy, treatOne, treatAll, Treatable, Ready, next}
-use Rattle.split.proofs.Lasting.{Later, later-same, later-then, fits-earlier, Near, later-if, near-if, recount-length, recount-part, later-one, near-one}
+use Rattle.split.specs.Scanning.{Fits, Scanned, scanIf, Treated, recount, kindsNow, treatOne, treatAll, Treatable, Ready, next}
+use Rattle.split.proofs.Lasting.{Later, later-same, later-then, fits-earlier, GainsNear, later-if, near-if, recount-length, recount-part, later-one, near-recipe}
 
 -- the cells from i up to e: the first, and those after it
 part-cons : (i e : ℕ) (z : List ℕ) → i < e → e ≤ length z → part i (e - i) z ≡ getD z i 0 ∷ part (i + 1) (e - (i + 1)) z
@@ -52,10 +52,10 @@ pub record Turn (st : State) (way : Way) (look : ℕ → List ℕ) (a e : ℕ) (
   pub ready : Ready way look (part i (e - i) (y .scratch)) (y .scratch)
   pub rest : treatAll st way look (part i (e - i) (y .scratch)) y ≡ treatAll st way look (part a (e - a) (y₀ .scratch)) y₀
   pub later : Later (y₀ .scanned) (y .scanned)
-  pub near : Near (y .scanned)
+  pub near : GainsNear (y .scanned)
 
 module _ {st : State} {way : Way} {look : ℕ → List ℕ} {a e : ℕ} {y₀ : Treated} where
-  pub turn-first : a ≤ e → part (way .locks) (way .files) (y₀ .scratch) ≡ st .locks → Ready way look (part a (e - a) (y₀ .scratch)) (y₀ .scratch) → Near (y₀ .scanned)
+  pub turn-first : a ≤ e → part (way .locks) (way .files) (y₀ .scratch) ≡ st .locks → Ready way look (part a (e - a) (y₀ .scratch)) (y₀ .scratch) → GainsNear (y₀ .scanned)
       → Turn st way look a e y₀ a y₀
   turn-first h l r n = record {
     high = h;
@@ -110,12 +110,12 @@ module _ {st : State} {way : Way} {look : ℕ → List ℕ} {a e : ℕ} {y₀ : 
           ready = subst (λ (l : List ℕ). Ready way look l (treatOne st way j (look j) y .scratch)) (sym left) (subst (Ready way look js) (sym s) (ready-then ready));
           rest = ap (λ (l : List ℕ). treatAll st way look l (treatOne st way j (look j) y)) left ∙ then;
           later = later-then (t .later) (later-one st way j (look j) z (y .scanned));
-          near = near-one st way j (look j) z (y .scanned) (t .near);
+          near = near-recipe st way j (look j) z (y .scanned) (t .near);
         }
 
     -- ---- the code's steps: the counts changed, then two scans
 
-    module _ {r z' : List ℕ} {k : Kinds} (own : r ≡ look j) (counted : z' ≡ recount way j (y .scratch)) (kinds : k ≡ kindsBy way j (y .scratch)) where
+    module _ {r z' : List ℕ} {k : Kinds} (own : r ≡ look j) (counted : z' ≡ recount way j (y .scratch)) (kinds : k ≡ kindsNow way j (y .scratch)) where
       -- the scans see the locks of the entry, above which the counts lie
       abbrev seen : State
       seen = stateOf (st .sides) (part (way .locks) (way .files) z')
@@ -130,15 +130,15 @@ module _ {st : State} {way : Way} {look : ℕ → List ℕ} {a e : ℕ} {y₀ : 
       abbrev one : Scanned
       one = scan (k .first) (y .scanned)
 
-      both : _≡_ {A = Treated} (record { scratch = z'; scanned = scan (k .second) one }) (treatOne st way j (look j) y)
+      both-made : _≡_ {A = Treated} (record { scratch = z'; scanned = scan (k .second) one }) (treatOne st way j (look j) y)
       unfolding treatOne
-      both = λ n. record {
+      both-made = λ n. record {
         scratch = counted n;
         scanned = scanIf (same n) (way .side) j (own n) (kinds n .second) (scanIf (same n) (way .side) j (own n) (kinds n .first) (y .scanned));
       }
 
       both-fit : Fits (treatAll st way look (part a (e - a) (y₀ .scratch)) y₀ .scanned) → Fits (scan (k .second) one)
-      both-fit f = subst (λ (x : Treated). Fits (x .scanned)) (sym both) (turn-fits f)
+      both-fit f = subst (λ (x : Treated). Fits (x .scanned)) (sym both-made) (turn-fits f)
 
       -- what the scans ask
       pub own-below : allBelow (way .files) r
@@ -151,8 +151,8 @@ module _ {st : State} {way : Way} {look : ℕ → List ℕ} {a e : ℕ} {y₀ : 
       first-fits f = fits-earlier (later-if seen (way .side) j r (k .second) one) (both-fit f)
 
       module _ {x : Scanned} (first : x ≡ one) where
-        pub second-near : Near x
-        second-near = subst (λ (u : Scanned). Near u) (sym first) (near-if seen (way .side) j r (k .first) (y .scanned) (t .near))
+        pub second-near : GainsNear x
+        second-near = subst (λ (u : Scanned). GainsNear u) (sym first) (near-if seen (way .side) j r (k .first) (y .scanned) (t .near))
 
         pub second-fits : Fits (treatAll st way look (part a (e - a) (y₀ .scratch)) y₀ .scanned) → Fits (scan (k .second) x)
         second-fits f = subst (λ (u : Scanned). Fits (scan (k .second) u)) (sym first) (both-fit f)
@@ -160,4 +160,4 @@ module _ {st : State} {way : Way} {look : ℕ → List ℕ} {a e : ℕ} {y₀ : 
         pub turn-more : {x' : Scanned} → x' ≡ scan (k .second) x → Turn st way look a e y₀ (i + 1) (record { scratch = z'; scanned = x' })
         turn-more q =
             subst (Turn st way look a e y₀ (i + 1))
-            (sym (ap (λ (u : Scanned). record { scratch = z'; scanned = u }) (q ∙ ap (scan (k .second)) first) ∙ both)) treated-one
+            (sym (ap (λ (u : Scanned). record { scratch = z'; scanned = u }) (q ∙ ap (scan (k .second)) first) ∙ both-made)) treated-one

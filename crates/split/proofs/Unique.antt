@@ -3,7 +3,7 @@
 use contract.Lifetimes.{Lfts}
 use denote.Ref.{now}
 use denote.Triple.Clauses.{AtExit}
-use borrow.Fn.Kinds.{resT, endedOf}
+use borrow.Fn.Kinds.{endedOf}
 use Rattle.rules.proofs.Settling.{Settles, both}
 use Rattle.rules.specs.declared.Figures.{Figures}
 use Rattle.rules.specs.Job.{lentOf}
@@ -13,9 +13,9 @@ use Rattle.split.proofs.pass_once.Reads as pass
 use Rattle.split.proofs.lent.refused.Kinds as refused-kinds
 use Rattle.split.proofs.lent.refused.Reads as refused
 
--- the answer, the sides and the other lent lists
-abbrev pass-leaves : (κs : Lfts 13) → resT pass-kinds.r κs .Denot → AtExit (endedOf 13 pass-kinds.ps pass-kinds.r) κs → Ended Figures
-pass-leaves κs x e = record {
+-- the answer, the sides and the other lent lists; a run is lent the same
+abbrev pub leaves : {A : Type 0} (κs : Lfts 13) → A → AtExit (endedOf 13 pass-kinds.ps pass-kinds.r) κs → Ended A
+leaves κs x e = record {
   answer = x;
   sides = now (e .1 .1 .0);
   lent =
@@ -23,7 +23,7 @@ pass-leaves κs x e = record {
       (now (e .1 .1 .1 .1 .1 .1 .1 .1 .1 .1 .1 .0)) (now (e .1 .1 .1 .1 .1 .1 .1 .1 .1 .1 .1 .1 .0)) (now (e .1 .1 .1 .1 .1 .1 .1 .1 .1 .1 .1 .1 .1 .0));
 }
 
-pub pass-settled : Settles 13 pass-kinds.ps pass-kinds.r (Ended Figures) pass-leaves pass.Post
+pub pass-settled : Settles 13 pass-kinds.ps pass-kinds.r (Ended Figures) leaves pass.Post
 pass-settled κs a x y e f p q = both p q
 
 pub refused-settled : Settles 0 refused-kinds.ps refused-kinds.r Figures (λ κs x e. x) refused.Post

@@ -9,7 +9,7 @@ use Rattle.rules.specs.Split.{sideOf}
 use Rattle.rules.proofs.Signed.{up, down}
 use Rattle.split.specs.declared.progress.Progress.{Progress}
 use Rattle.tables.specs.Zones.{startAt, endAt, locksAt, countsAt}
-use Rattle.split.specs.Scanning.{Treated, Room, Fits, Ready}
+use Rattle.split.specs.Scanning.{Treated, NearVisits, Fits, Ready}
 use Rattle.tables.specs.Ending.{turned}
 use Rattle.split.specs.Moving.{cellsOf, wayTo, treatFrom}
 
@@ -34,7 +34,7 @@ pub record Movable (sizes bounds pins : List ℕ) (f : ℕ) (sides : List ℕ) (
   pub ready :
       Ready (wayTo (length sizes) (length bounds - 1) (length pins) (sideOf (turned sides f) f)) (viewOf bounds pins)
       (cellsOf (length sizes) (length pins) (y .scratch) f) (set (y .scratch) (locksAt (length sizes) (length pins) + f) 1)
-  pub room : Room (y .scanned .gains) (y .scanned .progress .visits)
+  pub room : NearVisits (y .scanned .gains) (y .scanned .progress .visits)
   pub fits : Fits (treatFrom sizes bounds pins f sides y .scanned)
   -- |A| and the cut after it
   pub shift : Shiftable sizes sides (y .scanned .gains) f (y .scanned .progress)

@@ -1,14 +1,12 @@
 -- One pass whole, and the figures told at its end. Assumes nothing.
-use mathlib.Core.Path.{_≡_}
-use Prim.Native.Nat.{ℕ, _-_}
-use mathlib.Core.List.{List, [], _∷_}
+use Prim.Native.Nat.{ℕ}
+use mathlib.Core.List.{[], _∷_}
 use Rattle.rules.specs.declared.Figures.{Figures}
 use Rattle.rules.specs.Job.{Job, Lent}
 use Rattle.rules.specs.Check.{done}
 use Rattle.rules.specs.Pass.{pass}
 use Rattle.rules.specs.Run.{Ended, figuresOf, leftBy}
 use Rattle.split.specs.declared.progress.Progress.{Progress}
-use Rattle.tables.specs.Ending.{backTo}
 
 -- one pass of a job that is not refused: its figures, and what it leaves
 abbrev pub passLeft : Job → Lent → Ended Figures
@@ -26,8 +24,3 @@ figuresFrom before q = record {
   scans = q .scans;
   visits = q .visits;
 }
-
--- the moves beyond the best prefix are taken back, and the figures told
-pub record KeptBest (tried : List ℕ) (before : ℕ) (p : Progress) (sides sides' : List ℕ) (r : Figures) : Type 0 where
-  pub back : sides' ≡ backTo tried (p .best) (p .moves - p .best) sides
-  pub told : r ≡ figuresFrom before p

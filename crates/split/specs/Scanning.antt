@@ -49,7 +49,7 @@ scanIf st t j r kind x =
     (scannedBy (x .progress) (length r)))
 
 -- the gains are within the visits made and some more, so a scan's changes fit
-pub record Room (gains : List ℤ) (visits : ℕ) : Type 0 where
+pub record NearVisits (gains : List ℤ) (visits : ℕ) : Type 0 where
   pub near : (f : ℕ) → abs (getD gains f (pos 0)) ≤ visits + 65536
 
 -- each gain can change n times by one, and still fits
@@ -102,8 +102,8 @@ recount way j z =
     set (set (set z (way .left + j) (countF way j z)) (way .there + j) (countT way j z + 1)) (way .locked + j) (lockedT way j z + 1)
 
 -- the kinds of its scans
-abbrev pub kindsBy : Way → ℕ → List ℕ → Kinds
-kindsBy way j z = record { first = kindThere (countT way j z) (lockedT way j z); second = kindLeft (countF way j z) (lockedF way j z) }
+abbrev pub kindsNow : Way → ℕ → List ℕ → Kinds
+kindsNow way j z = record { first = kindThere (countT way j z) (lockedT way j z); second = kindLeft (countF way j z) (lockedF way j z) }
 
 -- r the files of recipe j
 unfoldable pub treatOne : State → Way → ℕ → List ℕ → Treated → Treated

@@ -9,21 +9,21 @@ ghost use Rattle.split.specs.Choosing.{sizeBy, Holds};
 ghost use Rattle.split.specs.Best.{noLess, goesFirst, challenged, bestIn, isRival, NextRival};
 
 // The balance window: den, and num·W and den·smax, within which den·|A| must stay.
-pub struct Window {
+pub(crate) struct Window {
     pub den: u64,
     pub aim: u64,
     pub span: u64,
 }
 
 // The best legal move so far: none where the file is the number of files.
-pub struct Best {
+pub(crate) struct Best {
     pub file: usize,
     pub gain: i32,
     pub dist: u64,
 }
 
 // |A| after the move of a file of this size from this side.
-pub fn size_after(size: u64, side: u16, own: u16) -> u64
+pub(crate) fn size_after(size: u64, side: u16, own: u16) -> u64
     requires { ⌜ (size < 2 ^ 40) × (side ≡ 0 → own ≤ size) ⌝ }
     ensures { λ r. ⌜ r ≡ sizeBy size side own ⌝ }
 {
@@ -100,7 +100,7 @@ fn challenge(window: Window, best: Best, f: usize, gain: i32, after: u64, none: 
 }
 
 // The best legal move, none where no move is legal; the locks of the files stand in the scratch, after the cells of this many pins.
-pub fn choose(
+pub(crate) fn choose(
     window: Window,
     size: u64,
     sizes: &[u16],

@@ -1,17 +1,17 @@
-// Once the moves have ended: moves beyond the best prefix are taken back, and the figures are told.
+// Once the moves have ended: the figures, and how far the lists end in zeros.
 ghost use mathlib.Core.Path.{_≡_};
-ghost use Prim.Native.Nat.{_+_, _*_, _<_};
-ghost use Rattle.split.specs.Playing.{KeptBest};
+ghost use Prim.Native.Nat.{_+_, _-_, _*_, _<_};
+ghost use lib.ListN.{length};
+ghost use Rattle.split.specs.Playing.{figuresFrom};
 use super::progress::Progress;
+use job::recipe_count;
 use rules::Figures;
 use rules::Verdict;
-use tables::take_back;
 
-// Moves beyond the best prefix are taken back; the figures of the pass, from its record.
-pub(crate) fn keep_best(sides: &mut [u16], tried: &[u16], before: usize, p: Progress) -> Figures
-    ensures { λ r. ⌜ KeptBest (now (tried .entry)) before p (now (sides .entry)) (now (sides .exit)) r ⌝ }
+// The figures of the pass, from its record.
+pub(crate) fn figures_of(before: usize, p: Progress) -> Figures
+    ensures { λ r. ⌜ r ≡ figuresFrom before p ⌝ }
 {
-    take_back(sides, tried, p.best, p.moves);
     let verdict = Verdict {
         number: 0,
         place: 0,
@@ -29,18 +29,18 @@ pub(crate) fn keep_best(sides: &mut [u16], tried: &[u16], before: usize, p: Prog
 }
 
 // Where the scan lists and the scratch end in zeros: 4N, and P + 4C + 4N + 16.
-pub(crate) struct Room {
+pub(crate) struct Needed {
     pub(crate) scans: usize,
     pub(crate) numbers: usize,
 }
 
-pub(crate) fn room_of(c: usize, n: usize, p: usize) -> Room
-    requires { ⌜ (c < 65536) × (n < 65536) × (p < 65536) ⌝ }
-    ensures { λ r. ⌜ (r .scans ≡ 4 * n) × (r .numbers ≡ p + 4 * c + 4 * n + 16) ⌝ }
+pub(crate) fn needed_for(c: usize, bounds: &[u16], pins: &[u16]) -> Needed
+    requires { ⌜ (c < 65536) × (length (now bounds) < 65536) × (length (now pins) < 65536) ⌝ }
+    ensures { λ r. ⌜ (r .scans ≡ 4 * (length (now (bounds .entry)) - 1)) × (r .numbers ≡ length (now (pins .entry)) + 4 * c + 4 * (length (now (bounds .entry)) - 1) + 16) ⌝ }
 {
-    let scans = 4 * n;
-    Room {
+    let scans = 4 * recipe_count(bounds);
+    Needed {
         scans,
-        numbers: p + 4 * c + scans + 16,
+        numbers: pins.len() + 4 * c + scans + 16,
     }
 }

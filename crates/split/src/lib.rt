@@ -7,14 +7,11 @@ mod progress;
 mod scan;
 
 use choice::choose;
-use ending::keep_best;
-use ending::room_of;
+use ending::figures_of;
+use ending::needed_for;
 use job::Job;
-use job::recipe_count;
 pub use lent::refused;
 use lent::window_of;
-use moves::note_choice;
-use moves::note_end;
 use moves::treat_move;
 use progress::Progress;
 use rules::Figures;
@@ -62,9 +59,8 @@ pub fn pass_once(
         recipes.len(),
         kinds.len(),
     );
-    let v = s.verdict;
-    if v.number != 0 {
-        return refused(v);
+    if s.verdict.number != 0 {
+        return refused(s.verdict);
     }
     let window = window_of(job.num, job.den, s.weight, s.largest);
     let c = sizes.len();
@@ -73,15 +69,23 @@ pub fn pass_once(
         let chosen = choose(window, p.size, sizes, sides, scratch, gains, pins.len());
         let f = chosen.file;
         if c <= f {
-            let figures = keep_best(sides, tried, s.cut, p);
-            end_moves(tried, gained, cuts, ends, p.moves, c);
-            let room = room_of(c, recipe_count(bounds), pins.len());
-            end_scans(recipes, kinds, scratch, p.scans, room.scans, room.numbers);
-            return figures;
+            end_moves(sides, tried, gained, cuts, ends, p.best, p.moves, c);
+            let needed = needed_for(c, bounds, pins);
+            end_scans(
+                recipes,
+                kinds,
+                scratch,
+                p.scans,
+                needed.scans,
+                needed.numbers,
+            );
+            return figures_of(s.cut, p);
         }
         let at = p.moves;
-        note_choice(tried, gained, at, chosen);
-        let q = treat_move(
+        tried[at] = f as u16;
+        let gain = chosen.gain;
+        gained[at] = gain;
+        p = treat_move(
             sizes,
             sides,
             bounds,
@@ -93,6 +97,8 @@ pub fn pass_once(
             f,
             p,
         );
-        p = note_end(cuts, ends, at, q);
+        cuts[at] = p.cut as u16;
+        ends[at] = p.scans as u16;
+        p = p.counted();
     }
 }

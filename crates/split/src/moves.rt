@@ -1,14 +1,13 @@
-// A move: its file is turned over, locked and its recipes treated, and it has an entry in each of the four move lists.
+// A move: its file is turned over, locked and its recipes treated.
 ghost use mathlib.Core.Path.{_≡_};
 ghost use Prim.Native.Nat.{_+_, _≤_, _<_, _^_};
-ghost use lib.ListN.{length, set};
+ghost use lib.ListN.{length};
 ghost use Rattle.rules.proofs.Signed.{up, down};
 ghost use Rattle.tables.specs.Zones.{countsAt};
 ghost use Rattle.split.specs.Scanning.{treated};
 ghost use Rattle.tables.specs.Ending.{turned};
-ghost use Rattle.split.specs.Moving.{cutBy, wayTo, countedOn, Locked, shiftOf, treatFrom};
+ghost use Rattle.split.specs.Moving.{cutBy, wayTo, Locked, shiftOf, treatFrom};
 ghost use Rattle.split.specs.Movable.{Shiftable, Movable};
-use super::choice::Best;
 use super::choice::size_after;
 use super::progress::Progress;
 use super::scan::Way;
@@ -116,24 +115,4 @@ pub(crate) fn treat_move(
         way,
         q,
     )
-}
-
-// The move's file and its gain when chosen.
-pub(crate) fn note_choice(tried: &mut [u16], gained: &mut [i32], at: usize, chosen: Best)
-    requires { ⌜ (at < length (now tried)) × (at < length (now gained)) × (chosen .file < 65536) ⌝ }
-    ensures { λ _. ⌜ (now (tried .exit) ≡ set (now (tried .entry)) at (chosen .file)) × (now (gained .exit) ≡ set (now (gained .entry)) at (chosen .gain)) ⌝ }
-{
-    tried[at] = chosen.file as u16;
-    let gain = chosen.gain;
-    gained[at] = gain;
-}
-
-// The cut after the move and the scans listed so far; one move more.
-pub(crate) fn note_end(cuts: &mut [u16], ends: &mut [u16], at: usize, p: Progress) -> Progress
-    requires { ⌜ (at < length (now cuts)) × (at < length (now ends)) × (p .cut < 65536) × (p .scans < 65536) × (p .moves < 2 ^ 32) ⌝ }
-    ensures { λ r. ⌜ (now (cuts .exit) ≡ set (now (cuts .entry)) at (p .cut)) × (now (ends .exit) ≡ set (now (ends .entry)) at (p .scans)) × (r ≡ countedOn p) ⌝ }
-{
-    cuts[at] = p.cut as u16;
-    ends[at] = p.scans as u16;
-    p.counted()
 }

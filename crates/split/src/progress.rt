@@ -5,7 +5,7 @@ ghost use Prim.Native.Nat.{_+_, _<_, _^_};
 ghost use Rattle.split.specs.Scanning.{scannedBy};
 ghost use Rattle.split.specs.Moving.{begun, shiftedTo, countedOn};
 
-pub struct Progress {
+pub(crate) struct Progress {
     pub size: u64,
     pub cut: usize,
     pub moves: usize,

@@ -7,13 +7,13 @@ ghost use Rattle.rules.specs.Job.{viewOf};
 ghost use Rattle.rules.specs.Move.{scanPins};
 ghost use Rattle.rules.proofs.Signed.{abs};
 ghost use Rattle.tables.specs.Zones.{part, stateOf};
-ghost use Rattle.split.specs.Scanning.{shiftedBy, RoomFor, Room, Fits, scanned, scanIf, kindThere, kindLeft, kindsBy, recount, treated, treatAll, Countable, Ready};
+ghost use Rattle.split.specs.Scanning.{shiftedBy, RoomFor, NearVisits, Fits, scanned, scanIf, kindThere, kindLeft, kindsNow, recount, treated, treatAll, Countable, Ready};
 use super::progress::Progress;
 use job::wide;
 
 // The way of a move: the side moved to, and where the locks and the counts of recipe 0 stand in the scratch:
 // its files on the side moved to and on the side left, and the locked ones of each.
-pub struct Way {
+pub(crate) struct Way {
     pub side: u16,
     pub files: usize,
     pub locks: usize,
@@ -24,7 +24,7 @@ pub struct Way {
 }
 
 // The kinds of a recipe's scans at a move: 1 or 2, and 3 or 4; 0 is none.
-pub struct Kinds {
+pub(crate) struct Kinds {
     pub first: u16,
     pub second: u16,
 }
@@ -82,7 +82,7 @@ fn scan_if(
     requires { ⌜ way .side ≤ 1 ⌝ }
     requires { ⌜ allBelow (way .files) (now pins) ⌝ }
     requires { ⌜ (length (now gains) ≡ way .files) × (length (now sides) ≡ way .files) × (way .locks + way .files ≤ length (now scratch)) ⌝ }
-    requires { ⌜ Room (now gains) (p .visits) ⌝ }
+    requires { ⌜ NearVisits (now gains) (p .visits) ⌝ }
     requires { ⌜ Fits (scanIf (stateOf (now sides) (part (way .locks) (way .files) (now scratch))) (way .side) j (now pins) kind (scanned (now gains) (now recipes) (now kinds) p)) ⌝ }
     ensures { λ r. ⌜ scanned (now (gains .exit)) (now (recipes .exit)) (now (kinds .exit)) r ≡ scanIf (stateOf (now (sides .entry)) (part (way .locks) (way .files) (now (scratch .entry)))) (way .side) j (now (pins .entry)) kind (scanned (now (gains .entry)) (now (recipes .entry)) (now (kinds .entry)) p) ⌝ }
 {
@@ -131,7 +131,7 @@ fn kind_left(f: u16, held: u16) -> u16
 // The kinds of recipe j's scans by its counts; then the moved file leaves one side and joins the other, locked.
 fn recount_one(scratch: &mut [u16], j: u16, way: Way) -> Kinds
     requires { ⌜ Countable way (now scratch) j ⌝ }
-    ensures { λ r. ⌜ (r ≡ kindsBy way j (now (scratch .entry))) × (now (scratch .exit) ≡ recount way j (now (scratch .entry))) ⌝ }
+    ensures { λ r. ⌜ (r ≡ kindsNow way j (now (scratch .entry))) × (now (scratch .exit) ≡ recount way j (now (scratch .entry))) ⌝ }
 {
     let k = j as usize;
     let left = way.left + k;
@@ -150,7 +150,7 @@ fn recount_one(scratch: &mut [u16], j: u16, way: Way) -> Kinds
 }
 
 // The recipes in the cells from a up to e, one after the other: the counts of each, then its scans, kinds 1 or 2 before 3 or 4.
-pub fn treat_all(
+pub(crate) fn treat_all(
     gains: &mut [i32],
     recipes: &mut [u16],
     kinds: &mut [u16],
@@ -166,7 +166,7 @@ pub fn treat_all(
     requires { ⌜ (way .side ≤ 1) × (a ≤ e) × (e ≤ way .locks) ⌝ }
     requires { ⌜ (length (now gains) ≡ way .files) × (length (now sides) ≡ way .files) × (way .locks + way .files ≤ length (now scratch)) ⌝ }
     requires { ⌜ Ready way (viewOf (now bounds) (now pins)) (part a (e - a) (now scratch)) (now scratch) ⌝ }
-    requires { ⌜ Room (now gains) (p .visits) ⌝ }
+    requires { ⌜ NearVisits (now gains) (p .visits) ⌝ }
     requires { ⌜ Fits (treatAll (stateOf (now sides) (part (way .locks) (way .files) (now scratch))) way (viewOf (now bounds) (now pins)) (part a (e - a) (now scratch)) (treated (now scratch) (now gains) (now recipes) (now kinds) p) .scanned) ⌝ }
     ensures { λ r. ⌜ treated (now (scratch .exit)) (now (gains .exit)) (now (recipes .exit)) (now (kinds .exit)) r ≡ treatAll (stateOf (now (sides .entry)) (part (way .locks) (way .files) (now (scratch .entry)))) way (viewOf (now (bounds .entry)) (now (pins .entry))) (part a (e - a) (now (scratch .entry))) (treated (now (scratch .entry)) (now (gains .entry)) (now (recipes .entry)) (now (kinds .entry)) p) ⌝ }
 {

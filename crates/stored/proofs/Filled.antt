@@ -5,16 +5,17 @@ use native.Mathlib.Decide.{ℕ-discrete, decLt}
 use native.Mathlib.Nat.{add-zero, mul-one, mul-add, mul-add-div, div-eq-of-lt, mul-add-mod-self-left, mod-eq-of-lt}
 use native.Mathlib.Omega.{arith}
 use mathlib.Core.List.{List, map}
-use lib.ListN.{length, take, set, length-set}
-use lib.Seq.{getD-set-same, getD-set-other, ext-getD, getD-take, length-take-le}
-use Rattle.rules.specs.Lists.{upTo}
+use lib.ListN.{length, set, length-set}
+use lib.Seq.{getD-set-same, getD-set-other, ext-getD}
+use Rattle.rules.specs.Lists.{upTo, onto}
 use Rattle.rules.proofs.Count.{getD-tabled, length-tabled}
+use Rattle.rules.proofs.Entries.{onto-length, onto-in, onto-stays}
 use Rattle.stored.specs.Steps.{Put, Taken, heldIn}
 
 -- ---- one block's values
 
 pub put-none : (f : ℕ → ℕ) (a : ℕ) (xs : List ℕ) → Put f a 0 xs xs
-put-none f a xs = record { long = refl; put = λ v h. absurd (omega arith); before = λ i h. refl }
+put-none f a xs = record { long = refl; put = λ v h. absurd (omega arith); before = λ i h. refl; after = λ i h. refl }
 
 pub put-more : {f : ℕ → ℕ} {a n : ℕ} {old new : List ℕ} (x : ℕ) → Put f a n old new → a + n < length new → x ≡ f n → Put f a (n + 1) old (set new (a + n) x)
 put-more {f} {a} {n} {old} {new} x p h e = record {
@@ -24,15 +25,16 @@ put-more {f} {a} {n} {old} {new} x p h e = record {
     | no z ↦ getD-set-other new (a + n) (a + v) x 0 (λ q. z (omega arith)) ∙ p .put v (omega arith)
   ];
   before = λ i l. getD-set-other new (a + n) i x 0 (λ q. omega arith) ∙ p .before i l;
+  after = λ i l. getD-set-other new (a + n) i x 0 (λ q. omega arith) ∙ p .after i (omega arith);
 }
 
 -- ---- the blocks of a kind
 
 pub taken-none : (g : ℕ → ℕ) (xs : List ℕ) → Taken g 0 xs xs
-taken-none g xs = record { long = refl; taken = λ i h. absurd (omega arith) }
+taken-none g xs = record { long = refl; taken = λ i h. absurd (omega arith); after = λ i h. refl }
 
 -- n entries more, those of g from a on
-pub taken-more : {f g : ℕ → ℕ} {a n m : ℕ} {old mid new : List ℕ} → Taken g a old mid → Put f a n mid new → m ≤ a + n → ((v : ℕ) → v < n → f v ≡ g (a + v)) → Taken g m old new
+pub taken-more : {f g : ℕ → ℕ} {a n m : ℕ} {old mid new : List ℕ} → Taken g a old mid → Put f a n mid new → m ≡ a + n → ((v : ℕ) → v < n → f v ≡ g (a + v)) → Taken g m old new
 taken-more {f} {g} {a} {n} {m} {old} {mid} {new} t p h e = record {
   long = p .long ∙ t .long;
   taken = λ i l. elim (decLt i a) [
@@ -42,6 +44,7 @@ taken-more {f} {g} {a} {n} {m} {old} {mid} {new} t p h e = record {
         let w : a + v ≡ i = omega arith in
         rw (← w) (p .put v (omega arith) ∙ e v (omega arith))
   ];
+  after = λ i l. p .after i (omega arith) ∙ t .after i (omega arith);
 }
 
 -- entry v of block k of a kind, m to a block
@@ -59,9 +62,13 @@ taken-block {f} {g} {n} m k x h e t p s =
     let w : min (m * k) x ≡ m * k = omega arith in
     taken-more (rw w at t) p (rw q (omega arith)) (λ v l. s v (omega arith))
 
--- the entries taken are the list that is given by its entries
-pub taken-all : {g : ℕ → ℕ} {n : ℕ} {old new : List ℕ} → Taken g n old new → n ≤ length old → take n new ≡ map g (upTo n)
+-- the entries taken are written over the first
+pub taken-all : {g : ℕ → ℕ} {n : ℕ} {old new : List ℕ} → Taken g n old new → n ≤ length old → new ≡ onto (map g (upTo n)) old
 taken-all {g} {n} {old} {new} t h =
-    let l : length (take n new) ≡ n = length-take-le n new (omega (arith, t .long)) in
-    ext-getD 0 (take n new) (map g (upTo n)) (l ∙ sym (length-tabled g n))
-    (λ i k. getD-take n new i 0 (omega arith) ∙ t .taken i (omega arith) ∙ sym (getD-tabled g n i 0 (omega arith)))
+    let xs : List ℕ = map g (upTo n) in
+    let l : length xs ≡ n = length-tabled g n in
+    ext-getD 0 new (onto xs old) (t .long ∙ sym (onto-length 0 xs old (omega arith)))
+    (λ i k. elim (decLt i n) [
+      | yes q ↦ t .taken i q ∙ sym (onto-in 0 xs old i (omega arith) ∙ getD-tabled g n i 0 q)
+      | no q ↦ t .after i (omega arith) ∙ sym (onto-stays 0 xs old i (omega arith))
+    ])

@@ -4,18 +4,17 @@ ghost use Prim.Native.Nat.{_+_, _*_, _<_, _≤_};
 ghost use lib.ListN.{length};
 ghost use Rattle.rules.specs.Lists.{someBelow};
 ghost use Rattle.rules.specs.Stored.{blockAt, blockCheck, headerOf, word, valueIn, laidOut};
-ghost use Rattle.stored.specs.Steps.{leftOver, badSecond, verdictOf, headerIn};
+ghost use Rattle.stored.specs.Steps.{leftOver, badSecond, headerIn};
 use rules::Header;
-use rules::Verdict;
 
-fn wide(x: u8) -> usize
+fn byte(x: u8) -> usize
     ensures { λ r. ⌜ (r ≡ x) × (r < 256) ⌝ }
 {
     x as usize
 }
 
 // Block b of the bytes.
-pub fn block_at(bytes: &[u8], b: usize) -> [u8; 512]
+pub(crate) fn block_at(bytes: &[u8], b: usize) -> [u8; 512]
     requires { ⌜ 512 * b + 512 ≤ length (now bytes) ⌝ }
     ensures { λ r. ⌜ r ≡ blockAt (now (bytes .entry)) b ⌝ }
 {
@@ -30,29 +29,29 @@ pub fn block_at(bytes: &[u8], b: usize) -> [u8; 512]
 }
 
 // The check over the first 510 bytes.
-fn check_of(block: &[u8; 512]) -> u16
+pub(crate) fn check_of(block: &[u8; 512]) -> u16
     ensures { λ r. ⌜ r ≡ blockCheck (now (block .entry)) ⌝ }
 {
     let mut sum: usize = 21845;
     let mut i: usize = 0;
     while i < 510 {
-        sum += (i + 1) * wide(block[i]);
+        sum += (i + 1) * byte(block[i]);
         i += 1;
     }
     (sum % 65536) as u16
 }
 
 // Two bytes, low byte first.
-fn word_at(block: &[u8; 512], i: usize) -> u16
+pub(crate) fn word_at(block: &[u8; 512], i: usize) -> u16
     requires { ⌜ i < 511 ⌝ }
     ensures { λ r. ⌜ r ≡ word (now (block .entry)) i ⌝ }
 {
-    let low = wide(block[i]);
-    let high = wide(block[i + 1]);
+    let low = byte(block[i]);
+    let high = byte(block[i + 1]);
     (low + 256 * high) as u16
 }
 
-pub fn value_in(block: &[u8; 512], v: usize) -> u16
+pub(crate) fn value_in(block: &[u8; 512], v: usize) -> u16
     requires { ⌜ v < 253 ⌝ }
     ensures { λ r. ⌜ r ≡ valueIn (now (block .entry)) v ⌝ }
 {
@@ -73,23 +72,13 @@ fn has_left_over(block: &[u8; 512], n: usize) -> bool
     false
 }
 
-fn is_bad_second(block: &[u8; 512], n: usize, f: usize) -> bool
-    requires { ⌜ f < 126 ⌝ }
-    ensures { λ r. ⌜ r ≡ badSecond (now (block .entry)) n f ⌝ }
-{
-    if n <= 2 * f {
-        return false;
-    }
-    3 < value_in(block, 2 * f + 1)
-}
-
 // Whether a file of a block of n values has a second value over 3.
 fn has_bad_second(block: &[u8; 512], n: usize) -> bool
     ensures { λ r. ⌜ r ≡ someBelow (badSecond (now (block .entry)) n) 126 ⌝ }
 {
     let mut f: usize = 0;
     while f < 126 {
-        if is_bad_second(block, n, f) {
+        if (2 * f < n) & (3 < value_in(block, 2 * f + 1)) {
             return true;
         }
         f += 1;
@@ -97,51 +86,19 @@ fn has_bad_second(block: &[u8; 512], n: usize) -> bool
     false
 }
 
-fn is_laid_out(block: &[u8; 512], b: usize, kind: u8, n: usize) -> bool
+pub(crate) fn is_laid_out(block: &[u8; 512], b: usize, kind: u8, n: usize) -> bool
     ensures { λ r. ⌜ r ≡ laidOut (now (block .entry)) b kind n ⌝ }
 {
-    if word_at(block, 0) as usize != b {
-        return false;
-    }
-    if block[2] != kind {
-        return false;
-    }
-    if wide(block[3]) != n {
-        return false;
-    }
-    if has_left_over(block, n) {
-        return false;
-    }
-    if kind == 2 {
-        return !has_bad_second(block, n);
-    }
-    true
-}
-
-// 21 or 22, if the block is not block b of its kind and its n values.
-pub fn block_verdict(block: &[u8; 512], b: usize, kind: u8, n: usize) -> Verdict
-    ensures { λ r. ⌜ r ≡ verdictOf (now (block .entry)) b kind n ⌝ }
-{
-    if word_at(block, 510) != check_of(block) {
-        return Verdict {
-            number: 21,
-            place: b,
-        };
-    }
-    if is_laid_out(block, b, kind, n) {
-        return Verdict {
-            number: 0,
-            place: 0,
-        };
-    }
-    Verdict {
-        number: 22,
-        place: b,
-    }
+    let named = word_at(block, 0) as usize == b;
+    let of_kind = block[2] == kind;
+    let counted = byte(block[3]) == n;
+    let over = has_left_over(block, n);
+    let bad = (kind == 2) & has_bad_second(block, n);
+    named & of_kind & counted & !over & !bad
 }
 
 // The six values of block 0.
-pub fn header_of(bytes: &[u8]) -> Header
+pub(crate) fn header_of(bytes: &[u8]) -> Header
     requires { ⌜ 512 ≤ length (now bytes) ⌝ }
     ensures { λ r. ⌜ r ≡ headerOf (now (bytes .entry)) ⌝ }
 {

@@ -1,11 +1,10 @@
-// Blocks taken apart into lists, and lists copied out.
+// Blocks taken apart into lists.
 ghost use mathlib.Core.Path.{_≡_};
-ghost use Prim.Native.Nat.{_+_, _*_, _/_, _%_, _<_, _≤_};
+ghost use Prim.Native.Nat.{_+_, _*_, _/_, _%_, _≤_};
 ghost use lib.ListN.{length};
-ghost use Rattle.rules.specs.Lists.{onto};
-ghost use Rattle.rules.specs.Stored.{valueIn, blocksFor, blockCount};
+ghost use Rattle.rules.specs.Stored.{valueIn, blocksFor, jobOf, written};
 ghost use Rattle.stored.specs.Room.{roomOf};
-ghost use Rattle.stored.specs.Steps.{Put, Taken, Roomy, JobTaken, valueAt, sizeAt, sideAt, markAt};
+ghost use Rattle.stored.specs.Steps.{Put, Taken, Writable, storedValue, storedSize, storedSide, storedMark};
 use crate::block::block_at;
 use crate::block::value_in;
 use crate::places::blocks_for;
@@ -51,9 +50,9 @@ fn put_files(
 }
 
 // The entries of a kind of x values, from block first on.
-pub fn take_values(bytes: &[u8], first: usize, x: usize, into: &mut [u16])
-    requires { ⌜ (x ≤ 65536) × (x ≤ length (now into)) × (512 * (first + blocksFor 253 x) ≤ length (now bytes)) ⌝ }
-    ensures { λ _. ⌜ Taken (valueAt (now (bytes .entry)) first) x (now (into .entry)) (now (into .exit)) ⌝ }
+fn take_values(bytes: &[u8], first: usize, x: usize, into: &mut [u16])
+    requires { ⌜ (x ≤ length (now into)) × (x ≤ 65536) × (512 * (first + blocksFor 253 x) ≤ length (now bytes)) ⌝ }
+    ensures { λ _. ⌜ Taken (storedValue (now (bytes .entry)) first) x (now (into .entry)) (now (into .exit)) ⌝ }
 {
     let blocks = blocks_for(253, x);
     let mut k: usize = 0;
@@ -65,12 +64,12 @@ pub fn take_values(bytes: &[u8], first: usize, x: usize, into: &mut [u16])
 }
 
 // The entries of c files, from block 1 on.
-pub fn take_files(bytes: &[u8], c: usize, sizes: &mut [u16], sides: &mut [u16], marks: &mut [u16])
+fn take_files(bytes: &[u8], c: usize, sizes: &mut [u16], sides: &mut [u16], marks: &mut [u16])
     requires { ⌜ (c ≤ 65536) × (c ≤ length (now sizes)) × (c ≤ length (now sides)) × (c ≤ length (now marks)) ⌝ }
     requires { ⌜ 512 * (1 + blocksFor 126 c) ≤ length (now bytes) ⌝ }
-    ensures { λ _. ⌜ Taken (sizeAt (now (bytes .entry))) c (now (sizes .entry)) (now (sizes .exit)) ⌝ }
-    ensures { λ _. ⌜ Taken (sideAt (now (bytes .entry))) c (now (sides .entry)) (now (sides .exit)) ⌝ }
-    ensures { λ _. ⌜ Taken (markAt (now (bytes .entry))) c (now (marks .entry)) (now (marks .exit)) ⌝ }
+    ensures { λ _. ⌜ Taken (storedSize (now (bytes .entry))) c (now (sizes .entry)) (now (sizes .exit)) ⌝ }
+    ensures { λ _. ⌜ Taken (storedSide (now (bytes .entry))) c (now (sides .entry)) (now (sides .exit)) ⌝ }
+    ensures { λ _. ⌜ Taken (storedMark (now (bytes .entry))) c (now (marks .entry)) (now (marks .exit)) ⌝ }
 {
     let blocks = blocks_for(126, c);
     let mut k: usize = 0;
@@ -82,7 +81,7 @@ pub fn take_files(bytes: &[u8], c: usize, sizes: &mut [u16], sides: &mut [u16], 
 }
 
 // All entries of the stored job.
-pub fn take_job(
+pub(crate) fn write_job(
     bytes: &[u8],
     h: Header,
     sizes: &mut [u16],
@@ -91,22 +90,15 @@ pub fn take_job(
     bounds: &mut [u16],
     pins: &mut [u16],
 )
-    requires { ⌜ (512 * blockCount h ≤ length (now bytes)) × Roomy h (roomOf (now sizes) (now sides) (now marks) (now bounds) (now pins)) ⌝ }
-    ensures { λ _. ⌜ JobTaken (now (bytes .entry)) h (roomOf (now (sizes .entry)) (now (sides .entry)) (now (marks .entry)) (now (bounds .entry)) (now (pins .entry))) (roomOf (now (sizes .exit)) (now (sides .exit)) (now (marks .exit)) (now (bounds .exit)) (now (pins .exit))) ⌝ }
+    requires { ⌜ Writable (now bytes) h (roomOf (now sizes) (now sides) (now marks) (now bounds) (now pins)) ⌝ }
+    ensures { λ _. ⌜ roomOf (now (sizes .exit)) (now (sides .exit)) (now (marks .exit)) (now (bounds .exit)) (now (pins .exit)) ≡ written (jobOf (now (bytes .entry))) (roomOf (now (sizes .entry)) (now (sides .entry)) (now (marks .entry)) (now (bounds .entry)) (now (pins .entry))) ⌝ }
 {
-    take_files(bytes, h.files as usize, sizes, sides, marks);
-    take_values(bytes, bounds_at(h), h.recipes as usize + 1, bounds);
-    take_values(bytes, pins_at(h), h.pins as usize, pins);
-}
-
-// A list's entries over the first of another; further entries stay.
-pub fn copy_onto(from: &[u16], to: &mut [u16])
-    requires { ⌜ length (now from) ≤ length (now to) ⌝ }
-    ensures { λ _. ⌜ now (to .exit) ≡ onto (now (from .entry)) (now (to .entry)) ⌝ }
-{
-    let mut i: usize = 0;
-    while i < from.len() {
-        to[i] = from[i];
-        i += 1;
-    }
+    let c = h.files as usize;
+    let n = h.recipes as usize + 1;
+    let p = h.pins as usize;
+    let first_bound = bounds_at(h);
+    let first_pin = pins_at(h);
+    take_files(bytes, c, sizes, sides, marks);
+    take_values(bytes, first_bound, n, bounds);
+    take_values(bytes, first_pin, p, pins);
 }

@@ -5,144 +5,60 @@ mod layout;
 mod places;
 
 ghost use mathlib.Core.Path.{_≡_};
-ghost use Rattle.rules.specs.Job.{limitsOf, asJob};
-ghost use Rattle.rules.specs.Check.{isDone, check4to6};
+ghost use Rattle.rules.specs.Job.{limitsOf};
+ghost use Rattle.rules.specs.Check.{check4to6};
 ghost use Rattle.rules.specs.Stored.{headerOf, jobOf, noHeader, reading};
-ghost use Rattle.stored.specs.Room.{roomOf};
-ghost use Rattle.stored.specs.Steps.{firstOf, Roomy, Laid, Held, writtenIf, figuresOf};
+ghost use Rattle.stored.specs.Room.{roomOf, roomLong};
+ghost use Rattle.stored.specs.Steps.{LayoutHolds, readFigures};
 use block::header_of;
-use entries::copy_onto;
-use entries::take_job;
+use entries::write_job;
 use job::Job;
+use layout::Lengths;
 use layout::layout_verdict;
 use rules::Header;
 use rules::ReadFigures;
 use rules::Verdict;
 
-// The job's entries are written out if it passes 4 to 6.
-fn write_sound(
-    h: Header,
-    own_sizes: &[u16],
-    own_sides: &[u16],
-    own_marks: &[u16],
-    own_bounds: &[u16],
-    own_pins: &[u16],
-    sizes: &mut [u16],
-    sides: &mut [u16],
-    marks: &mut [u16],
-    bounds: &mut [u16],
-    pins: &mut [u16],
-) -> Verdict
-    requires { do ⌜ Held (limitsOf (← ⟦Job::MOST_FILES⟧) (← ⟦Job::MOST_RECIPES⟧) (← ⟦Job::MOST_PINS⟧) (← ⟦Job::MOST_DEN⟧)) (asJob (now «own_sizes») (now «own_sides») (now «own_marks») (now «own_bounds») (now «own_pins») (h .num) (h .den) (h .cap)) (roomOf (now sizes) (now sides) (now marks) (now bounds) (now pins)) ⌝ }
-    ensures { λ r. ⌜ r ≡ check4to6 (asJob (now («own_sizes» .entry)) (now («own_sides» .entry)) (now («own_marks» .entry)) (now («own_bounds» .entry)) (now («own_pins» .entry)) (h .num) (h .den) (h .cap)) ⌝ }
-    ensures { λ r. ⌜ roomOf (now (sizes .exit)) (now (sides .exit)) (now (marks .exit)) (now (bounds .exit)) (now (pins .exit)) ≡ writtenIf (isDone r) (asJob (now («own_sizes» .entry)) (now («own_sides» .entry)) (now («own_marks» .entry)) (now («own_bounds» .entry)) (now («own_pins» .entry)) (h .num) (h .den) (h .cap)) (roomOf (now (sizes .entry)) (now (sides .entry)) (now (marks .entry)) (now (bounds .entry)) (now (pins .entry))) ⌝ }
+// 4 to 6, of the job in lists of the reader's own, so that a refusal changes no lent list.
+fn sound_verdict(bytes: &[u8], h: Header) -> Verdict
+    requires { do ⌜ (h ≡ headerOf (now bytes)) × LayoutHolds (limitsOf (← ⟦Job::MOST_FILES⟧) (← ⟦Job::MOST_RECIPES⟧) (← ⟦Job::MOST_PINS⟧) (← ⟦Job::MOST_DEN⟧)) (headerOf (now bytes)) (now bytes) ⌝ }
+    ensures { λ r. ⌜ r ≡ check4to6 (jobOf (now (bytes .entry))) ⌝ }
 {
     let figures = Job {
         num: h.num,
         den: h.den,
         cap: h.cap,
     };
-    let m = job::measure(
-        figures,
-        own_sizes,
-        own_sides,
-        own_marks,
-        own_bounds,
-        own_pins,
-    );
-    let v = m.verdict;
-    if v.number != 0 {
-        return v;
-    }
-    copy_onto(own_sizes, sizes);
-    copy_onto(own_sides, sides);
-    copy_onto(own_marks, marks);
-    copy_onto(own_bounds, bounds);
-    copy_onto(own_pins, pins);
-    v
-}
-
-// The job of the first entries of the reader's own lists.
-fn write_first(
-    h: Header,
-    own_sizes: &[u16],
-    own_sides: &[u16],
-    own_marks: &[u16],
-    own_bounds: &[u16],
-    own_pins: &[u16],
-    sizes: &mut [u16],
-    sides: &mut [u16],
-    marks: &mut [u16],
-    bounds: &mut [u16],
-    pins: &mut [u16],
-) -> Verdict
-    requires { do ⌜ Roomy h (roomOf (now «own_sizes») (now «own_sides») (now «own_marks») (now «own_bounds») (now «own_pins»)) × Held (limitsOf (← ⟦Job::MOST_FILES⟧) (← ⟦Job::MOST_RECIPES⟧) (← ⟦Job::MOST_PINS⟧) (← ⟦Job::MOST_DEN⟧)) (firstOf h (roomOf (now «own_sizes») (now «own_sides») (now «own_marks») (now «own_bounds») (now «own_pins»))) (roomOf (now sizes) (now sides) (now marks) (now bounds) (now pins)) ⌝ }
-    ensures { λ r. ⌜ r ≡ check4to6 (firstOf h (roomOf (now («own_sizes» .entry)) (now («own_sides» .entry)) (now («own_marks» .entry)) (now («own_bounds» .entry)) (now («own_pins» .entry)))) ⌝ }
-    ensures { λ r. ⌜ roomOf (now (sizes .exit)) (now (sides .exit)) (now (marks .exit)) (now (bounds .exit)) (now (pins .exit)) ≡ writtenIf (isDone r) (firstOf h (roomOf (now («own_sizes» .entry)) (now («own_sides» .entry)) (now («own_marks» .entry)) (now («own_bounds» .entry)) (now («own_pins» .entry)))) (roomOf (now (sizes .entry)) (now (sides .entry)) (now (marks .entry)) (now (bounds .entry)) (now (pins .entry))) ⌝ }
-{
     let c = h.files as usize;
     let n = h.recipes as usize + 1;
     let p = h.pins as usize;
-    write_sound(
-        h,
-        &own_sizes[..c],
-        &own_sides[..c],
-        &own_marks[..c],
-        &own_bounds[..n],
-        &own_pins[..p],
-        sizes,
-        sides,
-        marks,
-        bounds,
-        pins,
-    )
-}
-
-// The reader's own lists are filled first, so that a refusal by 4 to 6 changes no lent list.
-fn read_laid_out(
-    bytes: &[u8],
-    sizes: &mut [u16],
-    sides: &mut [u16],
-    marks: &mut [u16],
-    bounds: &mut [u16],
-    pins: &mut [u16],
-) -> Verdict
-    requires { do ⌜ Laid (limitsOf (← ⟦Job::MOST_FILES⟧) (← ⟦Job::MOST_RECIPES⟧) (← ⟦Job::MOST_PINS⟧) (← ⟦Job::MOST_DEN⟧)) (headerOf (now bytes)) (now bytes) (roomOf (now sizes) (now sides) (now marks) (now bounds) (now pins)) ⌝ }
-    ensures { λ r. ⌜ r ≡ check4to6 (jobOf (now (bytes .entry))) ⌝ }
-    ensures { λ r. ⌜ roomOf (now (sizes .exit)) (now (sides .exit)) (now (marks .exit)) (now (bounds .exit)) (now (pins .exit)) ≡ writtenIf (isDone r) (jobOf (now (bytes .entry))) (roomOf (now (sizes .entry)) (now (sides .entry)) (now (marks .entry)) (now (bounds .entry)) (now (pins .entry))) ⌝ }
-{
-    let h = header_of(bytes);
-    let mut own_sizes = [0u16; Job::MOST_FILES];
-    let mut own_sides = [0u16; Job::MOST_FILES];
-    let mut own_marks = [0u16; Job::MOST_FILES];
-    let mut own_bounds = [0u16; Job::MOST_RECIPES + 1];
-    let mut own_pins = [0u16; Job::MOST_PINS];
-    take_job(
+    let mut sizes = [0u16; Job::MOST_FILES];
+    let mut sides = [0u16; Job::MOST_FILES];
+    let mut marks = [0u16; Job::MOST_FILES];
+    let mut bounds = [0u16; Job::MOST_RECIPES + 1];
+    let mut pins = [0u16; Job::MOST_PINS];
+    write_job(
         bytes,
         h,
-        &mut own_sizes,
-        &mut own_sides,
-        &mut own_marks,
-        &mut own_bounds,
-        &mut own_pins,
+        &mut sizes,
+        &mut sides,
+        &mut marks,
+        &mut bounds,
+        &mut pins,
     );
-    write_first(
-        h,
-        &own_sizes,
-        &own_sides,
-        &own_marks,
-        &own_bounds,
-        &own_pins,
-        sizes,
-        sides,
-        marks,
-        bounds,
-        pins,
-    )
+    let m = job::measure(
+        figures,
+        &sizes[..c],
+        &sides[..c],
+        &marks[..c],
+        &bounds[..n],
+        &pins[..p],
+    );
+    m.verdict
 }
 
 fn refused(verdict: Verdict) -> ReadFigures
-    ensures { λ r. ⌜ r ≡ figuresOf verdict noHeader ⌝ }
+    ensures { λ r. ⌜ r ≡ readFigures verdict noHeader ⌝ }
 {
     let header = Header {
         files: 0,
@@ -152,6 +68,22 @@ fn refused(verdict: Verdict) -> ReadFigures
         den: 0,
         cap: 0,
     };
+    ReadFigures { verdict, header }
+}
+
+// What reading answers, by the lengths of the lent lists.
+fn answer_of(bytes: &[u8], lent: Lengths) -> ReadFigures
+    ensures { λ r. do ⌜ r ≡ reading (limitsOf (← ⟦Job::MOST_FILES⟧ .entry) (← ⟦Job::MOST_RECIPES⟧ .entry) (← ⟦Job::MOST_PINS⟧ .entry) (← ⟦Job::MOST_DEN⟧ .entry)) (now (bytes .entry)) (roomLong lent) .answer ⌝ }
+{
+    let laid = layout_verdict(bytes, lent);
+    if laid.number != 0 {
+        return refused(laid);
+    }
+    let header = header_of(bytes);
+    let verdict = sound_verdict(bytes, header);
+    if verdict.number != 0 {
+        return refused(verdict);
+    }
     ReadFigures { verdict, header }
 }
 
@@ -167,14 +99,17 @@ pub fn read(
     ensures { λ r. do ⌜ r ≡ reading (limitsOf (← ⟦Job::MOST_FILES⟧ .entry) (← ⟦Job::MOST_RECIPES⟧ .entry) (← ⟦Job::MOST_PINS⟧ .entry) (← ⟦Job::MOST_DEN⟧ .entry)) (now (bytes .entry)) (roomOf (now (sizes .entry)) (now (sides .entry)) (now (marks .entry)) (now (bounds .entry)) (now (pins .entry))) .answer ⌝ }
     ensures { λ r. do ⌜ roomOf (now (sizes .exit)) (now (sides .exit)) (now (marks .exit)) (now (bounds .exit)) (now (pins .exit)) ≡ reading (limitsOf (← ⟦Job::MOST_FILES⟧ .entry) (← ⟦Job::MOST_RECIPES⟧ .entry) (← ⟦Job::MOST_PINS⟧ .entry) (← ⟦Job::MOST_DEN⟧ .entry)) (now (bytes .entry)) (roomOf (now (sizes .entry)) (now (sides .entry)) (now (marks .entry)) (now (bounds .entry)) (now (pins .entry))) .room ⌝ }
 {
-    let v = layout_verdict(bytes, sizes, sides, marks, bounds, pins);
-    if v.number != 0 {
-        return refused(v);
+    let lent = Lengths {
+        sizes: sizes.len(),
+        sides: sides.len(),
+        marks: marks.len(),
+        bounds: bounds.len(),
+        pins: pins.len(),
+    };
+    let figures = answer_of(bytes, lent);
+    if figures.verdict.number != 0 {
+        return figures;
     }
-    let verdict = read_laid_out(bytes, sizes, sides, marks, bounds, pins);
-    if verdict.number != 0 {
-        return refused(verdict);
-    }
-    let header = header_of(bytes);
-    ReadFigures { verdict, header }
+    write_job(bytes, figures.header, sizes, sides, marks, bounds, pins);
+    figures
 }

@@ -13,14 +13,14 @@ use Rattle.rules.specs.Job.{Job, Limits, fileCount, recipeCount, pinCount, view
 use Rattle.rules.specs.Split.{weight, smax, cut, sizeA}
 use Rattle.rules.specs.Check.{check}
 use Rattle.rules.specs.Theorems.{Binary, Sound}
-use Rattle.rules.proofs.Fits.{Roomy, roomy}
+use Rattle.rules.proofs.Fits.{LongEnough, long-enough}
 use Rattle.rules.proofs.SoundJob.{recipes-distinct}
 use Rattle.rules.proofs.Verdicts.{zero-of}
 use Rattle.rules.proofs.Proved.{accepted, answers}
 use Rattle.job.specs.declared.figures.Survey.{Survey}
 use Rattle.job.specs.Survey.{surveyOf}
 use Rattle.tables.specs.Zones.{countsAt}
-use Rattle.tables.specs.Building.{Laid}
+use Rattle.tables.specs.Building.{Buildable}
 use Rattle.tables.specs.LentFits.{fitsOf, WordOn}
 use Rattle.tables.proofs.LentWord.{word-late}
 
@@ -74,10 +74,10 @@ surveyed most job a b n h e = record { narrow = n; answered = e ∙ survey-late 
 
 -- ---- what the builders ask
 
-pub laid-out : {most : Limits} {job : Job} → Narrow most → Sound most job → Laid (job .bounds) (job .pins) (length (job .sides))
+pub buildable : {most : Limits} {job : Job} → Narrow most → Sound most job → Buildable (job .bounds) (job .pins) (length (job .sides))
 unfolding views
-laid-out {most} {job} n s =
-    subst (λ (c : ℕ). Laid (job .bounds) (job .pins) c) (sym (s .sidesLong)) (record {
+buildable {most} {job} n s =
+    subst (λ (c : ℕ). Buildable (job .bounds) (job .pins) c) (sym (s .sidesLong)) (record {
       first = s .first;
       rise = λ j h. omega (arith, s .two j h);
       last = s .last;
@@ -101,13 +101,13 @@ module _ (job : Job) (gains : List ℤ) (z : List ℕ) (tried gained cuts ends r
   some-fit = rw (length-replicate {A = ℕ} tried 0, length-replicate gained (pos 0), length-replicate {A = ℕ} cuts 0, length-replicate {A = ℕ} ends 0, length-replicate {A = ℕ} recipes 0, length-replicate {A = ℕ} kinds 0) refl
 
   pub builders-ask : (most : Limits) → Narrow most → check most job fitWord .number ≡ 0
-      → Laid (job .bounds) (job .pins) (length (job .sides))
+      → Buildable (job .bounds) (job .pins) (length (job .sides))
       × (((length gains ≡ length (job .sides)) × (length (job .marks) ≡ length (job .sides)))
       × ((countsAt (length (job .sides)) (pinCount job) + 4 * recipeCount job ≤ length z) × Binary (job .sides)))
   builders-ask most n ok =
       let s = accepted most job fitWord ok .sound in
-      let r : Roomy job some = roomy job some (answers most job some .fitting (rw some-fit ok)) in (
-        laid-out n s,
+      let r : LongEnough job some = long-enough job some (answers most job some .fitting (rw some-fit ok)) in (
+        buildable n s,
         (
           (r .gains ∙ sym (s .sidesLong), s .marksLong ∙ sym (s .sidesLong)),
           (omega (arith, r .scratch, s .sidesLong), s .binary),

@@ -79,70 +79,70 @@ from c p = roomAt c p + c
 abbrev to : ℕ → ℕ → ℕ → ℕ
 to c p n = from c p + 4 * n
 
-abbrev one : ℕ → ℕ → List ℕ → List ℕ → List ℕ
-one c p z z₁ = putMid 0 (locksAt c p - 0) z z₁
+abbrev oneZone : ℕ → ℕ → List ℕ → List ℕ → List ℕ
+oneZone c p z z₁ = putMid 0 (locksAt c p - 0) z z₁
 
-abbrev two : ℕ → ℕ → List ℕ → List ℕ → List ℕ → List ℕ
-two c p z z₁ z₂ = putMid (locksAt c p) (roomAt c p - locksAt c p) (one c p z z₁) z₂
+abbrev twoZones : ℕ → ℕ → List ℕ → List ℕ → List ℕ → List ℕ
+twoZones c p z z₁ z₂ = putMid (locksAt c p) (roomAt c p - locksAt c p) (oneZone c p z z₁) z₂
 
-abbrev pub three : ℕ → ℕ → ℕ → List ℕ → List ℕ → List ℕ → List ℕ → List ℕ
-three c p n z z₁ z₂ z₃ = putMid (from c p) (to c p n - from c p) (two c p z z₁ z₂) z₃
+abbrev pub threeZones : ℕ → ℕ → ℕ → List ℕ → List ℕ → List ℕ → List ℕ → List ℕ
+threeZones c p n z z₁ z₂ z₃ = putMid (from c p) (to c p n - from c p) (twoZones c p z z₁ z₂) z₃
 
 -- each comes back as long as it was lent
 pub record TwoZones (c p n : ℕ) (z z₁ z₂ : List ℕ) : Type 0 where
   pub fits : countsAt c p + 4 * n ≤ length z
   pub first : length z₁ ≡ length (part 0 (locksAt c p - 0) z)
-  pub second : length z₂ ≡ length (part (locksAt c p) (roomAt c p - locksAt c p) (one c p z z₁))
+  pub second : length z₂ ≡ length (part (locksAt c p) (roomAt c p - locksAt c p) (oneZone c p z z₁))
 
 pub record ThreeZones (c p n : ℕ) (z z₁ z₂ z₃ : List ℕ) : Type 0 where
   pub before : TwoZones c p n z z₁ z₂
-  pub third : length z₃ ≡ length (part (from c p) (to c p n - from c p) (two c p z z₁ z₂))
+  pub third : length z₃ ≡ length (part (from c p) (to c p n - from c p) (twoZones c p z z₁ z₂))
 
 -- the zones that are lent for the cells and for the locks
 module _ (c p n : ℕ) (z : List ℕ) (fits : countsAt c p + 4 * n ≤ length z) where
   pub cells-room : length (part 0 (locksAt c p - 0) z) ≡ p + 2 * c
   cells-room = part-length 0 (locksAt c p - 0) z (omega arith) ∙ omega arith
 
-  pub locks-room : (z₁ : List ℕ) → length z₁ ≡ length (part 0 (locksAt c p - 0) z) → length (part (locksAt c p) (roomAt c p - locksAt c p) (one c p z z₁)) ≡ c
+  pub locks-room : (z₁ : List ℕ) → length z₁ ≡ length (part 0 (locksAt c p - 0) z) → length (part (locksAt c p) (roomAt c p - locksAt c p) (oneZone c p z z₁)) ≡ c
   locks-room z₁ first =
       let e = same-len-mid 0 (locksAt c p - 0) z z₁ first in
-      part-length (locksAt c p) (roomAt c p - locksAt c p) (one c p z z₁) (omega (arith, e)) ∙ omega arith
+      part-length (locksAt c p) (roomAt c p - locksAt c p) (oneZone c p z z₁) (omega (arith, e)) ∙ omega arith
 
 module _ {c p n : ℕ} {z z₁ z₂ : List ℕ} (l : TwoZones c p n z z₁ z₂) where
-  one-long : length (one c p z z₁) ≡ length z
+  one-long : length (oneZone c p z z₁) ≡ length z
   one-long = same-len-mid 0 (locksAt c p - 0) z z₁ (l .first)
 
-  two-long : length (two c p z z₁ z₂) ≡ length z
-  two-long = same-len-mid (locksAt c p) (roomAt c p - locksAt c p) (one c p z z₁) z₂ (l .second) ∙ one-long
+  two-long : length (twoZones c p z z₁ z₂) ≡ length z
+  two-long = same-len-mid (locksAt c p) (roomAt c p - locksAt c p) (oneZone c p z z₁) z₂ (l .second) ∙ one-long
 
   first-in : locksAt c p ≤ length z
   first-in = omega (arith, l .fits)
 
-  second-in : roomAt c p ≤ length (one c p z z₁)
+  second-in : roomAt c p ≤ length (oneZone c p z z₁)
   second-in = omega (arith, l .fits, one-long)
 
-  third-in : to c p n ≤ length (two c p z z₁ z₂)
+  third-in : to c p n ≤ length (twoZones c p z z₁ z₂)
   third-in = omega (arith, l .fits, two-long)
 
   first-long : length z₁ ≡ locksAt c p - 0
   first-long = l .first ∙ part-length 0 (locksAt c p - 0) z (omega (arith, first-in))
 
   second-long : length z₂ ≡ roomAt c p - locksAt c p
-  second-long = l .second ∙ part-length (locksAt c p) (roomAt c p - locksAt c p) (one c p z z₁) (omega (arith, second-in))
+  second-long = l .second ∙ part-length (locksAt c p) (roomAt c p - locksAt c p) (oneZone c p z z₁) (omega (arith, second-in))
 
-  third-fits : length (part (from c p) (to c p n - from c p) (two c p z z₁ z₂)) ≡ to c p n - from c p
-  third-fits = part-length (from c p) (to c p n - from c p) (two c p z z₁ z₂) (omega (arith, third-in))
+  third-fits : length (part (from c p) (to c p n - from c p) (twoZones c p z z₁ z₂)) ≡ to c p n - from c p
+  third-fits = part-length (from c p) (to c p n - from c p) (twoZones c p z z₁ z₂) (omega (arith, third-in))
 
   -- the zone that is lent for the counts
-  pub counts-room : length (part (from c p) (to c p n - from c p) (two c p z z₁ z₂)) ≡ 4 * n
+  pub counts-room : length (part (from c p) (to c p n - from c p) (twoZones c p z z₁ z₂)) ≡ 4 * n
   counts-room = third-fits ∙ omega arith
 
 module _ {c p n : ℕ} {z z₁ z₂ z₃ : List ℕ} (l : ThreeZones c p n z z₁ z₂ z₃) where
   abbrev was : List ℕ
-  was = two c p z z₁ z₂
+  was = twoZones c p z z₁ z₂
 
   abbrev all : List ℕ
-  all = three c p n z z₁ z₂ z₃
+  all = threeZones c p n z z₁ z₂ z₃
 
   third-long : length z₃ ≡ to c p n - from c p
   third-long = l .third ∙ third-fits (l .before)
@@ -157,7 +157,7 @@ module _ {c p n : ℕ} {z z₁ z₂ z₃ : List ℕ} (l : ThreeZones c p n z z�
   zones-beyond =
       let m = countsAt c p + 4 * n in
       put-beyond (from c p) (to c p n) was z₃ (omega arith) (third-in (l .before)) third-long m (omega arith)
-      ∙ put-beyond (locksAt c p) (roomAt c p) (one c p z z₁) z₂ (omega arith) (second-in (l .before)) (second-long (l .before)) m (omega arith)
+      ∙ put-beyond (locksAt c p) (roomAt c p) (oneZone c p z z₁) z₂ (omega arith) (second-in (l .before)) (second-long (l .before)) m (omega arith)
       ∙ put-beyond 0 (locksAt c p) z z₁ (omega arith) (first-in (l .before)) (first-long (l .before)) m (omega arith)
 
   -- the later zones leave the earlier ones
@@ -165,8 +165,8 @@ module _ {c p n : ℕ} {z z₁ z₂ z₃ : List ℕ} (l : ThreeZones c p n z z�
   front =
       let k : locksAt c p ≡ locksAt c p - 0 = omega arith in
       put-below (from c p) (to c p n) was z₃ (omega arith) (third-in (l .before)) third-long (locksAt c p) (omega arith)
-      ∙ put-below (locksAt c p) (roomAt c p) (one c p z z₁) z₂ (omega arith) (second-in (l .before)) (second-long (l .before)) (locksAt c p) (omega arith)
-      ∙ ap (λ (j : ℕ). take j (one c p z z₁)) k
+      ∙ put-below (locksAt c p) (roomAt c p) (oneZone c p z z₁) z₂ (omega arith) (second-in (l .before)) (second-long (l .before)) (locksAt c p) (omega arith)
+      ∙ ap (λ (j : ℕ). take j (oneZone c p z z₁)) k
       ∙ put-here 0 (locksAt c p) z z₁ (omega arith) (first-in (l .before)) (first-long (l .before))
       ∙ sym (take-all (locksAt c p) z₁ (omega (arith, first-long (l .before))))
 
@@ -181,13 +181,13 @@ module _ {c p n : ℕ} {z z₁ z₂ z₃ : List ℕ} (l : ThreeZones c p n z z�
       let k : c ≡ roomAt c p - locksAt c p = omega arith in
       front-part (from c p) all was (put-below (from c p) (to c p n) was z₃ (omega arith) (third-in (l .before)) third-long (from c p) (omega arith)) (locksAt c p) c (omega arith)
       ∙ ap (λ (j : ℕ). part (locksAt c p) j was) k
-      ∙ put-here (locksAt c p) (roomAt c p) (one c p z z₁) z₂ (omega arith) (second-in (l .before)) (second-long (l .before))
+      ∙ put-here (locksAt c p) (roomAt c p) (oneZone c p z z₁) z₂ (omega arith) (second-in (l .before)) (second-long (l .before))
 
   -- the numbers between locks and counts are lent to no step
   pub zones-room : part (locksAt c p + c) c all ≡ part (locksAt c p + c) c z
   zones-room =
       front-part (from c p) all was (put-below (from c p) (to c p n) was z₃ (omega arith) (third-in (l .before)) third-long (from c p) (omega arith)) (roomAt c p) c (omega arith)
-      ∙ ap (take c) (put-beyond (locksAt c p) (roomAt c p) (one c p z z₁) z₂ (omega arith) (second-in (l .before)) (second-long (l .before)) (roomAt c p) (omega arith)
+      ∙ ap (take c) (put-beyond (locksAt c p) (roomAt c p) (oneZone c p z z₁) z₂ (omega arith) (second-in (l .before)) (second-long (l .before)) (roomAt c p) (omega arith)
       ∙ put-beyond 0 (locksAt c p) z z₁ (omega arith) (first-in (l .before)) (first-long (l .before)) (roomAt c p) (omega arith))
 
   pub zones-counts : {rs : List (List ℕ)} {st : State} → Counts rs st 0 n z₃ → Counts rs st (countsAt c p) n all

@@ -1,8 +1,7 @@
 pub mod Parts
 pub mod Filled
 pub mod TakenBack
-pub mod Walks
-pub mod Laying
+pub mod Buildable
 pub mod Filling
 pub mod Placing
 pub mod FourCounts

@@ -6,21 +6,11 @@ use native.Mathlib.Omega.{arith}
 use native.Mathlib.Numerals.{add-one}
 use lib.ListN.{length, getD, set, take, drop, length-take, length-drop}
 use lib.Seq.{take-nil, drop-nil, take-take, getD-take, getD-drop, getD-set-same, take-set-le, drop-set-lt, drop-set-add, take-suc-set}
-use Rattle.rules.specs.Lists.{allBelow}
 use Rattle.tables.specs.Zones.{part}
 
 -- an entry of a part
 pub part-entry : (a k : ℕ) (xs : List ℕ) (i : ℕ) → i < k → getD (part a k xs) i 0 ≡ getD xs (a + i) 0
 part-entry a k xs i h = getD-take k (drop a xs) i 0 h ∙ getD-drop a xs i 0
-
--- every number of a part is one of the whole
-pub part-below : (n : ℕ) (xs : List ℕ) (a k : ℕ) → allBelow n xs → allBelow n (part a k xs)
-part-below n xs a k h i l =
-    let e = length-take k (drop a xs) in
-    let d = length-drop a xs in
-    let s : i < k = omega arith in
-    let q : getD (part a k xs) i 0 ≡ getD xs (a + i) 0 = part-entry a k xs i s in
-    omega (arith, h (a + i) (omega arith))
 
 pub part-length : (a k : ℕ) (xs : List ℕ) → a + k ≤ length xs → length (part a k xs) ≡ k
 part-length a k xs h = omega (arith, length-take k (drop a xs), length-drop a xs)

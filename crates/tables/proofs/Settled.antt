@@ -12,7 +12,7 @@ use Rattle.rules.specs.Split.{times}
 use Rattle.rules.proofs.Steps.{recipesOf}
 use Rattle.job.specs.declared.figures.Survey.{Survey}
 use Rattle.tables.specs.Zones.{startAt, endAt, locksAt, countsAt, part}
-use Rattle.tables.specs.Building.{viewsOf, Laid}
+use Rattle.tables.specs.Building.{viewsOf, Buildable}
 use Rattle.tables.specs.Filling.{startOf}
 use Rattle.tables.specs.LayingOut.{Prepared, LaysOut}
 use Rattle.tables.proofs.Parts.{part-entry, part-length}
@@ -31,7 +31,7 @@ further P a k b h below next i l = elim (decLt i a) [
 
 -- ---- one scratch
 
-module _ {bounds pins sides marks z₀ z : List ℕ} {g : List ℤ} {n : ℕ} (laid : Laid bounds pins (length sides)) (fits : length pins ≤ length z₀)
+module _ {bounds pins sides marks z₀ z : List ℕ} {g : List ℤ} {n : ℕ} (able : Buildable bounds pins (length sides)) (fits : length pins ≤ length z₀)
     (d : Prepared bounds pins sides marks z₀ z g n) where
   abbrev mine : ℕ → List ℕ
   mine f = recipesOf (viewsOf bounds pins) f
@@ -49,12 +49,12 @@ module _ {bounds pins sides marks z₀ z : List ℕ} {g : List ℤ} {n : ℕ} (l
   cell-is f i h from to =
       let e : startOf pins f + (i - startOf pins f) ≡ i = omega arith in
       ap (λ (k : ℕ). getD z k 0) (sym e)
-      ∙ sym (part-entry (startOf pins f) (length (mine f)) z (i - startOf pins f) (omega (arith, recipes-many bounds pins (length sides) laid f)))
+      ∙ sym (part-entry (startOf pins f) (length (mine f)) z (i - startOf pins f) (omega (arith, recipes-many bounds pins (length sides) able f)))
       ∙ ap (λ (l : List ℕ). getD l (i - startOf pins f) 0) (ap₂ (λ (a k : ℕ). part a k z) (sym (d .starts f h)) (sym (cells-long f h)) ∙ d .cells .hold f h)
 
 -- ---- two
 
-module _ {bounds pins sides marks z₀ z z' : List ℕ} {g g' : List ℤ} {n : ℕ} (laid : Laid bounds pins (length sides)) (fits : length pins ≤ length z₀)
+module _ {bounds pins sides marks z₀ z z' : List ℕ} {g g' : List ℤ} {n : ℕ} (able : Buildable bounds pins (length sides)) (fits : length pins ≤ length z₀)
     (d : Prepared bounds pins sides marks z₀ z g n) (d' : Prepared bounds pins sides marks z₀ z' g' n) where
   abbrev c : ℕ
   c = length sides
@@ -73,8 +73,8 @@ module _ {bounds pins sides marks z₀ z z' : List ℕ} {g g' : List ℤ} {n : �
 
   same-cells : (i : ℕ) → i < p → Same i
   same-cells i h =
-      let r = cell-of c pins i (laid .files) h in
-      cell-is laid fits d (r .0) i (r .1) (r .2) (r .3) ∙ sym (cell-is laid fits d' (r .0) i (r .1) (r .2) (r .3))
+      let r = cell-of c pins i (able .files) h in
+      cell-is able fits d (r .0) i (r .1) (r .2) (r .3) ∙ sym (cell-is able fits d' (r .0) i (r .1) (r .2) (r .3))
 
   same-before : (i : ℕ) → i < at → Same i
   same-before =
@@ -83,7 +83,7 @@ module _ {bounds pins sides marks z₀ z z' : List ℕ} {g g' : List ℤ} {n : �
       (further Same (p + c) c (locksAt c p) (omega arith)
       (further Same p c (p + c) (omega arith) same-cells
       (λ f h. d .starts f h ∙ sym (d' .starts f h)))
-      (λ f h. end-is laid fits d f h ∙ sym (end-is laid fits d' f h)))
+      (λ f h. end-is able fits d f h ∙ sym (end-is able fits d' f h)))
       (same-part (locksAt c p) c (d .locks ∙ sym (d' .locks))))
       (same-part (locksAt c p + c) c (d .room ∙ sym (d' .room)))
 

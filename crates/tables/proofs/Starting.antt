@@ -8,8 +8,7 @@ use native.Mathlib.Nat.{add-zero, zero-add, suc-add, add-suc}
 use lib.Dec.{eqb}
 use lib.ListN.{length, getD, drop}
 use lib.Seq.{getD-take, getD-drop}
-use lib.IntN.{ℤ, pos, negsuc, _-ℤ_}
-use lib.Signed.{mag}
+use lib.IntN.{ℤ, pos, _-ℤ_}
 use mir.Syntax.{w32}
 use mir.Val.{SFits, toZ, ofZ}
 use mir.Facts.{toZ-ofZ, toZ-pos}
@@ -19,20 +18,17 @@ use Rattle.rules.specs.Move.{free}
 use Rattle.rules.specs.Pass.{standing, gainsAfter, startGains}
 use Rattle.rules.specs.Theorems.{Binary}
 use Rattle.rules.proofs.Count.{getD-tabled, length-tabled}
-use Rattle.rules.proofs.Signed.{abs, abs-diff}
+use Rattle.rules.proofs.Signed.{abs-diff}
+use Rattle.rules.proofs.Machine.{abs-fits}
 use Rattle.rules.proofs.Steps.{recipesFrom, recipesOf}
 use Rattle.tables.specs.Zones.{startAt, endAt, countsAt, sideAt, part, stateOf, Cells, Counts}
 use Rattle.tables.specs.Counting.{gainBy, startGain}
 
 -- ---- a difference of two counts, in the machine
 
-mag-abs : (z : ℤ) → mag z ≤ abs z
-mag-abs (pos n) = omega arith
-mag-abs (negsuc n) = omega arith
-
 module _ (a b : ℕ) (h : a < 65536) (k : b < 65536) where
   diff-fits : SFits w32 (diff a b)
-  diff-fits = record { sfits = omega (arith, mag-abs (diff a b), abs-diff a b 65536 (omega arith) (omega arith)) }
+  diff-fits = abs-fits (diff a b) (omega (arith, abs-diff a b 65536 (omega arith) (omega arith)))
 
   read : toZ w32 a -ℤ toZ w32 b ≡ diff a b
   unfolding diff
@@ -114,9 +110,6 @@ module _ (sides marks : List ℕ) (rs : List (List ℕ)) (c p n : ℕ) (z : List
   module _ (f s e : ℕ) (h : f < c) (at : s ≡ getD z (startAt p f) 0) (to : e ≡ getD z (endAt c p f) 0) where
     held : part s (e - s) z ≡ recipesOf rs f
     held = rw (at, to) (cells .hold f h)
-
-    pub cells-below : allBelow n (part s (e - s) z)
-    cells-below = rw (held, ← long) (recipes-below f rs)
 
     -- what the code works out is entry f of the starting gains
     pub start-gain-is : (mine theirs : ℕ) → mine ≡ sideAt (countsAt c p) n (sideOf sides f) → theirs ≡ sideAt (countsAt c p) n (other (sideOf sides f))

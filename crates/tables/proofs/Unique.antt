@@ -12,17 +12,16 @@ use Rattle.tables.proofs.end_moves.Kinds as end-moves-kinds
 use Rattle.tables.proofs.end_moves.Reads as end-moves
 use Rattle.tables.proofs.end_scans.Kinds as end-scans-kinds
 use Rattle.tables.proofs.end_scans.Reads as end-scans
-use Rattle.tables.proofs.take_back.Kinds as take-back-kinds
-use Rattle.tables.proofs.take_back.Reads as take-back
 use Rattle.tables.proofs.turn.Kinds as turn-kinds
 use Rattle.tables.proofs.turn.Reads as turn
 use Rattle.tables.proofs.lay_out.Kinds as lay-out-kinds
 use Rattle.tables.proofs.lay_out.Reads as lay-out
 
--- the four move lists
-pub end-moves-settled : Settles 4 end-moves-kinds.ps end-moves-kinds.r (List ℕ × List ℤ × List ℕ × List ℕ)
-    (λ κs x e. (now (e .0), now (e .1 .0), now (e .1 .1 .0), now (e .1 .1 .1 .0))) end-moves.Post
-end-moves-settled κs a x y e f p q = λ i. (both (p .0) (q .0) i, both (p .1) (q .1) i, both (p .2) (q .2) i, both (p .3) (q .3) i)
+-- the sides and the four move lists
+pub end-moves-settled : Settles 5 end-moves-kinds.ps end-moves-kinds.r (List ℕ × List ℕ × List ℤ × List ℕ × List ℕ)
+    (λ κs x e. (now (e .0), now (e .1 .0), now (e .1 .1 .0), now (e .1 .1 .1 .0), now (e .1 .1 .1 .1 .0))) end-moves.Post
+end-moves-settled κs a x y e f p q =
+    λ i. (both (p .0) (q .0) i, both (p .1) (q .1) i, both (p .2) (q .2) i, both (p .3) (q .3) i, both (p .4) (q .4) i)
 
 -- the two scan lists and the scratch
 pub end-scans-settled : Settles 3 end-scans-kinds.ps end-scans-kinds.r (List ℕ × List ℕ × List ℕ)
@@ -32,10 +31,6 @@ end-scans-settled κs a x y e f p q = λ i. (both (p .0) (q .0) i, both (p .1) (
 -- the answer and the sides
 pub turn-settled : Settles 1 turn-kinds.ps turn-kinds.r (ℕ × List ℕ) (λ κs x e. (x, now (e .0))) turn.Post
 turn-settled κs a x y e f p q = λ i. (both (p .0) (q .0) i, both (p .1) (q .1) i)
-
--- the sides
-pub take-back-settled : Settles 2 take-back-kinds.ps take-back-kinds.r (List ℕ) (λ κs x e. now (e .0)) take-back.Post
-take-back-settled κs a x y e f p q = both p q
 
 -- the answer, the gains and the scratch
 pub lay-out-settled : Settles 7 lay-out-kinds.ps lay-out-kinds.r (Survey × List ℤ × List ℕ)

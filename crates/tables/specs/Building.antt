@@ -12,7 +12,7 @@ abbrev pub viewsOf : List ℕ → List ℕ → List (List ℕ)
 viewsOf bounds pins = map (viewOf bounds pins) (upTo (length bounds - 1))
 
 -- the bounds rise from 0 to the number of pins; every pin is one of c files; no recipe holds a file twice; the counts fit two bytes
-pub record Laid (bounds pins : List ℕ) (c : ℕ) : Type 0 where
+pub record Buildable (bounds pins : List ℕ) (c : ℕ) : Type 0 where
   pub first : getD bounds 0 0 ≡ 0
   pub rise : (j : ℕ) → j < length bounds - 1 → getD bounds j 0 ≤ getD bounds (suc j) 0
   pub last : getD bounds (length bounds - 1) 0 ≡ length pins

@@ -2,49 +2,26 @@
 ghost use mathlib.Core.Path.{_≡_};
 ghost use Prim.Native.Nat.{_+_, _*_, _-_, _≤_, _<_, _^_};
 ghost use lib.ListN.{length};
-ghost use Rattle.rules.specs.Lists.{allBelow};
-ghost use Rattle.rules.specs.Split.{countOn};
 ghost use Rattle.rules.specs.Pass.{startGains};
 ghost use Rattle.rules.specs.Theorems.{Binary};
 ghost use Rattle.rules.proofs.Locked.{lockedOn};
-ghost use Rattle.tables.specs.Zones.{countsAt, sideAt, part, stateOf, Cells, Counts};
-ghost use Rattle.tables.specs.Building.{viewsOf, Laid};
+ghost use Rattle.tables.specs.Zones.{countsAt, sideAt, stateOf, Cells, Counts};
+ghost use Rattle.tables.specs.Building.{viewsOf, Buildable};
 ghost use Rattle.tables.specs.Counting.{counted, gainBy, startGain};
+use job::bit;
+use job::count_on;
+use job::entry_at;
 use job::wide;
 
-// How many numbers of the list have u at their place in the table: a recipe's files on a side, a file's recipes with a count.
-fn count_on(list: &[u16], table: &[u16], u: u16) -> u16
-    requires { ⌜ allBelow (length (now table)) (now list) ⌝ }
-    requires { ⌜ length (now list) < 65536 ⌝ }
-    ensures { λ r. ⌜ r ≡ countOn (now (table .entry)) u (now (list .entry)) ⌝ }
-{
-    let mut n = 0;
-    let mut k = 0;
-    while k < list.len() {
-        let x = wide(list[k]);
-        if table[x] == u {
-            n += 1;
-        }
-        k += 1;
-    }
-    n
-}
-
 // How many files of the recipe are on side u and locked.
-fn locked_on(recipe: &[u16], sides: &[u16], locks: &[u16], u: u16) -> u16
-    requires { ⌜ allBelow (length (now sides)) (now recipe) ⌝ }
-    requires { ⌜ (length (now recipe) < 65536) × (length (now locks) ≡ length (now sides)) ⌝ }
+fn locked_on(recipe: &[u16], sides: &[u16], locks: &[u16], u: u16) -> usize
     ensures { λ r. ⌜ r ≡ lockedOn (stateOf (now (sides .entry)) (now (locks .entry))) u (now (recipe .entry)) ⌝ }
 {
     let mut n = 0;
     let mut k = 0;
     while k < recipe.len() {
         let f = wide(recipe[k]);
-        if sides[f] == u {
-            if locks[f] != 0 {
-                n += 1;
-            }
-        }
+        n += bit((entry_at(sides, f) == u) & (entry_at(locks, f) != 0));
         k += 1;
     }
     n
@@ -52,15 +29,13 @@ fn locked_on(recipe: &[u16], sides: &[u16], locks: &[u16], u: u16) -> u16
 
 // The four counts of recipe j.
 fn count_recipe(zone: &mut [u16], sides: &[u16], locks: &[u16], recipe: &[u16], j: usize, n: usize)
-    requires { ⌜ allBelow (length (now sides)) (now recipe) ⌝ }
-    requires { ⌜ (length (now recipe) < 65536) × (length (now locks) ≡ length (now sides)) ⌝ }
-    requires { ⌜ (j < n) × (length (now zone) ≡ 4 * n) ⌝ }
+    requires { ⌜ (length (now recipe) < 65536) × (j < n) × (length (now zone) ≡ 4 * n) ⌝ }
     ensures { λ _. ⌜ now (zone .exit) ≡ counted (stateOf (now (sides .entry)) (now (locks .entry))) n j (now (recipe .entry)) (now (zone .entry)) ⌝ }
 {
-    zone[j] = count_on(recipe, sides, 0);
-    zone[n + j] = count_on(recipe, sides, 1);
-    zone[2 * n + j] = locked_on(recipe, sides, locks, 0);
-    zone[3 * n + j] = locked_on(recipe, sides, locks, 1);
+    zone[j] = count_on(recipe, sides, 0) as u16;
+    zone[n + j] = count_on(recipe, sides, 1) as u16;
+    zone[2 * n + j] = locked_on(recipe, sides, locks, 0) as u16;
+    zone[3 * n + j] = locked_on(recipe, sides, locks, 1) as u16;
 }
 
 // The zone is 4N counts: files on A, on B, locked on A, locked on B.
@@ -72,8 +47,8 @@ pub(crate) fn fill_counts(
     pins: &[u16],
     n: usize,
 )
-    requires { ⌜ Laid (now bounds) (now pins) (length (now sides)) ⌝ }
-    requires { ⌜ (length (now locks) ≡ length (now sides)) × (n ≡ length (now bounds) - 1) × (length (now zone) ≡ 4 * n) ⌝ }
+    requires { ⌜ Buildable (now bounds) (now pins) (length (now sides)) ⌝ }
+    requires { ⌜ (n ≡ length (now bounds) - 1) × (length (now zone) ≡ 4 * n) ⌝ }
     ensures { λ _. ⌜ Counts (viewsOf (now (bounds .entry)) (now (pins .entry))) (stateOf (now (sides .entry)) (now (locks .entry))) 0 n (now (zone .exit)) ⌝ }
 {
     let mut j = 0;
@@ -87,8 +62,7 @@ pub(crate) fn fill_counts(
 
 // One up for each recipe of the list with a count of 1 on the file's own side, one down for each with none on the other.
 fn gain_by(list: &[u16], own: &[u16], other: &[u16]) -> i32
-    requires { ⌜ allBelow (length (now own)) (now list) ⌝ }
-    requires { ⌜ (length (now list) < 65536) × (length (now other) ≡ length (now own)) ⌝ }
+    requires { ⌜ length (now list) < 65536 ⌝ }
     ensures { λ r. ⌜ r ≡ gainBy (now (own .entry)) (now (other .entry)) (now (list .entry)) ⌝ }
 {
     let up = count_on(list, own, 1);
@@ -119,7 +93,6 @@ fn start_gain(
 ) -> i32
     requires { ⌜ (s ≤ e) × (e ≤ length (now scratch)) × (e - s < 65536) ⌝ }
     requires { ⌜ (own + n ≤ length (now scratch)) × (other + n ≤ length (now scratch)) ⌝ }
-    requires { ⌜ allBelow n (part s (e - s) (now scratch)) ⌝ }
     ensures { λ r. ⌜ r ≡ startGain (now (scratch .entry)) mark s e own other n ⌝ }
 {
     if mark != 0 {
@@ -142,7 +115,7 @@ pub(crate) fn start_gains(
     pins: &[u16],
     n: usize,
 )
-    requires { ⌜ Laid (now bounds) (now pins) (length (now sides)) ⌝ }
+    requires { ⌜ Buildable (now bounds) (now pins) (length (now sides)) ⌝ }
     requires { ⌜ (length (now gains) ≡ length (now sides)) × (length (now marks) ≡ length (now sides)) × (n ≡ length (now bounds) - 1) ⌝ }
     requires { ⌜ countsAt (length (now sides)) (length (now pins)) + 4 * n ≤ length (now scratch) ⌝ }
     requires { ⌜ Binary (now sides) ⌝ }

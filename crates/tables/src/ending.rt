@@ -1,11 +1,11 @@
 // After the last move: entries made zero, and moves taken back, each by turning its file over; places outside a list change nothing.
 ghost use mathlib.Core.Path.{_≡_};
 ghost use Prim.Native.Nat.{_-_};
-ghost use lib.ListN.{getD};
 ghost use lib.IntN.{pos};
 ghost use Rattle.rules.specs.Split.{sideOf};
 ghost use Rattle.tables.specs.Clearing.{clearedIn};
 ghost use Rattle.tables.specs.Ending.{turned, backTo};
+use job::entry_at;
 use job::wide;
 
 pub(crate) fn clear(list: &mut [u16], from: usize, to: usize)
@@ -34,17 +34,20 @@ fn clear_signed(list: &mut [i32], from: usize, to: usize)
     }
 }
 
-// The move lists end in zeros, from the number of moves up to the number of files.
+// The moves from best on are taken back; the move lists end in zeros, from the number of moves up to the number of files.
 pub fn end_moves(
+    sides: &mut [u16],
     tried: &mut [u16],
     gained: &mut [i32],
     cuts: &mut [u16],
     ends: &mut [u16],
+    best: usize,
     moves: usize,
     files: usize,
 )
-    ensures { λ _. ⌜ (now (tried .exit) ≡ clearedIn moves files 0 (now (tried .entry))) × (now (gained .exit) ≡ clearedIn moves files (pos 0) (now (gained .entry))) × (now (cuts .exit) ≡ clearedIn moves files 0 (now (cuts .entry))) × (now (ends .exit) ≡ clearedIn moves files 0 (now (ends .entry))) ⌝ }
+    ensures { λ _. ⌜ (now (sides .exit) ≡ backTo (now (tried .entry)) best (moves - best) (now (sides .entry))) × (now (tried .exit) ≡ clearedIn moves files 0 (now (tried .entry))) × (now (gained .exit) ≡ clearedIn moves files (pos 0) (now (gained .entry))) × (now (cuts .exit) ≡ clearedIn moves files 0 (now (cuts .entry))) × (now (ends .exit) ≡ clearedIn moves files 0 (now (ends .entry))) ⌝ }
 {
+    take_back(sides, tried, best, moves);
     clear(tried, moves, files);
     clear_signed(gained, moves, files);
     clear(cuts, moves, files);
@@ -88,23 +91,13 @@ pub fn turn(sides: &mut [u16], f: usize) -> u16
     side
 }
 
-// Entry k, 0 where there is none.
-fn entry_at(list: &[u16], k: usize) -> usize
-    ensures { λ r. ⌜ r ≡ getD (now (list .entry)) k 0 ⌝ }
-{
-    if list.len() <= k {
-        return 0;
-    }
-    wide(list[k])
-}
-
 // The moves from best up to moves taken back, the latest first.
-pub fn take_back(sides: &mut [u16], tried: &[u16], best: usize, moves: usize)
+fn take_back(sides: &mut [u16], tried: &[u16], best: usize, moves: usize)
     ensures { λ _. ⌜ now (sides .exit) ≡ backTo (now (tried .entry)) best (moves - best) (now (sides .entry)) ⌝ }
 {
     let mut k = moves;
     while best < k {
         k -= 1;
-        turn(sides, entry_at(tried, k));
+        turn(sides, wide(entry_at(tried, k)));
     }
 }

@@ -7,7 +7,6 @@ mod start;
 
 pub use ending::end_moves;
 pub use ending::end_scans;
-pub use ending::take_back;
 pub use ending::turn;
 use job::Job;
 use job::Survey;

@@ -4,7 +4,7 @@ ghost use Prim.Native.Nat.{_+_, _-_, _*_, _≤_};
 ghost use lib.ListN.{length};
 ghost use Rattle.rules.specs.Theorems.{Binary};
 ghost use Rattle.tables.specs.Zones.{countsAt};
-ghost use Rattle.tables.specs.Building.{Laid};
+ghost use Rattle.tables.specs.Building.{Buildable};
 ghost use Rattle.tables.specs.LayingOut.{Prepared};
 use super::cells::build_cells;
 use super::counts::fill_counts;
@@ -32,7 +32,7 @@ pub(crate) fn prepare(
     bounds: &[u16],
     pins: &[u16],
 )
-    requires { ⌜ Laid (now bounds) (now pins) (length (now sides)) ⌝ }
+    requires { ⌜ Buildable (now bounds) (now pins) (length (now sides)) ⌝ }
     requires { ⌜ (length (now gains) ≡ length (now sides)) × (length (now marks) ≡ length (now sides)) ⌝ }
     requires { ⌜ countsAt (length (now sides)) (length (now pins)) + 4 * (length (now bounds) - 1) ≤ length (now scratch) ⌝ }
     requires { ⌜ Binary (now sides) ⌝ }

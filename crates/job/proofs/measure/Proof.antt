@@ -1,5 +1,4 @@
 use mathlib.Core.Path.{_∙_}
-use native.Mathlib.Omega.{arith}
 use Rattle.rules.specs.Job.{views}
 use Rattle.rules.proofs.Verdicts.{zero-of}
 use Rattle.rules.proofs.SoundJob.{sound}
@@ -21,9 +20,7 @@ totals-of-requires c κs =
     (s .fewFiles, (s .sidesLong, s .marksLong))
 
 cut-requires : tie.Need-cut-requires
-cut-requires c κs =
-    let s = sound _ _ _ (zero-of (c .before .before .before .check1to6 .ensures) (c .before .if1 .left)) in
-    λ k l. omega (arith, s .pinsBelow k l, s .sidesLong)
+cut-requires c κs = search needs
 
 returns-2 : tie.Need-returns-2
 unfolding totalsOf views

@@ -39,9 +39,7 @@ returns-2 c =
     (c .if2 .taken)
 
 cut-requires : tie.Need-cut-requires
-cut-requires c κs =
-    let s = sound _ _ _ (zero-of (c .before .before .before .before .before .before .check1to6 .ensures) (c .before .before .before .before .if1 .left)) in
-    λ k l. omega (arith, s .pinsBelow k l, s .sidesLong)
+cut-requires c κs = search needs
 
 returns-3 : tie.Need-returns-3
 unfolding check totalsOf views

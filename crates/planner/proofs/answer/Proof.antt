@@ -1,7 +1,7 @@
 use mathlib.Core.Bool.{true}
 use native.Mathlib.Omega.{arith}
 use Rattle.rules.specs.Job.{limitsOf}
-use Rattle.planner.proofs.Telling.{refusal-printed, run-read, room-read, few-read, either}
+use Rattle.planner.proofs.Telling.{refusal-printed, run-read, room-read, few-read, either-room}
 use borrow.Author.Needs.{needs}
 use Rattle.planner.proofs.answer.Statement.{statement}
 use Rattle.planner.proofs.answer.Tie as tie
@@ -35,7 +35,7 @@ returns c =
     let r = c .before .before .before .before .before .before .before .before .before .before .before .before .read in
     let p = c .before .before .print-refusal .ensures in
     let e = refusal-printed (c .before .before .before .before .before .before .before .before .before .before .before .before .before .before .before .before .before .before .before .before .args .traced) (limitsOf _ _ _ _) _ (r .result) _ (r .ensures .0) (r .ensures .1) _ (c .before .before .before .before .before .before .before .before .before .before .before .before .before .before .before .before .before .before .before .before .args .out .now) _ (c .before .before .before .before .if1 .taken) (p .0) in
-    (e .0, ((λ long. p .1 (either (c .before .before .before .before .before .before .before .before .before .before .before .before .before .before .before .before .before .before .before .before .args .traced) _ _ _ (omega arith) long), e .1), omega arith))
+    (e .0, ((λ long. p .1 (either-room (c .before .before .before .before .before .before .before .before .before .before .before .before .before .before .before .before .before .before .before .before .args .traced) _ _ _ (omega arith) long), e .1), omega arith))
 
 slice-aggregate-print-first : tie.Need-slice-aggregate-print-first
 slice-aggregate-print-first c = search needs

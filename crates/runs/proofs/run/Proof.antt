@@ -6,7 +6,7 @@ use native.Mathlib.Omega.{arith}
 use Rattle.rules.specs.Job.{Job, Limits, limitsOf, asJob, Lent, lentOf}
 use Rattle.tables.proofs.Accepted.{Narrow}
 use Rattle.runs.proofs.PassAfterPass.{Alike}
-use Rattle.runs.proofs.RunOn.{Onward, before-first, toGo, Turned, turned, alike, ended}
+use Rattle.runs.proofs.RunOn.{Onward, before-first, toGo, Turned, turn-made, alike, run-ended}
 use Rattle.runs.proofs.run.Statement.{statement}
 use Rattle.runs.proofs.run.Tie as tie
 use Rattle.runs.proofs.run.⟦Job·MOST-FILES⟧-asked.Lts as files
@@ -59,7 +59,7 @@ atOf p = p .before .before .before .before .before .before .before .before .befo
 abbrev turn : (p : Passed) → (sides : List ℕ) × (left : Lent) × Turned most (jobOf (atOf p)) (lent (atOf p)) (atOf p .loop .sum) (p .pass-once .result) sides left
 turn p =
     let go = sym (p .before .before .before .before .before .before .before .before .before .before .before .goes-on .ensures) ∙ p .before .before .before .before .before .before .before .before .before .before .if1 .taken in
-    (_, _, turned most (jobOf (atOf p)) (lent (atOf p)) narrow (atOf p .loop .inv) go _ _ _ (p .pass-once .ensures))
+    (_, _, turn-made most (jobOf (atOf p)) (lent (atOf p)) narrow (atOf p .loop .inv) go _ _ _ (p .pass-once .ensures))
 
 no-pass-requires : tie.Need-no-pass-requires Inv-loop μ-loop
 no-pass-requires c κs = tt
@@ -116,7 +116,7 @@ same-length-9 : tie.Need-same-length-9 Inv-loop μ-loop
 same-length-9 c = kept (c .before .before) .scratch
 
 returns : tie.Need-returns Inv-loop μ-loop
-returns c = ended most _ _ (c .before .before .loop .inv) (sym (c .before .goes-on .ensures) ∙ c .if1 .left)
+returns c = run-ended most _ _ (c .before .before .loop .inv) (sym (c .before .goes-on .ensures) ∙ c .if1 .left)
 
 pub run-spec : {M : Type 1} → statement M
 run-spec =

@@ -1,22 +1,26 @@
 -- The answer of the check decides: refused, nothing changes; let through, the moves are made one after the other and the lists ended.
 -- The invariant: whatever pass the lists were in when the moves began, it is underway. Assumes nothing.
 use mathlib.Core.Path.{_≡_, refl, ap, _∙_}
-use Prim.Native.Nat.{ℕ, _-_, _<_}
+use Prim.Native.Nat.{ℕ, _-_}
 use native.Mathlib.Omega.{arith}
-use lib.IntN.{pos}
-use lib.ListN.{length, getD, set}
+use lib.IntN.{ℤ}
+use lib.ListN.{length, set}
+use mir.Syntax.{w32}
+use mir.Val.{toZ, ofZ}
 use Rattle.rules.specs.Job.{Job, Limits, Lent, asJob, lentOf}
 use Rattle.rules.specs.Pass.{tries}
 use Rattle.split.specs.declared.progress.Progress.{Progress}
 use Rattle.split.specs.Scanning.{Treated, treated}
 use Rattle.split.specs.Moving.{Board, board, treatMove, moveOne}
 use Rattle.split.proofs.Going.{Going}
+use Rattle.split.proofs.Shifts.{mag-back}
 use Rattle.split.proofs.Playable.{Playable}
-use Rattle.split.proofs.MoveNow.{Turns}
+use Rattle.split.proofs.Bounds.{BoardLong}
+use Rattle.split.proofs.MoveNow.{MoveFits}
 use Rattle.split.proofs.OneMove.{steps-move}
-use Rattle.split.proofs.Played.{same-below, below-less, one-less, Underway, under-long, sides-stay, gains-stay, choosable, playing-next, playing-gain, playing-safe, playing-turns, playing-more, playing-goes, playing-end}
+use Rattle.split.proofs.Played.{same-below, file-fits, count-fits, place-fits, gain-place-fits, one-less, Underway, under-long, sides-stay, gains-stay, choosable, playing-next, playing-gain, playing-safe, playing-fits, playing-more, playing-goes, playing-end}
 use Rattle.split.proofs.PassOnce.{first-under, few-numbers, pass-ends}
-use Rattle.split.proofs.Accepting.{Surveyed, surveyed, cut-is, begins-as, sums-small, playable, pass-refused, pass-done}
+use Rattle.split.proofs.Accepting.{Accepting, accepting, cut-is, begins-as, sums-small, playable, pass-refused, pass-done}
 use Rattle.split.proofs.pass_once.Statement.{statement}
 use Rattle.split.proofs.pass_once.Tie as tie
 
@@ -56,16 +60,16 @@ module _ (t : tie.After-lay-out Inv-loop μ-loop) where
       (s .args .recipes .now) (s .args .kinds .now) (s .args .scratch .now)
 
   -- the job's own limits, and the answer by them
-  abbrev known : (most : Limits) × Surveyed most job lists (t .lay-out .last .1 .1 .1 .1 .1 .1 .0) (t .lay-out .last .1 .1 .1 .1 .1 .1 .1 .0) (t .lay-out .result)
+  abbrev known : (most : Limits) × Accepting most job lists (t .lay-out .last .1 .1 .1 .1 .1 .1 .0) (t .lay-out .last .1 .1 .1 .1 .1 .1 .1 .0) (t .lay-out .result)
   known = (
     _,
-    surveyed _ job lists (t .lay-out .ensures) (record { files = omega arith; recipes = omega arith; pins = omega arith; den = omega arith })
+    accepting _ job lists (t .lay-out .ensures) (record { files = omega arith; recipes = omega arith; pins = omega arith; den = omega arith })
         (λ i. omega (arith, t .before .before .before .before .before .before .before .before .before .before .before .before .before .before .shared-slice-known .given i)),
   )
 
 -- the answer, by the limits
 survey : (t : tie.After-lay-out Inv-loop μ-loop)
-    → Surveyed (known t .0) (job t) (lists t) (t .lay-out .last .1 .1 .1 .1 .1 .1 .0) (t .lay-out .last .1 .1 .1 .1 .1 .1 .1 .0) (t .lay-out .result)
+    → Accepting (known t .0) (job t) (lists t) (t .lay-out .last .1 .1 .1 .1 .1 .1 .0) (t .lay-out .last .1 .1 .1 .1 .1 .1 .1 .0) (t .lay-out .result)
 survey t = known t .1
 
 lay-out-requires : tie.Need-lay-out-requires Inv-loop μ-loop
@@ -78,19 +82,19 @@ same-length : tie.Need-same-length Inv-loop μ-loop
 same-length c = refl
 
 same-length-2 : tie.Need-same-length-2 Inv-loop μ-loop
-same-length-2 c = c .before .before .before .before .before .before .before .lay-out .kept .1 .1 .1 .1 .1 .1 .0
+same-length-2 c = c .before .before .before .before .before .before .lay-out .kept .1 .1 .1 .1 .1 .1 .0
 
 same-length-3 : tie.Need-same-length-3 Inv-loop μ-loop
-same-length-3 c = c .before .before .before .before .before .before .before .lay-out .kept .1 .1 .1 .1 .1 .1 .1 .0
+same-length-3 c = c .before .before .before .before .before .before .lay-out .kept .1 .1 .1 .1 .1 .1 .1 .0
 
 returns : tie.Need-returns Inv-loop μ-loop
-returns c = pass-refused (survey (c .before .before .before .before .before .before .before)) (c .before .if1 .taken) (c .refused .ensures)
+returns c = pass-refused (survey (c .before .before .before .before .before .before)) (c .before .if1 .taken) (c .refused .ensures)
 
 -- ---- once the job is let through
 
 module _ (n : tie.After-new Inv-loop μ-loop) where
   abbrev laid : tie.After-lay-out Inv-loop μ-loop
-  laid = n .before .before .before .before .before .before .before .before
+  laid = n .before .before .before .before .before .before .before
 
   clear : laid .lay-out .result .verdict .number ≡ 0
   clear = n .before .before .if1 .left
@@ -132,19 +136,29 @@ module _ (k : Chosen) where
   abbrev f : ℕ
   f = k .choose .result .file
 
-  turns : f < length (args at .args .sizes .now) → Turns (args at .args .sizes .now) (args at .args .bounds .now) (args at .args .pins .now) f (stands at)
-  turns h = playing-turns (now at) (k .choose .ensures) h
+-- ---- once no move is left and the lists are ended
 
--- ---- once no move is left
+module _ (e : tie.After-figures-of Inv-loop μ-loop) where
+  abbrev last : At
+  last = e .before .before .before .before .before .before .before .before .before .before .before .before .before .before .before .before .before .before .before .before .before .before .before .before .before .before .before .before .before .before .before .before
 
-over : (i : tie.Then2 Inv-loop μ-loop) → let j = job (here (at (i .before))) in Going j (lists (here (at (i .before)))) (length (tries j (j .sides))) (stands (at (i .before)))
-over i = playing-end (now (at (i .before))) (i .before .choose .ensures) (i .if2 .taken)
+  abbrev moved : tie.After-end-moves Inv-loop μ-loop
+  moved = e .before .before .before .before .before .before .before .before .before .before .before .before .before .before .before .before .before .before .before .before .before
+
+  abbrev scans : tie.After-end-scans Inv-loop μ-loop
+  scans = e .before .before .before .before .before .before .before
+
+  over : Going (job (here last)) (lists (here last)) (length (tries (job (here last)) (s (here last) .args .sides .now))) (stands last)
+  over = playing-end (now last) (e .before .before .before .before .before .before .before .before .before .before .before .before .before .before .before .before .before .before .before .before .before .before .before .before .before .before .before .before .choose .ensures) (e .before .before .before .before .before .before .before .before .before .before .before .before .before .before .before .before .before .before .before .before .before .before .before .before .before .before .before .if2 .taken)
+
+  long : BoardLong (job (here last)) (lists (here last)) (stands last)
+  long = under-long (now last)
 
 -- ---- once its recipes are treated
 
 module _ (t : Treats) where
   abbrev goesOn : tie.Else2 Inv-loop μ-loop
-  goesOn = t .before .before .before .before .before .before .before .before .before .before .before .before
+  goesOn = t .before .before .before .before .before .before .before
 
   abbrev choice : Chosen
   choice = goesOn .before
@@ -163,27 +177,33 @@ module _ (t : Treats) where
   number : (of : Progress → ℕ) → of (t .treat-move .result) ≡ of (treatMove (args a .args .sizes .now) (args a .args .bounds .now) (args a .args .pins .now) (f choice) (stands a) .scanned .progress)
   number of = ap (λ (y : Treated). of (y .scanned .progress)) left-is
 
-  gained-is : t .before .before .before .before .before .before .before .before .before .note-choice .last .1 .0 ≡ set (a .loop .gained) (a .loop .p .moves) (getD (a .loop .gains) (f choice) (pos 0))
-  gained-is = t .before .before .before .before .before .before .before .before .before .note-choice .ensures .1 ∙ ap (set (a .loop .gained) (a .loop .p .moves)) (playing-gain (now a) (choice .choose .ensures) (goesOn .if2 .left))
-
 -- ---- once it is noted
 
-module _ (n : tie.After-note-end Inv-loop μ-loop) where
+module _ (n : tie.After-counted Inv-loop μ-loop) where
   abbrev t : Treats
   t = n .before .before .before .before .before .before .before .before .before .before .before .before
 
+  abbrev k : ℕ
+  k = a t .loop .p .moves
+
+  -- the gain as it is read back from the choice
+  abbrev gain : ℤ
+  gain = toZ w32 (ofZ w32 (choice t .choose .result .gain))
+
   abbrev leaves : Board
   leaves =
-      board (t .treat-move .last .1 .0) (t .before .before .before .before .before .before .before .before .before .note-choice .last .0) (t .before .before .before .before .before .before .before .before .before .note-choice .last .1 .0) (n .note-end .last .0) (n .note-end .last .1 .0)
-      (left t .scratch) (left t .scanned .gains) (left t .scanned .recipes) (left t .scanned .kinds) (n .note-end .result)
+      board (t .treat-move .last .1 .0) (set (a t .loop .tried) k (f (choice t))) (set (a t .loop .gained) k gain)
+      (set (a t .loop .cuts) k (t .treat-move .result .cut)) (set (a t .loop .ends) k (t .treat-move .result .scans))
+      (left t .scratch) (left t .scanned .gains) (left t .scanned .recipes) (left t .scanned .kinds) (n .counted .result)
 
   made : leaves ≡ moveOne (args (a t) .args .sizes .now) (args (a t) .args .bounds .now) (args (a t) .args .pins .now) (f (choice t)) (stands (a t))
   made =
       steps-move (args (a t) .args .sizes .now) (args (a t) .args .bounds .now) (args (a t) .args .pins .now) (f (choice t)) (stands (a t)) {y = left t}
-      (t .treat-move .ensures .0) (t .before .before .before .before .before .before .before .before .before .note-choice .ensures .0) (gained-is t) (left-is t) (n .note-end .ensures .0) (n .note-end .ensures .1) (n .note-end .ensures .2)
+      (t .treat-move .ensures .0) (ap (set (a t .loop .gained) k) (mag-back (choice t .choose .result .gain) (n .before .before .before .before .before .before .before .before .before .before .before .before .before .before .before .before .before .before .struct-told .given .1 .0 .1) ∙ playing-gain (now (a t)) (choice t .choose .ensures) (goesOn t .if2 .left)))
+      (left-is t) (n .counted .ensures)
 
 window-of-requires : tie.Need-window-of-requires Inv-loop μ-loop
-window-of-requires c κs = sums-small (survey (c .before .before .before .before .before .before)) (c .if1 .left)
+window-of-requires c κs = sums-small (survey (c .before .before .before .before .before)) (c .if1 .left)
 
 new-requires : tie.Need-new-requires Inv-loop μ-loop
 new-requires c κs = tt
@@ -194,85 +214,104 @@ loop-holds c num den cap l u = u
 choose-requires : tie.Need-choose-requires Inv-loop μ-loop
 choose-requires c κs = let o = choosable (now (c .before .before .before)) in ((o .sides, o .gains, o .locks), ((o .den, o .size), o .holds))
 
-keep-best-requires : tie.Need-keep-best-requires Inv-loop μ-loop
-keep-best-requires c κs = tt
-
 end-moves-requires : tie.Need-end-moves-requires Inv-loop μ-loop
 end-moves-requires c κs = tt
 
-recipe-count-requires : tie.Need-recipe-count-requires Inv-loop μ-loop
-recipe-count-requires c κs = tt
-
-room-of-requires : tie.Need-room-of-requires Inv-loop μ-loop
-room-of-requires c κs = few-numbers (plays (c .before .before .before .before .before .before .before .before .before .before .before .before .before .before .before .before .before .before .before .before .before .before .before .before)) (c .recipe-count .ensures)
+needed-for-requires : tie.Need-needed-for-requires Inv-loop μ-loop
+needed-for-requires c κs = few-numbers (plays (c .before .before .before .before .before .before .before .before .before .before .before .before .before .before .before .before .before .before .before .before .before))
 
 end-scans-requires : tie.Need-end-scans-requires Inv-loop μ-loop
 end-scans-requires c κs = tt
 
+figures-of-requires : tie.Need-figures-of-requires Inv-loop μ-loop
+figures-of-requires c κs = tt
+
 same-length-4 : tie.Need-same-length-4 Inv-loop μ-loop
-same-length-4 c = c .before .before .before .before .before .before .before .before .before .before .before .before .before .before .before .before .before .before .before .before .before .before .before .before .before .before .keep-best .kept .0 ∙ sides-stay (now (c .before .before .before .before .before .before .before .before .before .before .before .before .before .before .before .before .before .before .before .before .before .before .before .before .before .before .before .before .before .before .before .before .before .before))
+same-length-4 c = moved c .end-moves .kept .0 ∙ sides-stay (now (last c))
 
 same-length-5 : tie.Need-same-length-5 Inv-loop μ-loop
-same-length-5 c = gains-stay (now (c .before .before .before .before .before .before .before .before .before .before .before .before .before .before .before .before .before .before .before .before .before .before .before .before .before .before .before .before .before .before .before .before .before .before))
+same-length-5 c = gains-stay (now (last c))
 
 same-length-6 : tie.Need-same-length-6 Inv-loop μ-loop
-same-length-6 c = c .before .before .before .before .before .before .before .before .before .before .before .before .before .before .before .before .before .before .before .end-moves .kept .0 ∙ under-long (now (c .before .before .before .before .before .before .before .before .before .before .before .before .before .before .before .before .before .before .before .before .before .before .before .before .before .before .before .before .before .before .before .before .before .before)) .tried
+same-length-6 c = moved c .end-moves .kept .1 .0 ∙ long c .tried
 
 same-length-7 : tie.Need-same-length-7 Inv-loop μ-loop
-same-length-7 c = c .before .before .before .before .before .before .before .before .before .before .before .before .before .before .before .before .before .before .before .end-moves .kept .1 .0 ∙ under-long (now (c .before .before .before .before .before .before .before .before .before .before .before .before .before .before .before .before .before .before .before .before .before .before .before .before .before .before .before .before .before .before .before .before .before .before)) .gained
+same-length-7 c = moved c .end-moves .kept .1 .1 .0 ∙ long c .gained
 
 same-length-8 : tie.Need-same-length-8 Inv-loop μ-loop
-same-length-8 c = c .before .before .before .before .before .before .before .before .before .before .before .before .before .before .before .before .before .before .before .end-moves .kept .1 .1 .0 ∙ under-long (now (c .before .before .before .before .before .before .before .before .before .before .before .before .before .before .before .before .before .before .before .before .before .before .before .before .before .before .before .before .before .before .before .before .before .before)) .cuts
+same-length-8 c = moved c .end-moves .kept .1 .1 .1 .0 ∙ long c .cuts
 
 same-length-9 : tie.Need-same-length-9 Inv-loop μ-loop
-same-length-9 c = c .before .before .before .before .before .before .before .before .before .before .before .before .before .before .before .before .before .before .before .end-moves .kept .1 .1 .1 .0 ∙ under-long (now (c .before .before .before .before .before .before .before .before .before .before .before .before .before .before .before .before .before .before .before .before .before .before .before .before .before .before .before .before .before .before .before .before .before .before)) .scansSoFar
+same-length-9 c = moved c .end-moves .kept .1 .1 .1 .1 .0 ∙ long c .scansSoFar
 
 same-length-10 : tie.Need-same-length-10 Inv-loop μ-loop
-same-length-10 c = c .before .before .before .before .before .before .end-scans .kept .0 ∙ under-long (now (c .before .before .before .before .before .before .before .before .before .before .before .before .before .before .before .before .before .before .before .before .before .before .before .before .before .before .before .before .before .before .before .before .before .before)) .scannedRecipes
+same-length-10 c = scans c .end-scans .kept .0 ∙ long c .scannedRecipes
 
 same-length-11 : tie.Need-same-length-11 Inv-loop μ-loop
-same-length-11 c = c .before .before .before .before .before .before .end-scans .kept .1 .0 ∙ under-long (now (c .before .before .before .before .before .before .before .before .before .before .before .before .before .before .before .before .before .before .before .before .before .before .before .before .before .before .before .before .before .before .before .before .before .before)) .scannedKinds
+same-length-11 c = scans c .end-scans .kept .1 .0 ∙ long c .scannedKinds
 
 same-length-12 : tie.Need-same-length-12 Inv-loop μ-loop
-same-length-12 c = c .before .before .before .before .before .before .end-scans .kept .1 .1 .0 ∙ under-long (now (c .before .before .before .before .before .before .before .before .before .before .before .before .before .before .before .before .before .before .before .before .before .before .before .before .before .before .before .before .before .before .before .before .before .before)) .scratch
+same-length-12 c = scans c .end-scans .kept .1 .1 .0 ∙ long c .scratch
 
 returns-2 : tie.Need-returns-2 Inv-loop μ-loop
 returns-2 c =
-    let a = c .before .before .before .before .before .before .before .before .before .before .before .before .before .before .before .before .before .before .before .before .before .before .before .before .before .before .before .before .before .before .before .before .before .before in
-    let known = survey (here a) in
-    let clear = clear (a .before) in
+    let known = survey (here (last c)) in
+    let clear = clear (last c .before) in
     pass-done known clear
-    (pass-ends (now a .playable) (over (c .before .before .before .before .before .before .before .before .before .before .before .before .before .before .before .before .before .before .before .before .before .before .before .before .before .before .before .before .before)) (cut-is known clear) (c .before .before .before .before .before .before .before .before .before .before .before .before .before .before .before .before .before .before .before .before .before .before .before .before .before .before .keep-best .ensures) (c .before .before .before .before .before .before .before .before .before .before .before .before .before .before .before .before .before .before .before .end-moves .ensures) (c .before .before .before .before .before .before .before .before .before .before .before .recipe-count .ensures) (c .before .before .before .before .before .before .before .before .before .before .room-of .ensures) (c .before .before .before .before .before .before .end-scans .ensures))
+    (pass-ends (now (last c) .playable) (over c) (cut-is known clear) (c .figures-of .ensures) (moved c .end-moves .ensures) (c .before .before .before .before .before .before .before .before .before .before .before .needed-for .ensures) (scans c .end-scans .ensures))
 
-note-choice-requires : tie.Need-note-choice-requires Inv-loop μ-loop
-note-choice-requires c κs =
-    let i = c .before .before in
-    let m = turns (i .before) (i .if2 .left) in
-    (m .tried, m .gained, below-less (i .if2 .left) (now (at (i .before)) .playable .small .files))
+-- its entries
+module _ (i : tie.Else2 Inv-loop μ-loop) where
+  room : MoveFits (args (at (i .before)) .args .sizes .now) (args (at (i .before)) .args .bounds .now) (args (at (i .before)) .args .pins .now) (f (i .before)) (stands (at (i .before)))
+  room = playing-fits (now (at (i .before))) (i .before .choose .ensures) (i .if2 .left)
+
+cast-tried : tie.Need-cast-tried Inv-loop μ-loop
+cast-tried c = file-fits (c .if2 .left) (now (at (c .before)) .playable .small .files)
+
+mul-tried : tie.Need-mul-tried Inv-loop μ-loop
+mul-tried c = place-fits (room c .few)
+
+slice-write-tried : tie.Need-slice-write-tried Inv-loop μ-loop
+slice-write-tried c = room c .tried
+
+mul-gain : tie.Need-mul-gain Inv-loop μ-loop
+mul-gain c = gain-place-fits (room (c .before) .few)
+
+slice-set-from-gain : tie.Need-slice-set-from-gain Inv-loop μ-loop
+slice-set-from-gain c = room (c .before) .gained
 
 treat-move-requires : tie.Need-treat-move-requires Inv-loop μ-loop
-treat-move-requires c κs = let i = c .before .before .before .before .before .before .before .before .before .before .before in playing-safe (now (at (i .before))) (i .before .choose .ensures) (i .if2 .left)
+treat-move-requires c κs = let i = c .before .before .before .before .before .before in playing-safe (now (at (i .before))) (i .before .choose .ensures) (i .if2 .left)
 
-note-end-requires : tie.Need-note-end-requires Inv-loop μ-loop
-note-end-requires c κs =
-    let t = c .before .before .before .before .before .before .before .before .before .before .before in
-    let m = turns (choice t) (goesOn t .if2 .left) in (
-      m .cuts,
-      m .ends,
-      same-below (number t (λ p. p .cut)) (m .cut),
-      same-below (number t (λ p. p .scans)) (m .scans),
-      same-below (number t (λ p. p .moves)) (m .moves),
-    )
+cast-cuts : tie.Need-cast-cuts Inv-loop μ-loop
+cast-cuts c = let t = c .before .before .before .before .before .before .before .before .before .before in count-fits (number t (λ p. p .cut)) (room (goesOn t) .cut)
+
+mul-cuts : tie.Need-mul-cuts Inv-loop μ-loop
+mul-cuts c = place-fits (room (c .before .before .before .before .before .before .before .before .before .before .before .before .before .before .before .before .before) .few)
+
+slice-write-cuts : tie.Need-slice-write-cuts Inv-loop μ-loop
+slice-write-cuts c = room (c .before .before .before .before .before .before .before .before .before .before .before .before .before .before .before .before .before) .cuts
+
+cast-ends : tie.Need-cast-ends Inv-loop μ-loop
+cast-ends c = let t = c .before .before .before .before .before .before .before .before .before .before .before in count-fits (number t (λ p. p .scans)) (room (goesOn t) .scans)
+
+mul-ends : tie.Need-mul-ends Inv-loop μ-loop
+mul-ends c = place-fits (room (c .before .before .before .before .before .before .before .before .before .before .before .before .before .before .before .before .before .before) .few)
+
+slice-write-ends : tie.Need-slice-write-ends Inv-loop μ-loop
+slice-write-ends c = room (c .before .before .before .before .before .before .before .before .before .before .before .before .before .before .before .before .before .before) .ends
+
+counted-requires : tie.Need-counted-requires Inv-loop μ-loop
+counted-requires c κs = let t = c .before .before .before .before .before .before .before .before .before .before .before in same-below (number t (λ p. p .moves)) (room (goesOn t) .moves)
 
 loop-less : tie.Need-loop-less Inv-loop μ-loop
 loop-less c =
-    let n = c .before .before .before .before in
-    let k = choice (t n) in
-    let h = goesOn (t n) .if2 .left in
-    one-less (playing-next (now (at k)) (k .choose .ensures) h .early) (playing-more (now (at k)) (k .choose .ensures) h {b' = leaves n} (made n))
+    let k = choice (t c) in
+    let h = goesOn (t c) .if2 .left in
+    one-less (playing-next (now (at k)) (k .choose .ensures) h .early) (playing-more (now (at k)) (k .choose .ensures) h {b' = leaves c} (made c))
 
 -- whatever pass was underway when the moves began
-module _ (n : tie.After-note-end Inv-loop μ-loop) (num den cap : ℕ) (l : Lent) where
+module _ (n : tie.After-counted Inv-loop μ-loop) (num den cap : ℕ) (l : Lent) where
   abbrev any : Job
   any = let g = args (a (t n)) .args in asJob (g .sizes .now) (g .sides .now) (g .marks .now) (g .bounds .now) (g .pins .now) num den cap
 
@@ -280,7 +319,7 @@ module _ (n : tie.After-note-end Inv-loop μ-loop) (num den cap : ℕ) (l : Lent
   goes u = playing-goes (a (t n) .loop .inv num den cap l u) (choice (t n) .choose .ensures) (goesOn (t n) .if2 .left) {b' = leaves n} (made n)
 
 loop-again : tie.Need-loop-again Inv-loop μ-loop
-loop-again c num den cap l u = goes (c .before .before .before .before) num den cap l u
+loop-again c num den cap l u = goes c num den cap l u
 
 pub pass-once-spec : {M : Type 1} → statement M
 pass-once-spec =
@@ -298,11 +337,10 @@ pass-once-spec =
     new-requires
     loop-holds
     choose-requires
-    keep-best-requires
     end-moves-requires
-    recipe-count-requires
-    room-of-requires
+    needed-for-requires
     end-scans-requires
+    figures-of-requires
     same-length-4
     same-length-5
     same-length-6
@@ -313,8 +351,18 @@ pass-once-spec =
     same-length-11
     same-length-12
     returns-2
-    note-choice-requires
+    cast-tried
+    mul-tried
+    slice-write-tried
+    mul-gain
+    slice-set-from-gain
     treat-move-requires
-    note-end-requires
+    cast-cuts
+    mul-cuts
+    slice-write-cuts
+    cast-ends
+    mul-ends
+    slice-write-ends
+    counted-requires
     loop-less
     loop-again)

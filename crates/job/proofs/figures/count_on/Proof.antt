@@ -1,20 +1,19 @@
 use mathlib.Core.Path.{ap, _∙_}
-use Prim.Native.Nat.{ℕ, _-_, _+_}
-use native.Mathlib.Omega.{arith}
+use Prim.Native.Nat.{ℕ, _-_}
 use lib.ListN.{length, getD}
 use lib.Dec.{eqb}
-use Rattle.rules.specs.Lists.{bit, count}
+use Rattle.rules.specs.Lists.{bit}
 use Rattle.rules.specs.Split.{onSide, countOn}
-use Rattle.rules.proofs.Count.{bit-le, count-entries, Summed, summed-none, summed-more, summed-end}
+use Rattle.rules.proofs.Count.{Summed, summed-none, summed-bit, summed-entries}
 use borrow.Author.Needs.{needs}
 use Rattle.job.proofs.figures.count_on.Statement.{statement}
 use Rattle.job.proofs.figures.count_on.Tie as tie
 
 abbrev Inv-loop : tie.InvT-loop
-Inv-loop sides side recipe x₀ i₀ x i = Summed (λ k. bit (onSide sides side (getD recipe k 0))) 1 (length recipe) i x
+Inv-loop list table u n₀ k₀ n k = Summed (λ i. bit (onSide table u (getD list i 0))) 1 (length list) k n
 
 abbrev μ-loop : tie.MeasureT-loop
-μ-loop sides side recipe x₀ i₀ x i = length recipe - i
+μ-loop list table u n₀ k₀ n k = length list - k
 
 loop-holds : tie.Need-loop-holds Inv-loop μ-loop
 loop-holds c = summed-none
@@ -28,20 +27,17 @@ shared-slice-read-wide c = search needs
 wide-requires : tie.Need-wide-requires Inv-loop μ-loop
 wide-requires c κs = search needs
 
-mul-bit : tie.Need-mul-bit Inv-loop μ-loop
-mul-bit c = omega (arith, c .wide .ensures, c .before .before .before .before .before .before .pre (c .before .before .before .loop .i) (omega arith))
-
-shared-slice-read-bit : tie.Need-shared-slice-read-bit Inv-loop μ-loop
-shared-slice-read-bit c = omega (arith, c .before .wide .ensures, c .before .before .before .before .before .before .before .pre (c .before .before .before .before .loop .i) (omega arith))
+entry-at-requires : tie.Need-entry-at-requires Inv-loop μ-loop
+entry-at-requires c κs = search needs
 
 bit-requires : tie.Need-bit-requires Inv-loop μ-loop
 bit-requires c κs = search needs
 
-add-x : tie.Need-add-x Inv-loop μ-loop
-add-x c = search needs
+add-n : tie.Need-add-n Inv-loop μ-loop
+add-n c = search needs
 
-add-i : tie.Need-add-i Inv-loop μ-loop
-add-i c = search needs
+add-k : tie.Need-add-k Inv-loop μ-loop
+add-k c = search needs
 
 loop-less : tie.Need-loop-less Inv-loop μ-loop
 loop-less c = search needs
@@ -50,16 +46,13 @@ loop-again : tie.Need-loop-again Inv-loop μ-loop
 loop-again c =
     let l = c .before .before .before .before .before in
     let a = l .before .before .before .args in
-    summed-more (l .loop .inv) _ (omega arith)
-    (ap (λ (k : ℕ). l .loop .x + k)
-    (c .bit .ensures .0 ∙ ap (λ (f : ℕ). bit (eqb (getD (a .sides .now) f 0) (a .side))) (c .before .before .wide .ensures)))
-    (bit-le (onSide (a .sides .now) (a .side) (getD (a .recipe .now) (l .loop .i) 0)))
+    summed-bit (λ i. onSide (a .table .now) (a .u) (getD (a .list .now) i 0)) (l .loop .inv) (c .before .before .before .before .loop-test .taken)
+    (c .bit .ensures .0
+    ∙ ap (λ (x : ℕ). bit (eqb x (a .u))) (c .before .entry-at .ensures ∙ ap (λ (i : ℕ). getD (a .table .now) i 0) (c .before .before .wide .ensures)))
 
 returns : tie.Need-returns Inv-loop μ-loop
-unfolding countOn count
-returns c =
-    let a = c .before .before .before .before .args in
-    summed-end (c .before .loop .inv) (omega arith) ∙ count-entries (onSide (a .sides .now) (a .side)) (a .recipe .now)
+unfolding countOn
+returns c = summed-entries _ _ (c .before .loop .inv) (c .loop-test .left)
 
 pub count-on-spec : {M : Type 1} → statement M
 count-on-spec =
@@ -71,11 +64,10 @@ count-on-spec =
     mul-wide
     shared-slice-read-wide
     wide-requires
-    mul-bit
-    shared-slice-read-bit
+    entry-at-requires
     bit-requires
-    add-x
-    add-i
+    add-n
+    add-k
     loop-less
     loop-again
     returns)

@@ -1,11 +1,10 @@
 use mathlib.Core.Path.{ap, _∙_}
-use Prim.Native.Nat.{ℕ, _+_, _-_}
+use Prim.Native.Nat.{_-_}
 use native.Mathlib.Omega.{arith}
 use Rattle.rules.specs.Lists.{bit, count}
 use Rattle.rules.specs.Job.{viewOf, views}
 use Rattle.rules.specs.Split.{isCut, cut}
-use Rattle.rules.proofs.Count.{bit-le, count-mapped, Summed, summed-none, summed-more, summed-end}
-use Rattle.rules.proofs.Views.{view-within}
+use Rattle.rules.proofs.Count.{count-mapped, Summed, summed-none, summed-bit, summed-end}
 use borrow.Author.Needs.{needs}
 use Rattle.job.proofs.figures.cut.Statement.{statement}
 use Rattle.job.proofs.figures.cut.Tie as tie
@@ -26,7 +25,7 @@ view-requires : tie.Need-view-requires Inv-loop μ-loop
 view-requires c κs = search needs
 
 is-cut-requires : tie.Need-is-cut-requires Inv-loop μ-loop
-is-cut-requires c κs = rw (c .view .ensures) (view-within _ _ _ _ (c .before .before .before .before .before .before .before .pre))
+is-cut-requires c κs = search needs
 
 bit-requires : tie.Need-bit-requires Inv-loop μ-loop
 bit-requires c κs = search needs
@@ -44,10 +43,8 @@ loop-again : tie.Need-loop-again Inv-loop μ-loop
 loop-again c =
     let l = c .before .before .before .before in
     let a = l .before .before .before .before .before .args in
-    summed-more (l .loop .inv) _ (omega arith)
-    (ap (λ (k : ℕ). l .loop .x + k)
-    (c .bit .ensures .0 ∙ ap bit (c .before .is-cut .ensures ∙ ap (isCut (a .sides .now)) (c .before .before .view .ensures))))
-    (bit-le (isCut (a .sides .now) (viewOf (a .bounds .now) (a .pins .now) (l .loop .j))))
+    summed-bit (λ k. isCut (a .sides .now) (viewOf (a .bounds .now) (a .pins .now) k)) (l .loop .inv) (omega arith)
+    (c .bit .ensures .0 ∙ ap bit (c .before .is-cut .ensures ∙ ap (isCut (a .sides .now)) (c .before .before .view .ensures)))
 
 returns : tie.Need-returns Inv-loop μ-loop
 unfolding cut views count

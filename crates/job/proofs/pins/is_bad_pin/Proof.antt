@@ -1,3 +1,7 @@
+use mathlib.Core.Path.{ap, ap₂}
+use Prim.Native.Nat.{ℕ}
+use mathlib.Core.Bool.{_||_}
+use lib.Dec.{leb, ltb}
 use borrow.Author.Needs.{needs}
 use Rattle.job.proofs.pins.is_bad_pin.Statement.{statement}
 use Rattle.job.proofs.pins.is_bad_pin.Tie as tie
@@ -15,7 +19,9 @@ first-same-requires : tie.Need-first-same-requires
 first-same-requires c κs = search needs
 
 returns : tie.Need-returns
-returns c = rw (← c .first-same .ensures, ← c .before .wide .ensures)
+returns c =
+    let a = c .before .before .before .before .args in
+    ap₂ _||_ (ap (leb (a .files)) (c .before .wide .ensures)) (ap (λ (i : ℕ). ltb i (a .k)) (c .first-same .ensures))
 
 pub is-bad-pin-spec : {M : Type 1} → statement M
 is-bad-pin-spec =

@@ -1,53 +1,46 @@
-use mathlib.Core.Path.{_∙_}
-use Rattle.rules.specs.Check.{check7to9}
-use Rattle.rules.proofs.Verdicts.{chain-stop, chain-go}
+use mathlib.Core.Path.{ap₂, _∙_}
+use Rattle.rules.specs.Check.{_orElse_, check7to9}
 use Rattle.job.proofs.Whole.{ratio-is, free-is, balance-is}
 use borrow.Author.Needs.{needs}
 use Rattle.job.proofs.verdict.check7to9.Statement.{statement}
 use Rattle.job.proofs.verdict.check7to9.Tie as tie
 
 check7-requires : tie.Need-check7-requires
-check7-requires c κs = search needs
-
-returns : tie.Need-returns
-unfolding check7to9
-returns c = λ job has. chain-stop _ (c .before .before .check7 .ensures ∙ ratio-is has _) (c .if1 .taken)
+check7-requires c κs = tt
 
 refuse-if-requires : tie.Need-refuse-if-requires
-refuse-if-requires c κs = search needs
-
-returns-2 : tie.Need-returns-2
-unfolding check7to9
-returns-2 c =
-    λ job has.
-    let v8 = c .before .before in
-    let v7 = v8 .before .before .before .before in
-    chain-go (v7 .check7 .ensures ∙ ratio-is has _) (v8 .before .before .if1 .left) (chain-stop _ (v8 .refuse-if .ensures ∙ free-is has) (c .if2 .taken))
+refuse-if-requires c κs = tt
 
 is-balanced-requires : tie.Need-is-balanced-requires
 is-balanced-requires c κs = search needs
 
 refuse-if-requires-2 : tie.Need-refuse-if-requires-2
-refuse-if-requires-2 c κs = search needs
+refuse-if-requires-2 c κs = tt
 
-returns-3 : tie.Need-returns-3
+or-else-requires : tie.Need-or-else-requires
+or-else-requires c κs = tt
+
+or-else-requires-2 : tie.Need-or-else-requires-2
+or-else-requires-2 c κs = tt
+
+returns : tie.Need-returns
 unfolding check7to9
-returns-3 c =
+returns c =
     λ job has.
-    let v8 = c .before .before .before .before in
-    let v7 = v8 .before .before .before .before in
-    chain-go (v7 .check7 .ensures ∙ ratio-is has _) (v8 .before .before .if1 .left)
-    (chain-go (v8 .refuse-if .ensures ∙ free-is has) (c .before .before .if2 .left)
-    (c .refuse-if2 .ensures ∙ rw (c .before .is-balanced .ensures) (balance-is has)))
+    let v9 = c .before .before in
+    let v8 = v9 .before .before in
+    let v7 = v8 .before .before in
+    c .or-else2 .ensures ∙ ap₂ _orElse_ (v7 .check7 .ensures ∙ ratio-is has _)
+    (c .before .or-else .ensures ∙ ap₂ _orElse_ (v8 .refuse-if .ensures ∙ free-is has) (v9 .refuse-if2 .ensures ∙ rw (v9 .before .is-balanced .ensures) (balance-is has)))
 
 pub check7to9-spec : {M : Type 1} → statement M
 check7to9-spec =
     tie.close
     (tie.spec
     check7-requires
-    returns
     refuse-if-requires
-    returns-2
     is-balanced-requires
     refuse-if-requires-2
-    returns-3)
+    or-else-requires
+    or-else-requires-2
+    returns)

@@ -1,6 +1,6 @@
 use Prim.Native.Nat.{_-_}
 use native.Mathlib.Omega.{arith}
-use Rattle.report.specs.Tracing.{movesOf}
+use Rattle.report.specs.Tracing.{moveLists}
 use Rattle.report.proofs.Traces.{Moving, moving-none, moving-order, moving-more, moving-end, moving-short}
 use Rattle.report.proofs.Laying.{laid-length}
 use borrow.Author.Needs.{needs}
@@ -8,7 +8,7 @@ use Rattle.report.proofs.moves.put_moves.Statement.{statement}
 use Rattle.report.proofs.moves.put_moves.Tie as tie
 
 abbrev Inv-loop : tie.InvT-loop
-Inv-loop out₀ at n tried gained cuts ends recipes kinds next₀ first₀ i₀ out next first i = Moving (movesOf tried gained cuts ends recipes kinds) n at out₀ i first next out
+Inv-loop out₀ at n tried gained cuts ends recipes kinds next₀ first₀ i₀ out next first i = Moving (moveLists tried gained cuts ends recipes kinds) n at out₀ i first next out
 
 abbrev μ-loop : tie.MeasureT-loop
 μ-loop out₀ at n tried gained cuts ends recipes kinds next₀ first₀ i₀ out next first i = n - i

@@ -1,26 +1,35 @@
-use mathlib.Core.Path.{sym}
+use native.Mathlib.Omega.{arith}
 use Rattle.rules.specs.Report.{text}
-use Rattle.report.proofs.Lines.{line-of}
-use Rattle.report.proofs.Traces.{scan-length}
-use Rattle.report.proofs.Laying.{near-short, near-as, ends-short, laid-as}
+use Rattle.report.specs.Laying.{widest, longest}
+use Rattle.report.proofs.Traces.{scan-form}
+use Rattle.report.proofs.Laying.{laid-as}
 use borrow.Author.Needs.{needs}
 use Rattle.report.proofs.moves.put_scan.Statement.{statement}
 use Rattle.report.proofs.moves.put_scan.Tie as tie
 
-slice-aggregate-put-line2 : tie.Need-slice-aggregate-put-line2
-slice-aggregate-put-line2 c = search needs
+slice-aggregate-put-form : tie.Need-slice-aggregate-put-form
+slice-aggregate-put-form c = search needs
 
-put-line2-requires : tie.Need-put-line2-requires
-unfolding text
-put-line2-requires c κs = near-as (sym (line-of "scan" _)) (near-short (scan-length (c .before .before .before .args .recipe) (c .before .before .before .args .kind) (search needs) (search needs)) (c .before .before .before .pre))
+slice-aggregate-put-form-2 : tie.Need-slice-aggregate-put-form-2
+slice-aggregate-put-form-2 c = search needs
+
+put-form-requires : tie.Need-put-form-requires
+unfolding widest longest
+put-form-requires c κs = omega (arith, c .before .before .before .before .pre)
 
 same-length : tie.Need-same-length
 same-length c = search needs
 
 returns : tie.Need-returns
-unfolding text
-returns c = let l = laid-as (line-of "scan" _) (c .before .before .put-line2 .ensures) in (l, ends-short (scan-length (c .before .before .before .before .before .before .args .recipe) (c .before .before .before .before .before .before .args .kind) (search needs) (search needs)) l)
+unfolding text widest longest
+returns c = (laid-as (scan-form (c .before .before .before .before .before .before .before .args .recipe) (c .before .before .before .before .before .before .before .args .kind)) (c .before .before .put-form .ensures .0), omega (arith, c .before .before .put-form .ensures .1))
 
 pub put-scan-spec : {M : Type 1} → statement M
 put-scan-spec =
-    tie.close (tie.spec slice-aggregate-put-line2 put-line2-requires same-length returns)
+    tie.close
+    (tie.spec
+    slice-aggregate-put-form
+    slice-aggregate-put-form-2
+    put-form-requires
+    same-length
+    returns)

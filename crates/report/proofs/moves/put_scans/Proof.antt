@@ -1,6 +1,6 @@
 use Prim.Native.Nat.{_-_}
 use native.Mathlib.Omega.{arith}
-use Rattle.report.specs.Tracing.{scansOf}
+use Rattle.report.specs.Tracing.{scanLists}
 use Rattle.report.proofs.Traces.{Scanning, scanning-none, scanning-more, scanning-end, scanning-short}
 use Rattle.report.proofs.Laying.{laid-length}
 use borrow.Author.Needs.{needs}
@@ -8,7 +8,7 @@ use Rattle.report.proofs.moves.put_scans.Statement.{statement}
 use Rattle.report.proofs.moves.put_scans.Tie as tie
 
 abbrev Inv-loop : tie.InvT-loop
-Inv-loop out₀ at recipes kinds first end a n next₀ k₀ out next k = Scanning (scansOf recipes kinds) a n at out₀ k next out
+Inv-loop out₀ at recipes kinds first end a n next₀ k₀ out next k = Scanning (scanLists recipes kinds) a n at out₀ k next out
 
 abbrev μ-loop : tie.MeasureT-loop
 μ-loop out₀ at recipes kinds first end a n next₀ k₀ out next k = n - k

@@ -1,7 +1,8 @@
 use native.Mathlib.Omega.{arith}
-use Rattle.rules.proofs.Digits.{long-digits}
-use Rattle.report.proofs.Gains.{signed-low, signed-high, signed-length}
-use Rattle.report.proofs.Laying.{ends-short, laid-as, laid-more}
+use Rattle.rules.specs.Report.{text}
+use Rattle.report.specs.Laying.{widest, longest}
+use Rattle.report.proofs.Gains.{signed-low, signed-high}
+use Rattle.report.proofs.Laying.{laid-as}
 use borrow.Author.Needs.{needs}
 use Rattle.report.proofs.moves.put_signed.Statement.{statement}
 use Rattle.report.proofs.moves.put_signed.Tie as tie
@@ -9,40 +10,52 @@ use Rattle.report.proofs.moves.put_signed.Tie as tie
 magnitude-requires : tie.Need-magnitude-requires
 magnitude-requires c κs = search needs
 
-slice-aggregate-put-text : tie.Need-slice-aggregate-put-text
-slice-aggregate-put-text c = search needs
+slice-aggregate-put-form : tie.Need-slice-aggregate-put-form
+slice-aggregate-put-form c = search needs
 
-put-text-requires : tie.Need-put-text-requires
-put-text-requires c κs = search needs
+slice-aggregate-put-form-2 : tie.Need-slice-aggregate-put-form-2
+slice-aggregate-put-form-2 c = search needs
 
-put-number-requires : tie.Need-put-number-requires
-put-number-requires c κs = record { near = omega (arith, (c .before .before .before .before .before .before .before .before .before .pre), c .before .before .before .put-text .ensures .ends, long-digits (c .before .before .before .before .before .before .before .magnitude .result) (search needs)) }
+put-form-requires : tie.Need-put-form-requires
+unfolding widest longest
+put-form-requires c κs = omega (arith, c .before .before .before .before .before .before .pre)
 
 same-length : tie.Need-same-length
 same-length c = search needs
 
 returns : tie.Need-returns
-returns c = let l = laid-as (signed-low (c .before .before .before .before .before .before .before .before .before .before .before .before .args .gain) _ (c .before .before .before .before .before .before .before .before .before .before .before .before .fits .gain) (c .before .before .before .before .before .before .before .before .before .before .magnitude .ensures) (c .before .before .before .before .before .before .before .before .before .if1 .taken)) (laid-more (c .before .before .before .before .before .before .put-text .ensures) (c .before .before .put-number .ensures)) in (l, ends-short (signed-length (c .before .before .before .before .before .before .before .before .before .before .before .before .args .gain) (c .before .before .before .before .before .before .before .before .before .before .before .before .fits .gain)) l)
+unfolding text widest longest
+returns c = (laid-as (signed-low (c .before .before .before .before .before .before .before .before .before .args .gain) _ (c .before .before .before .before .before .before .before .before .before .fits .gain) (c .before .before .before .before .before .before .before .magnitude .ensures) (c .before .before .before .before .before .before .if1 .taken)) (c .before .before .put-form .ensures .0), omega (arith, c .before .before .put-form .ensures .1))
 
-put-spaced-requires : tie.Need-put-spaced-requires
-put-spaced-requires c κs = record { near = omega (arith, (c .before .before .before .before .pre), long-digits (c .before .before .magnitude .result) (search needs)) }
+slice-aggregate-put-form-3 : tie.Need-slice-aggregate-put-form-3
+slice-aggregate-put-form-3 c = search needs
+
+slice-aggregate-put-form-4 : tie.Need-slice-aggregate-put-form-4
+slice-aggregate-put-form-4 c = search needs
+
+put-form-requires-2 : tie.Need-put-form-requires-2
+unfolding widest longest
+put-form-requires-2 c κs = omega (arith, c .before .before .before .before .before .before .pre)
 
 same-length-2 : tie.Need-same-length-2
 same-length-2 c = search needs
 
 returns-2 : tie.Need-returns-2
-returns-2 c = let l = laid-as (signed-high (c .before .before .before .before .before .before .before .args .gain) _ (c .before .before .before .before .before .before .before .fits .gain) (c .before .before .before .before .before .magnitude .ensures) (c .before .before .before .before .if1 .left)) (c .before .before .put-spaced .ensures) in (l, ends-short (signed-length (c .before .before .before .before .before .before .before .args .gain) (c .before .before .before .before .before .before .before .fits .gain)) l)
+unfolding text widest longest
+returns-2 c = (laid-as (signed-high (c .before .before .before .before .before .before .before .before .before .args .gain) _ (c .before .before .before .before .before .before .before .before .before .fits .gain) (c .before .before .before .before .before .before .before .magnitude .ensures) (c .before .before .before .before .before .before .if1 .left)) (c .before .before .put-form2 .ensures .0), omega (arith, c .before .before .put-form2 .ensures .1))
 
 pub put-signed-spec : {M : Type 1} → statement M
 put-signed-spec =
     tie.close
     (tie.spec
     magnitude-requires
-    slice-aggregate-put-text
-    put-text-requires
-    put-number-requires
+    slice-aggregate-put-form
+    slice-aggregate-put-form-2
+    put-form-requires
     same-length
     returns
-    put-spaced-requires
+    slice-aggregate-put-form-3
+    slice-aggregate-put-form-4
+    put-form-requires-2
     same-length-2
     returns-2)

@@ -1,6 +1,6 @@
 use Prim.Native.Nat.{_-_}
 use Rattle.report.specs.Tracing.{endsOf}
-use Rattle.report.proofs.Traces.{Ending, ending-none, ending-more, ending-hit, ending-end}
+use Rattle.report.proofs.Traces.{Ending, ending-short, ending-none, ending-more, ending-hit, ending-end}
 use borrow.Author.Needs.{needs}
 use Rattle.report.proofs.pass.holds_scans.Statement.{statement}
 use Rattle.report.proofs.pass.holds_scans.Tie as tie
@@ -10,6 +10,9 @@ Inv-loop n ends recipes kinds m first₀ i₀ first i = Ending (endsOf ends reci
 
 abbrev μ-loop : tie.MeasureT-loop
 μ-loop n ends recipes kinds m first₀ i₀ first i = m - i
+
+returns : tie.Need-returns Inv-loop μ-loop
+returns c = ending-short (endsOf (c .before .before .before .before .args .ends .now) (c .before .before .before .before .args .recipes .now) (c .before .before .before .before .args .kinds .now)) (c .before .before .before .before .args .n) (c .if1 .taken)
 
 loop-holds : tie.Need-loop-holds Inv-loop μ-loop
 loop-holds c = ending-none
@@ -23,8 +26,8 @@ shared-slice-read-end c = search needs
 is-bad-end-requires : tie.Need-is-bad-end-requires Inv-loop μ-loop
 is-bad-end-requires c κs = search needs
 
-returns : tie.Need-returns Inv-loop μ-loop
-returns c = ending-hit (c .before .before .before .before .loop .inv) (c .before .before .before .loop-test .taken) (c .before .is-bad-end .ensures) (c .if1 .taken)
+returns-2 : tie.Need-returns-2 Inv-loop μ-loop
+returns-2 c = ending-hit (c .before .before .before .before .loop .inv) (c .before .before .before .before .before .if1 .left) (c .before .before .before .loop-test .taken) (c .before .is-bad-end .ensures) (c .if2 .taken)
 
 add-i : tie.Need-add-i Inv-loop μ-loop
 add-i c = search needs
@@ -33,10 +36,10 @@ loop-less : tie.Need-loop-less Inv-loop μ-loop
 loop-less c = search needs
 
 loop-again : tie.Need-loop-again Inv-loop μ-loop
-loop-again c = ending-more (c .before .before .before .before .loop .inv) (c .before .before .before .loop-test .taken) (c .before .is-bad-end .ensures) (c .if1 .left)
+loop-again c = ending-more (c .before .before .before .before .loop .inv) (c .before .before .before .loop-test .taken) (c .before .is-bad-end .ensures) (c .if2 .left)
 
-returns-2 : tie.Need-returns-2 Inv-loop μ-loop
-returns-2 c = ending-end (c .before .loop .inv) (c .loop-test .left)
+returns-3 : tie.Need-returns-3 Inv-loop μ-loop
+returns-3 c = ending-end (c .before .loop .inv) (c .before .before .if1 .left) (c .loop-test .left)
 
 pub holds-scans-spec : {M : Type 1} → statement M
 holds-scans-spec =
@@ -44,12 +47,13 @@ holds-scans-spec =
     (tie.spec
     Inv-loop
     μ-loop
+    returns
     loop-holds
     mul-end
     shared-slice-read-end
     is-bad-end-requires
-    returns
+    returns-2
     add-i
     loop-less
     loop-again
-    returns-2)
+    returns-3)

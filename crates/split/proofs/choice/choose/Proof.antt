@@ -14,7 +14,7 @@ use borrow.Author.Needs.{needs, sfits-of}
 use Rattle.rules.proofs.Tests.{and-yes}
 use Rattle.tables.specs.Zones.{locksAt, part}
 use Rattle.split.specs.Best.{noLess, rivalIn, challenged}
-use Rattle.split.proofs.FilesPassed.{product-fits, AtRival, next, next-rival, passed-none, passed-more, at-rival, passed-all}
+use Rattle.split.proofs.FilesPassed.{product-fits, AtRival, nextBest, next-rival, files-none, files-more, at-rival, files-all}
 use Rattle.split.proofs.choice.choose.Statement.{statement}
 use Rattle.split.proofs.choice.choose.Tie as tie
 
@@ -43,7 +43,7 @@ next-rival-requires : tie.Need-next-rival-requires Inv-loop μ-loop
 next-rival-requires c κs = let s = c .before .before .before in (s .pre .0 .1, s .pre .0 .2, omega arith)
 
 loop-holds : tie.Need-loop-holds Inv-loop μ-loop
-loop-holds c = at-rival passed-none (c .next-rival .ensures)
+loop-holds c = at-rival files-none (c .next-rival .ensures)
 
 mul-size-after : tie.Need-mul-size-after Inv-loop μ-loop
 mul-size-after c = search needs
@@ -104,7 +104,7 @@ next-rival-requires-2 c κs =
 kept : (c : tie.After-challenge Inv-loop μ-loop)
     → let s = entry (looked (c .before)) in
     let l = looked (c .before) .loop in
-    c .challenge .result ≡ next (s .args .window) (s .args .size) (s .args .sizes .now) (s .args .sides .now) (locksOf s) (s .args .gains .now) (l .best) (l .f)
+    c .challenge .result ≡ nextBest (s .args .window) (s .args .size) (s .args .sizes .now) (s .args .sides .now) (locksOf s) (s .args .gains .now) (l .best) (l .f)
 kept c =
     let s = entry (looked (c .before)) in
     let l = looked (c .before) .loop in
@@ -118,11 +118,11 @@ loop-less c = omega (arith, c .next-rival2 .ensures .outdone .least, c .before .
 loop-again : tie.Need-loop-again Inv-loop μ-loop
 loop-again c =
     at-rival
-    (rw (kept (c .before)) (passed-more (c .before .before .before .before .before .before .loop-test .taken) (looked (c .before .before) .loop .inv .passed)))
+    (rw (kept (c .before)) (files-more (c .before .before .before .before .before .before .loop-test .taken) (looked (c .before .before) .loop .inv .passed)))
     (c .next-rival2 .ensures)
 
 returns : tie.Need-returns Inv-loop μ-loop
-returns c = passed-all (c .loop-test .left) (c .before .loop .inv .passed)
+returns c = files-all (c .loop-test .left) (c .before .loop .inv .passed)
 
 pub choose-spec : {M : Type 1} → statement M
 choose-spec =

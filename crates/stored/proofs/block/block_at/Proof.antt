@@ -15,25 +15,25 @@ abbrev μ-loop : tie.MeasureT-loop
 μ-loop bytes b at block₀ i₀ block i = 512 - i
 
 mul-at : tie.Need-mul-at Inv-loop μ-loop
-mul-at c = search needs
+mul-at c = omega arith
 
 loop-holds : tie.Need-loop-holds Inv-loop μ-loop
 loop-holds c = search needs
 
 add-block : tie.Need-add-block Inv-loop μ-loop
-add-block c = search needs
+add-block c = omega arith
 
 shared-slice-read-block : tie.Need-shared-slice-read-block Inv-loop μ-loop
-shared-slice-read-block c = search needs
+shared-slice-read-block c = omega arith
 
 array-write-block : tie.Need-array-write-block Inv-loop μ-loop
-array-write-block c = search needs
+array-write-block c = omega arith
 
 add-i : tie.Need-add-i Inv-loop μ-loop
-add-i c = search needs
+add-i c = omega arith
 
 loop-less : tie.Need-loop-less Inv-loop μ-loop
-loop-less c = search needs
+loop-less c = omega arith
 
 loop-again : tie.Need-loop-again Inv-loop μ-loop
 loop-again c =

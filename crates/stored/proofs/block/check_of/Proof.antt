@@ -20,17 +20,17 @@ unfolding weigh
 loop-holds c = (search needs, refl, search needs)
 
 add-sum : tie.Need-add-sum Inv-loop μ-loop
-add-sum c = search needs
+add-sum c = omega arith
 
-element-copy-out-wide : tie.Need-element-copy-out-wide Inv-loop μ-loop
-element-copy-out-wide c = search needs
+element-copy-out-byte : tie.Need-element-copy-out-byte Inv-loop μ-loop
+element-copy-out-byte c = omega arith
 
-wide-requires : tie.Need-wide-requires Inv-loop μ-loop
-wide-requires c κs = search needs
+byte-requires : tie.Need-byte-requires Inv-loop μ-loop
+byte-requires c κs = tt
 
 -- the term of a turn
-term : (c : tie.After-wide Inv-loop μ-loop) → (c .before .before .before .loop .i + 1) * c .wide .result ≤ 130050
-term c = mul-bound (c .before .before .before .loop .i + 1) (c .wide .result) 510 255 (omega arith) (omega arith)
+term : (c : tie.After-byte Inv-loop μ-loop) → (c .before .before .before .loop .i + 1) * c .byte .result ≤ 130050
+term c = mul-bound (c .before .before .before .loop .i + 1) (c .byte .result) 510 255 (omega arith) (omega arith)
 
 mul-sum : tie.Need-mul-sum Inv-loop μ-loop
 mul-sum c = omega (arith, term c)
@@ -39,20 +39,20 @@ add-sum-2 : tie.Need-add-sum-2 Inv-loop μ-loop
 add-sum-2 c = omega (arith, term c)
 
 add-i : tie.Need-add-i Inv-loop μ-loop
-add-i c = search needs
+add-i c = omega arith
 
 loop-less : tie.Need-loop-less Inv-loop μ-loop
-loop-less c = search needs
+loop-less c = omega arith
 
 loop-again : tie.Need-loop-again Inv-loop μ-loop
 loop-again c =
     let l = c .before .before .before .loop in
     let b = c .before .before .before .before .args .block .now in
-    let e : c .wide .result ≡ getD b (l .i) 0 = c .wide .ensures .0 in
+    let e : c .byte .result ≡ getD b (l .i) 0 = c .byte .ensures .0 in
     (omega arith, rw (weigh-more b (l .i), ← e) (omega arith), omega (arith, term c))
 
 cast-result : tie.Need-cast-result Inv-loop μ-loop
-cast-result c = search needs
+cast-result c = omega arith
 
 returns : tie.Need-returns Inv-loop μ-loop
 unfolding blockCheck
@@ -69,8 +69,8 @@ check-of-spec =
     μ-loop
     loop-holds
     add-sum
-    element-copy-out-wide
-    wide-requires
+    element-copy-out-byte
+    byte-requires
     mul-sum
     add-sum-2
     add-i

@@ -1,9 +1,7 @@
-use mathlib.Core.Path.{sym, _∙_}
 use Prim.Native.Nat.{_-_}
 use native.Mathlib.Omega.{arith}
-use borrow.Author.Needs.{needs}
-use Rattle.stored.specs.Steps.{badSecond}
 use Rattle.rules.proofs.Searches.{Passed, passed-none, passed-more, passed-some, passed-no}
+use Rattle.stored.specs.Steps.{badSecond}
 use Rattle.stored.proofs.block.has_bad_second.Statement.{statement}
 use Rattle.stored.proofs.block.has_bad_second.Tie as tie
 
@@ -16,20 +14,29 @@ abbrev μ-loop : tie.MeasureT-loop
 loop-holds : tie.Need-loop-holds Inv-loop μ-loop
 loop-holds c = passed-none
 
-is-bad-second-requires : tie.Need-is-bad-second-requires Inv-loop μ-loop
-is-bad-second-requires c κs = search needs
+mul-if1 : tie.Need-mul-if1 Inv-loop μ-loop
+mul-if1 c = omega arith
+
+mul-value-in : tie.Need-mul-value-in Inv-loop μ-loop
+mul-value-in c = omega arith
+
+add-value-in : tie.Need-add-value-in Inv-loop μ-loop
+add-value-in c = omega arith
+
+value-in-requires : tie.Need-value-in-requires Inv-loop μ-loop
+value-in-requires c κs = omega arith
 
 returns : tie.Need-returns Inv-loop μ-loop
-returns c = passed-some (c .before .before .before .loop .inv) (omega arith) (sym (c .before .is-bad-second .ensures) ∙ c .if1 .taken)
+returns c = passed-some (c .before .before .before .loop .inv) (omega arith) (rw (← c .before .value-in .ensures) (c .if1 .taken))
 
 add-f : tie.Need-add-f Inv-loop μ-loop
-add-f c = search needs
+add-f c = omega arith
 
 loop-less : tie.Need-loop-less Inv-loop μ-loop
-loop-less c = search needs
+loop-less c = omega arith
 
 loop-again : tie.Need-loop-again Inv-loop μ-loop
-loop-again c = passed-more (c .before .before .before .loop .inv) (omega arith) (sym (c .before .is-bad-second .ensures) ∙ c .if1 .left)
+loop-again c = passed-more (c .before .before .before .loop .inv) (omega arith) (rw (← c .before .value-in .ensures) (c .if1 .left))
 
 returns-2 : tie.Need-returns-2 Inv-loop μ-loop
 returns-2 c = passed-no (c .before .loop .inv) (omega arith)
@@ -41,7 +48,10 @@ has-bad-second-spec =
     Inv-loop
     μ-loop
     loop-holds
-    is-bad-second-requires
+    mul-if1
+    mul-value-in
+    add-value-in
+    value-in-requires
     returns
     add-f
     loop-less

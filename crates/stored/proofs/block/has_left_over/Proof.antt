@@ -5,10 +5,9 @@ use mathlib.Core.List.{List}
 use native.Mathlib.Omega.{arith}
 use borrow.Author.Tests.{lt-leb, le-leb, ne-eqb, eq-eqb}
 use borrow.Author.Count.{below-more}
-use borrow.Author.Needs.{needs}
 use Rattle.rules.specs.Stored.{valueIn}
-use Rattle.stored.specs.Steps.{leftOver}
 use Rattle.rules.proofs.Searches.{some-here, some-none}
+use Rattle.stored.specs.Steps.{leftOver}
 use Rattle.stored.proofs.block.has_left_over.Statement.{statement}
 use Rattle.stored.proofs.block.has_left_over.Tie as tie
 
@@ -28,7 +27,7 @@ loop-holds : tie.Need-loop-holds Inv-loop μ-loop
 loop-holds c = (omega arith, λ k h. simp (lt-leb _ _ h))
 
 value-in-requires : tie.Need-value-in-requires Inv-loop μ-loop
-value-in-requires c κs = search needs
+value-in-requires c κs = omega arith
 
 returns : tie.Need-returns Inv-loop μ-loop
 returns c =
@@ -37,10 +36,10 @@ returns c =
     sym (some-here (leftOver b _) 253 (l .v) (omega arith) (over b _ (l .v) (c .before .value-in .result) (l .inv .0) (c .before .value-in .ensures) (c .if1 .taken)))
 
 add-v : tie.Need-add-v Inv-loop μ-loop
-add-v c = search needs
+add-v c = omega arith
 
 loop-less : tie.Need-loop-less Inv-loop μ-loop
-loop-less c = search needs
+loop-less c = omega arith
 
 loop-again : tie.Need-loop-again Inv-loop μ-loop
 loop-again c =

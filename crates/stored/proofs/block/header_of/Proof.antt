@@ -1,17 +1,17 @@
 use mathlib.Core.Path.{ap, _∙_}
 use Prim.Native.Nat.{ℕ}
 use mathlib.Core.List.{List}
-use borrow.Author.Needs.{needs}
+use native.Mathlib.Omega.{arith}
 use Rattle.rules.specs.Stored.{headerOf}
 use Rattle.stored.specs.Steps.{headerIn}
 use Rattle.stored.proofs.block.header_of.Statement.{statement}
 use Rattle.stored.proofs.block.header_of.Tie as tie
 
 block-at-requires : tie.Need-block-at-requires
-block-at-requires c κs = search needs
+block-at-requires c κs = omega arith
 
 header-in-requires : tie.Need-header-in-requires
-header-in-requires c κs = search needs
+header-in-requires c κs = tt
 
 returns : tie.Need-returns
 unfolding headerOf

@@ -3,33 +3,32 @@ use Prim.Native.Nat.{ℕ}
 use native.Mathlib.Omega.{arith}
 use native.Mathlib.Numerals.{add-one}
 use lib.ListN.{getD}
-use borrow.Author.Needs.{needs}
 use Rattle.stored.proofs.block.word_at.Statement.{statement}
 use Rattle.stored.proofs.block.word_at.Tie as tie
 
-element-copy-out-wide : tie.Need-element-copy-out-wide
-element-copy-out-wide c = search needs
+element-copy-out-byte : tie.Need-element-copy-out-byte
+element-copy-out-byte c = omega arith
 
-wide-requires : tie.Need-wide-requires
-wide-requires c κs = search needs
+byte-requires : tie.Need-byte-requires
+byte-requires c κs = tt
 
-add-wide : tie.Need-add-wide
-add-wide c = search needs
+add-byte : tie.Need-add-byte
+add-byte c = omega arith
 
-element-copy-out-wide-2 : tie.Need-element-copy-out-wide-2
-element-copy-out-wide-2 c = search needs
+element-copy-out-byte-2 : tie.Need-element-copy-out-byte-2
+element-copy-out-byte-2 c = omega arith
 
-wide-requires-2 : tie.Need-wide-requires-2
-wide-requires-2 c κs = search needs
+byte-requires-2 : tie.Need-byte-requires-2
+byte-requires-2 c κs = tt
 
 mul-result : tie.Need-mul-result
-mul-result c = search needs
+mul-result c = omega arith
 
 add-result : tie.Need-add-result
-add-result c = search needs
+add-result c = omega arith
 
 cast-result : tie.Need-cast-result
-cast-result c = search needs
+cast-result c = omega arith
 
 returns : tie.Need-returns
 returns c =
@@ -40,11 +39,11 @@ pub word-at-spec : {M : Type 1} → statement M
 word-at-spec =
     tie.close
     (tie.spec
-    element-copy-out-wide
-    wide-requires
-    add-wide
-    element-copy-out-wide-2
-    wide-requires-2
+    element-copy-out-byte
+    byte-requires
+    add-byte
+    element-copy-out-byte-2
+    byte-requires-2
     mul-result
     add-result
     cast-result

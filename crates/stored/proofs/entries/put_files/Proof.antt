@@ -1,7 +1,6 @@
 use mathlib.Core.Path.{_≡_, ap}
 use Prim.Native.Nat.{ℕ, _+_, _-_, _*_, _/_, _%_, _≤_}
 use native.Mathlib.Omega.{arith}
-use borrow.Author.Needs.{needs}
 use Rattle.rules.specs.Stored.{valueIn}
 use Rattle.stored.specs.Steps.{Put}
 use Rattle.stored.proofs.Filled.{put-none, put-more}
@@ -19,52 +18,52 @@ loop-holds : tie.Need-loop-holds Inv-loop μ-loop
 loop-holds c = (omega arith, put-none _ _ _, put-none _ _ _, put-none _ _ _)
 
 mul-value-in : tie.Need-mul-value-in Inv-loop μ-loop
-mul-value-in c = search needs
+mul-value-in c = omega arith
 
 add-value-in : tie.Need-add-value-in Inv-loop μ-loop
-add-value-in c = search needs
+add-value-in c = omega arith
 
 value-in-requires : tie.Need-value-in-requires Inv-loop μ-loop
-value-in-requires c κs = search needs
+value-in-requires c κs = omega arith
 
 mul-value-in-2 : tie.Need-mul-value-in-2 Inv-loop μ-loop
-mul-value-in-2 c = search needs
+mul-value-in-2 c = omega arith
 
 value-in-requires-2 : tie.Need-value-in-requires-2 Inv-loop μ-loop
-value-in-requires-2 c κs = search needs
+value-in-requires-2 c κs = omega arith
 
 add-sizes : tie.Need-add-sizes Inv-loop μ-loop
-add-sizes c = search needs
+add-sizes c = omega arith
 
 mul-sizes : tie.Need-mul-sizes Inv-loop μ-loop
-mul-sizes c = search needs
+mul-sizes c = omega arith
 
 slice-write-sizes : tie.Need-slice-write-sizes Inv-loop μ-loop
 slice-write-sizes c = omega (arith, c .before .before .before .loop .inv .1 .long)
 
 add-sides : tie.Need-add-sides Inv-loop μ-loop
-add-sides c = search needs
+add-sides c = omega arith
 
 mul-sides : tie.Need-mul-sides Inv-loop μ-loop
-mul-sides c = search needs
+mul-sides c = omega arith
 
 slice-write-sides : tie.Need-slice-write-sides Inv-loop μ-loop
 slice-write-sides c = omega (arith, c .before .before .before .loop .inv .2 .long)
 
 add-marks : tie.Need-add-marks Inv-loop μ-loop
-add-marks c = search needs
+add-marks c = omega arith
 
 mul-marks : tie.Need-mul-marks Inv-loop μ-loop
-mul-marks c = search needs
+mul-marks c = omega arith
 
 slice-write-marks : tie.Need-slice-write-marks Inv-loop μ-loop
 slice-write-marks c = omega (arith, c .before .before .before .loop .inv .3 .long)
 
 add-f : tie.Need-add-f Inv-loop μ-loop
-add-f c = search needs
+add-f c = omega arith
 
 loop-less : tie.Need-loop-less Inv-loop μ-loop
-loop-less c = search needs
+loop-less c = omega arith
 
 loop-again : tie.Need-loop-again Inv-loop μ-loop
 loop-again c =

@@ -1,7 +1,6 @@
 use mathlib.Core.Path.{_≡_}
 use Prim.Native.Nat.{_-_, _≤_}
 use native.Mathlib.Omega.{arith}
-use borrow.Author.Needs.{needs}
 use Rattle.rules.specs.Stored.{valueIn}
 use Rattle.stored.specs.Steps.{Put}
 use Rattle.stored.proofs.Filled.{put-none, put-more}
@@ -18,22 +17,22 @@ loop-holds : tie.Need-loop-holds Inv-loop μ-loop
 loop-holds c = (omega arith, put-none _ _ _)
 
 value-in-requires : tie.Need-value-in-requires Inv-loop μ-loop
-value-in-requires c κs = search needs
+value-in-requires c κs = omega arith
 
 add-into : tie.Need-add-into Inv-loop μ-loop
-add-into c = search needs
+add-into c = omega arith
 
 mul-into : tie.Need-mul-into Inv-loop μ-loop
-mul-into c = search needs
+mul-into c = omega arith
 
 slice-write-into : tie.Need-slice-write-into Inv-loop μ-loop
 slice-write-into c = omega (arith, c .before .before .loop .inv .1 .long)
 
 add-v : tie.Need-add-v Inv-loop μ-loop
-add-v c = search needs
+add-v c = omega arith
 
 loop-less : tie.Need-loop-less Inv-loop μ-loop
-loop-less c = search needs
+loop-less c = omega arith
 
 loop-again : tie.Need-loop-again Inv-loop μ-loop
 loop-again c = (omega arith, put-more (c .value-in .result) (c .before .before .loop .inv .1) (omega (arith, c .before .before .loop .inv .1 .long)) (c .value-in .ensures))

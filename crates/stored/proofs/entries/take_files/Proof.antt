@@ -2,46 +2,45 @@ use mathlib.Core.Path.{_≡_, ap, _∙_}
 use Prim.Native.Nat.{ℕ, _+_, _-_, _*_, _/_, _%_, _≤_, min}
 use mathlib.Core.List.{List}
 use native.Mathlib.Omega.{arith}
-use borrow.Author.Needs.{needs}
 use Rattle.rules.specs.Stored.{valueIn, value}
-use Rattle.stored.specs.Steps.{Taken, sizeAt, sideAt, markAt}
+use Rattle.stored.specs.Steps.{Taken, storedSize, storedSide, storedMark}
 use Rattle.stored.proofs.Filled.{taken-block, spread}
 use Rattle.stored.proofs.entries.take_files.Statement.{statement}
 use Rattle.stored.proofs.entries.take_files.Tie as tie
 
 abbrev Inv-loop : tie.InvT-loop
-Inv-loop bytes c sizes₀ sides₀ marks₀ blocks k₀ sizes sides marks k = (k ≤ blocks) × Taken (sizeAt bytes) (min (126 * k) c) sizes₀ sizes × Taken (sideAt bytes) (min (126 * k) c) sides₀ sides
-    × Taken (markAt bytes) (min (126 * k) c) marks₀ marks
+Inv-loop bytes c sizes₀ sides₀ marks₀ blocks k₀ sizes sides marks k = (k ≤ blocks) × Taken (storedSize bytes) (min (126 * k) c) sizes₀ sizes × Taken (storedSide bytes) (min (126 * k) c) sides₀ sides
+    × Taken (storedMark bytes) (min (126 * k) c) marks₀ marks
 
 abbrev μ-loop : tie.MeasureT-loop
 μ-loop bytes c sizes₀ sides₀ marks₀ blocks k₀ sizes sides marks k = blocks - k
 
 blocks-for-requires : tie.Need-blocks-for-requires Inv-loop μ-loop
-blocks-for-requires c κs = search needs
+blocks-for-requires c κs = omega arith
 
 loop-holds : tie.Need-loop-holds Inv-loop μ-loop
-loop-holds c = search needs
+loop-holds c = omega arith
 
 add-block-at : tie.Need-add-block-at Inv-loop μ-loop
-add-block-at c = search needs
+add-block-at c = omega arith
 
 block-at-requires : tie.Need-block-at-requires Inv-loop μ-loop
-block-at-requires c κs = search needs
+block-at-requires c κs = omega arith
 
 held-in-requires : tie.Need-held-in-requires Inv-loop μ-loop
-held-in-requires c κs = search needs
+held-in-requires c κs = omega arith
 
 mul-put-files : tie.Need-mul-put-files Inv-loop μ-loop
-mul-put-files c = search needs
+mul-put-files c = omega arith
 
 put-files-requires : tie.Need-put-files-requires Inv-loop μ-loop
-put-files-requires c κs = search needs
+put-files-requires c κs = omega arith
 
 add-k : tie.Need-add-k Inv-loop μ-loop
-add-k c = search needs
+add-k c = omega arith
 
 loop-less : tie.Need-loop-less Inv-loop μ-loop
-loop-less c = search needs
+loop-less c = omega arith
 
 loop-again : tie.Need-loop-again Inv-loop μ-loop
 loop-again c =

@@ -2,21 +2,20 @@ use mathlib.Core.Path.{_≡_, ap, _∙_}
 use Prim.Native.Nat.{ℕ, _+_, _-_, _*_, _≤_, min}
 use mathlib.Core.List.{List}
 use native.Mathlib.Omega.{arith}
-use borrow.Author.Needs.{needs}
 use Rattle.rules.specs.Stored.{valueIn, value}
-use Rattle.stored.specs.Steps.{Taken, valueAt}
+use Rattle.stored.specs.Steps.{Taken, storedValue}
 use Rattle.stored.proofs.Filled.{taken-none, taken-block, spread}
 use Rattle.stored.proofs.entries.take_values.Statement.{statement}
 use Rattle.stored.proofs.entries.take_values.Tie as tie
 
 abbrev Inv-loop : tie.InvT-loop
-Inv-loop bytes first x into₀ blocks k₀ into k = (k ≤ blocks) × Taken (valueAt bytes first) (min (253 * k) x) into₀ into
+Inv-loop bytes first x into₀ blocks k₀ into k = (k ≤ blocks) × Taken (storedValue bytes first) (min (253 * k) x) into₀ into
 
 abbrev μ-loop : tie.MeasureT-loop
 μ-loop bytes first x into₀ blocks k₀ into k = blocks - k
 
 blocks-for-requires : tie.Need-blocks-for-requires Inv-loop μ-loop
-blocks-for-requires c κs = search needs
+blocks-for-requires c κs = omega arith
 
 loop-holds : tie.Need-loop-holds Inv-loop μ-loop
 loop-holds c =
@@ -24,25 +23,25 @@ loop-holds c =
     (omega arith, rw e (taken-none _ _))
 
 add-block-at : tie.Need-add-block-at Inv-loop μ-loop
-add-block-at c = search needs
+add-block-at c = omega arith
 
 block-at-requires : tie.Need-block-at-requires Inv-loop μ-loop
-block-at-requires c κs = search needs
+block-at-requires c κs = omega arith
 
 held-in-requires : tie.Need-held-in-requires Inv-loop μ-loop
-held-in-requires c κs = search needs
+held-in-requires c κs = omega arith
 
 mul-put-values : tie.Need-mul-put-values Inv-loop μ-loop
-mul-put-values c = search needs
+mul-put-values c = omega arith
 
 put-values-requires : tie.Need-put-values-requires Inv-loop μ-loop
-put-values-requires c κs = search needs
+put-values-requires c κs = omega arith
 
 add-k : tie.Need-add-k Inv-loop μ-loop
-add-k c = search needs
+add-k c = omega arith
 
 loop-less : tie.Need-loop-less Inv-loop μ-loop
-loop-less c = search needs
+loop-less c = omega arith
 
 loop-again : tie.Need-loop-again Inv-loop μ-loop
 loop-again c =

@@ -1,6 +1,5 @@
 use native.Mathlib.Omega.{arith}
 use borrow.Author.Tests.{eq-eqb, ne-eqb, lt-ltb, le-ltb}
-use borrow.Author.Needs.{needs}
 use Rattle.rules.specs.Stored.{boundsAt, pinsAt}
 use Rattle.stored.proofs.places.kind_of.Statement.{statement}
 use Rattle.stored.proofs.places.kind_of.Tie as tie
@@ -9,7 +8,7 @@ returns : tie.Need-returns
 returns c = simp (eq-eqb _ _ (c .if1 .taken))
 
 bounds-at-requires : tie.Need-bounds-at-requires
-bounds-at-requires c κs = search needs
+bounds-at-requires c κs = tt
 
 returns-2 : tie.Need-returns-2
 returns-2 c =
@@ -17,7 +16,7 @@ returns-2 c =
     simp (ne-eqb _ _ (c .before .before .if1 .left), lt-ltb (a .b) (boundsAt (a .h)) (omega arith))
 
 pins-at-requires : tie.Need-pins-at-requires
-pins-at-requires c κs = search needs
+pins-at-requires c κs = tt
 
 returns-3 : tie.Need-returns-3
 returns-3 c =

@@ -7,8 +7,8 @@ use lib.ListN.{length, getD}
 use borrow.Author.Needs.{needs}
 use Rattle.tables.specs.Zones.{part, stateOf}
 use Rattle.tables.specs.Building.{viewsOf}
-use Rattle.tables.proofs.Laying.{bounds-fit, recipe-at}
-use Rattle.tables.proofs.Parts.{part-below, part-length}
+use Rattle.tables.proofs.Buildable.{bounds-fit, recipe-at}
+use Rattle.tables.proofs.Parts.{part-length}
 use Rattle.tables.proofs.FourCounts.{CountedTo, counted-none, counted-more, counted-end}
 use Rattle.tables.proofs.counts.fill_counts.Statement.{statement}
 use Rattle.tables.proofs.counts.fill_counts.Tie as tie
@@ -82,7 +82,7 @@ count-recipe-requires c κs =
     let b = w .wide2 .result in
     let f = fit w in
     let l = part-length a (b - a) (s .args .pins .now) (omega arith) in
-    (part-below _ (s .args .pins .now) a (b - a) (s .pre .0 .files), (omega (arith, s .pre .0 .fewPins), omega arith))
+    (omega (arith, s .pre .0 .fewPins), omega arith, omega arith)
 
 add-j : tie.Need-add-j Inv-loop μ-loop
 add-j c = search needs

@@ -1,34 +1,32 @@
 -- `counts::locked_on` meets its contract. The invariant: n is the count of the first k files. Assumes nothing.
-use mathlib.Core.Path.{refl}
-use mathlib.Core.Logic.{inl, inr}
-use Prim.Native.Nat.{_-_, _<_}
-use mathlib.Core.Bool.{not, _&&_}
-use native.Mathlib.Omega.{arith}
-use lib.ListN.{length}
-use borrow.Author.Tests.{eq-eqb, ne-eqb}
+use mathlib.Core.Path.{ap, ap₂, _∙_}
+use Prim.Native.Nat.{ℕ, _-_}
+use mathlib.Core.Bool.{Bool, not, _&&_}
+use mathlib.Core.List.{List}
+use lib.ListN.{length, getD}
+use lib.Dec.{eqb}
 use borrow.Author.Needs.{needs}
+use Rattle.rules.specs.Lists.{bit}
 use Rattle.rules.specs.Split.{onSide}
 use Rattle.rules.specs.Move.{free}
+use Rattle.rules.proofs.Count.{Summed, summed-none, summed-bit, summed-entries}
 use Rattle.rules.proofs.Locked.{lockedOn}
 use Rattle.tables.specs.Zones.{stateOf}
-use Rattle.tables.proofs.Walks.{Counting, counting-none, counting-pass, counting-skip, counting-end}
 use Rattle.tables.proofs.counts.locked_on.Statement.{statement}
 use Rattle.tables.proofs.counts.locked_on.Tie as tie
 
+-- file x is on side u and locked
+abbrev locked : List ℕ → List ℕ → ℕ → ℕ → Bool
+locked sides locks u x = onSide sides u x && not (free (stateOf sides locks) x)
+
 abbrev Inv-loop : tie.InvT-loop
-Inv-loop recipe sides locks u n₀ k₀ n k = Counting (λ x. onSide sides u x && not (free (stateOf sides locks) x)) recipe k n
+Inv-loop recipe sides locks u n₀ k₀ n k = Summed (λ i. bit (locked sides locks u (getD recipe i 0))) 1 (length recipe) k n
 
 abbrev μ-loop : tie.MeasureT-loop
 μ-loop recipe sides locks u n₀ k₀ n k = length recipe - k
 
--- the entry is a file
-file : (c : tie.After-wide Inv-loop μ-loop) → c .wide .result < length (c .before .before .before .before .before .before .before .args .sides .now)
-file c =
-    let l = c .before .before .before .loop in
-    omega (arith, c .before .before .before .before .before .before .before .pre .0 (l .k) (c .before .before .loop-test .taken))
-
 loop-holds : tie.Need-loop-holds Inv-loop μ-loop
-loop-holds c = counting-none _ _
+loop-holds c = summed-none
 
 mul-wide : tie.Need-mul-wide Inv-loop μ-loop
 mul-wide c = search needs
@@ -39,17 +37,14 @@ shared-slice-read-wide c = search needs
 wide-requires : tie.Need-wide-requires Inv-loop μ-loop
 wide-requires c κs = search needs
 
-mul-if1 : tie.Need-mul-if1 Inv-loop μ-loop
-mul-if1 c = omega (arith, file c)
+entry-at-requires : tie.Need-entry-at-requires Inv-loop μ-loop
+entry-at-requires c κs = search needs
 
-shared-slice-read-if1 : tie.Need-shared-slice-read-if1 Inv-loop μ-loop
-shared-slice-read-if1 c = omega (arith, file (c .before))
+entry-at-requires-2 : tie.Need-entry-at-requires-2 Inv-loop μ-loop
+entry-at-requires-2 c κs = search needs
 
-mul-if2 : tie.Need-mul-if2 Inv-loop μ-loop
-mul-if2 c = omega (arith, file (c .before .before))
-
-shared-slice-read-if2 : tie.Need-shared-slice-read-if2 Inv-loop μ-loop
-shared-slice-read-if2 c = omega (arith, file (c .before .before .before))
+bit-requires : tie.Need-bit-requires Inv-loop μ-loop
+bit-requires c κs = search needs
 
 add-n : tie.Need-add-n Inv-loop μ-loop
 add-n c = search needs
@@ -62,18 +57,17 @@ loop-less c = search needs
 
 loop-again : tie.Need-loop-again Inv-loop μ-loop
 loop-again c =
-    let i = c .before .before .before .before in
-    elim (c .if1 .came) [
-      | inl w ↦ rw (w .3) (counting-pass (i .before .loop .inv) (i .loop-test .taken) (c .before .before .wide .ensures) (rw (eq-eqb _ _ (w .0 .taken), ne-eqb _ _ (w .2 .taken)) refl))
-      | inr v ↦ elim v [
-        | inl w ↦ rw (w .3) (counting-skip (i .before .loop .inv) (i .loop-test .taken) (c .before .before .wide .ensures) (rw (eq-eqb _ _ (w .0 .taken), eq-eqb _ _ (w .2 .left)) refl))
-        | inr w ↦ rw (w .1) (counting-skip (i .before .loop .inv) (i .loop-test .taken) (c .before .before .wide .ensures) (rw (ne-eqb _ _ (w .0 .left)) refl))
-      ]
-    ]
+    let w = c .before .before .before in
+    let i = w .before .before in
+    let a = i .before .before .before .before .before .args in
+    summed-bit (λ j. locked (a .sides .now) (a .locks .now) (a .u) (getD (a .recipe .now) j 0)) (i .before .loop .inv) (i .loop-test .taken)
+    (c .bit .ensures .0
+    ∙ ap₂ (λ (s l : ℕ). bit (eqb s (a .u) && not (eqb l 0))) (c .before .before .entry-at .ensures) (c .before .entry-at2 .ensures)
+    ∙ ap (λ (x : ℕ). bit (locked (a .sides .now) (a .locks .now) (a .u) x)) (w .wide .ensures))
 
 returns : tie.Need-returns Inv-loop μ-loop
 unfolding lockedOn
-returns c = counting-end (c .before .loop .inv) (c .loop-test .left)
+returns c = summed-entries _ _ (c .before .loop .inv) (c .loop-test .left)
 
 pub locked-on-spec : {M : Type 1} → statement M
 locked-on-spec =
@@ -85,10 +79,9 @@ locked-on-spec =
     mul-wide
     shared-slice-read-wide
     wide-requires
-    mul-if1
-    shared-slice-read-if1
-    mul-if2
-    shared-slice-read-if2
+    entry-at-requires
+    entry-at-requires-2
+    bit-requires
     add-n
     add-k
     loop-less

@@ -59,13 +59,8 @@ part-gain-by-end-3 c = search needs
 
 gain-by-requires : tie.Need-gain-by-requires
 gain-by-requires c κs =
-    let s = c .before .before .before .before .before in
-    let x = s .args in
-    let z = x .scratch .now in
-    let a = part-length (x .own) (x .own + x .n - x .own) z (omega arith) in
-    let b = part-length (x .other) (x .other + x .n - x .other) z (omega arith) in
-    let d = part-length (x .s) (x .e - x .s) z (omega arith) in
-    (λ i l. omega (arith, s .pre .1 .1 i l), (omega arith, omega arith))
+    let x = c .before .before .before .before .before .args in
+    omega (arith, part-length (x .s) (x .e - x .s) (x .scratch .now) (omega arith))
 
 returns-2 : tie.Need-returns-2
 unfolding startGain

@@ -11,8 +11,8 @@ use Rattle.rules.specs.Pass.{startGains}
 use Rattle.tables.specs.Zones.{stateOf}
 use Rattle.tables.specs.Building.{viewsOf}
 use Rattle.tables.specs.Counting.{startGain}
-use Rattle.tables.proofs.Laying.{recipes-long}
-use Rattle.tables.proofs.Starting.{cells-below, start-gain-is, start-gains-long, gain-asks}
+use Rattle.tables.proofs.Buildable.{recipes-long}
+use Rattle.tables.proofs.Starting.{start-gain-is, start-gains-long, gain-asks}
 use Rattle.tables.proofs.Filled.{Stored, stored-none, stored-more, stored-end}
 use Rattle.tables.proofs.counts.start_gains.Statement.{statement}
 use Rattle.tables.proofs.counts.start_gains.Tie as tie
@@ -122,19 +122,8 @@ start-gain-requires c κs =
     let w = c .before in
     let s = start w in
     let x = s .args in
-    let h = inside w in
-    let cells = s .pre .1 .1 .1 .1 .0 in
-    let asks =
-    gain-asks (x .n) (file w) (getD (x .sides .now) (file w) 0) cells h (s .pre .0 .fewPins) (s .pre .1 .1 .0)
-    (w .before .before .before .before .before .before .wide .ensures) (w .before .before .before .before .wide2 .ensures) (w .before .before .side-at .ensures) (w .side-at2 .ensures) in (
-      asks .0,
-      (
-        asks .1,
-        cells-below (x .sides .now) (x .marks .now) (viewsOf (x .bounds .now) (x .pins .now)) (length (x .sides .now)) (length (x .pins .now)) (x .n) (x .scratch .now)
-            (recipes-long (x .bounds .now) (x .pins .now) _ (s .pre .0) ∙ sym (s .pre .1 .0 .2)) (s .pre .1 .1 .1 .0) cells (s .pre .1 .1 .1 .1 .1) (file w) _ _ h
-            (w .before .before .before .before .before .before .wide .ensures) (w .before .before .before .before .wide2 .ensures),
-      ),
-    )
+    gain-asks (x .n) (file w) (getD (x .sides .now) (file w) 0) (s .pre .1 .1 .1 .1 .0) (inside w) (s .pre .0 .fewPins) (s .pre .1 .1 .0)
+    (w .before .before .before .before .before .before .wide .ensures) (w .before .before .before .before .wide2 .ensures) (w .before .before .side-at .ensures) (w .side-at2 .ensures)
 
 mul-t19 : tie.Need-mul-t19 Inv-loop μ-loop
 mul-t19 c = search needs

@@ -10,7 +10,7 @@ use Rattle.rules.specs.Pass.{startGains}
 use Rattle.tables.specs.Zones.{stateOf}
 use Rattle.tables.specs.Building.{viewsOf}
 use Rattle.tables.specs.LayingOut.{Prepared}
-use Rattle.tables.proofs.LentParts.{TwoZones, ThreeZones, three, cells-room, locks-room, counts-room, zones-long, zones-fit, zones-beyond, zones-cells, zones-starts, zones-locks, zones-room, zones-counts}
+use Rattle.tables.proofs.LentParts.{TwoZones, ThreeZones, threeZones, cells-room, locks-room, counts-room, zones-long, zones-fit, zones-beyond, zones-cells, zones-starts, zones-locks, zones-room, zones-counts}
 use Rattle.tables.proofs.start.prepare.Statement.{statement}
 use Rattle.tables.proofs.start.prepare.Tie as tie
 
@@ -42,7 +42,7 @@ begun c = start (half c)
 abbrev scratch : Whole → List ℕ
 scratch c =
     let x = begun c .args in
-    three (length (x .sides .now)) (length (x .pins .now)) (N (half c)) (x .scratch .now) (cells (half c)) (half c .copy .last .0) (c .fill-counts .last .0)
+    threeZones (length (x .sides .now)) (length (x .pins .now)) (N (half c)) (x .scratch .now) (cells (half c)) (half c .copy .last .0) (c .fill-counts .last .0)
 
 three-zones : (c : Whole)
     → ThreeZones (length (begun c .args .sides .now)) (length (begun c .args .pins .now)) (N (half c)) (begun c .args .scratch .now) (cells (half c)) (half c .copy .last .0) (c .fill-counts .last .0)
@@ -132,7 +132,7 @@ fill-counts-requires : tie.Need-fill-counts-requires
 fill-counts-requires c κs =
     let w = c .before .before .before in
     let pre = start w .pre in
-    (pre .0, (pre .1 .0 .1, w .before .before .before .before .before .before .recipe-count .ensures, counts-room (two-zones w)))
+    (pre .0, (w .before .before .before .before .before .before .recipe-count .ensures, counts-room (two-zones w)))
 
 start-gains-requires : tie.Need-start-gains-requires
 start-gains-requires c κs =
