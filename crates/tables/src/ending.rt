@@ -1,4 +1,5 @@
-// After the last move: entries made zero, and moves taken back, each by turning its file over; places outside a list change nothing.
+// After the last move: entries made zero, and moves taken back, each by turning its file over; places outside a list stay as they are.
+// A move that the list of moves does not have is taken for one of file 0, as an entry that is not there reads as 0.
 ghost use mathlib.Core.Path.{_≡_};
 ghost use Prim.Native.Nat.{_-_};
 ghost use lib.IntN.{pos};
