@@ -34,7 +34,7 @@ fn read_some(room: &mut [u8], most: usize) -> usize
     io::read_full(STDIN_FILENO, &mut room[..most])
 }
 
-// One block or the first bytes of one, put into the room from `at` on; the bytes that came, fewer than `most` only at the end of the input.
+// One block or the first bytes of one, put into the room from `at` on; the bytes that came, fewer than `most` only at the end of the input or where a read fails.
 fn take_block(room: &mut [u8], at: usize, most: usize) -> usize
     requires { ⌜ (most ≤ 512) × (at + most ≤ length (now room)) ⌝ }
     ensures { λ r. ⌜ (r ≤ most) × (drop (at + r) (now (room .exit)) ≡ drop (at + r) (now (room .entry))) ⌝ }
@@ -45,7 +45,7 @@ fn take_block(room: &mut [u8], at: usize, most: usize) -> usize
     got
 }
 
-// The next bytes of the input: `most` of them, or as many as the room holds, or fewer at the end of the input. How many came.
+// The next bytes of the input: `most` of them, or as many as the room holds, or fewer at the end of the input or where a read fails. How many came.
 pub fn take(room: &mut [u8], most: usize) -> usize
     ensures { λ r. ⌜ Counts r (now (room .exit)) × (r ≤ most) ⌝ }
     ensures { λ r. ⌜ drop r (now (room .exit)) ≡ drop r (now (room .entry)) ⌝ }

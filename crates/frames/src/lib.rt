@@ -2,8 +2,11 @@
 ghost use mathlib.Core.Path.{_≡_};
 ghost use lib.ListN.{drop};
 ghost use Rattle.io.specs.Counts.{Counts};
+ghost use Rattle.frames.specs.Numbers.{numberOf, NumbersPut};
 
-fn number_of(low: u8, high: u8) -> u16 {
+fn number_of(low: u8, high: u8) -> u16
+    ensures { λ r. ⌜ r ≡ numberOf low high ⌝ }
+{
     low as u16 + 256 * (high as u16)
 }
 
@@ -29,7 +32,7 @@ pub fn take(room: &mut [u8]) -> usize
 // The numbers of the bytes, two bytes each, low byte first, as many as the room holds.
 fn put_numbers(bytes: &[u8], room: &mut [u16]) -> usize
     ensures { λ r. ⌜ Counts r (now (room .exit)) ⌝ }
-    ensures { λ r. ⌜ drop r (now (room .exit)) ≡ drop r (now (room .entry)) ⌝ }
+    ensures { λ r. ⌜ NumbersPut (now (bytes .entry)) (now (room .entry)) (now (room .exit)) r ⌝ }
 {
     let mut i = 0;
     while i < bytes.len() / 2 {

@@ -10,7 +10,7 @@ use Rattle.rules.proofs.Tests.{clash}
 use Rattle.rules.proofs.Searches.{lowest-le, lowest-passes, below-lowest, lowest-is, Passed, passed-more, passed-hit, passed-end}
 use Rattle.job.specs.Pins.{onwards}
 
-onwards-below : (a : ℕ) (p : ℕ → Bool) (k : ℕ) → k < a → onwards a p k ≡ false
+pub onwards-below : (a : ℕ) (p : ℕ → Bool) (k : ℕ) → k < a → onwards a p k ≡ false
 onwards-below a p k l = ap (λ (b : Bool). b && p k) (lt-leb a k l)
 
 onwards-from : (a : ℕ) (p : ℕ → Bool) (k : ℕ) → a ≤ k → onwards a p k ≡ p k

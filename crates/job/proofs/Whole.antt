@@ -1,5 +1,5 @@
 -- What the steps found, put together into the answers of the public calls. Assumes nothing.
-use mathlib.Core.Path.{_≡_, refl, ap, _∙_}
+use mathlib.Core.Path.{_≡_, refl, sym, ap, _∙_}
 use Prim.Native.Nat.{ℕ}
 use mathlib.Core.Bool.{Bool, true, false, not}
 use lib.Dec.{eqb}
@@ -9,8 +9,9 @@ use Rattle.rules.specs.Job.{Job, Limits, recipes, files, fileCount}
 use Rattle.rules.specs.Split.{cut, weight, smax, sizeOn, sizeA, inWindow, balanced}
 use Rattle.rules.specs.Check.{isDone, refuseIf, check1, check2, check3, check4, badPin, check5, check6, check7, check8, check9, check4to6, check1to6, check, measure}
 use Rattle.rules.proofs.Verdicts.{zero-of}
+use Rattle.job.specs.declared.Job.{Job as Figures}
 use Rattle.job.specs.declared.figures.Totals.{Totals}
-use Rattle.job.specs.Parts.{ofLists, ofRatio}
+use Rattle.job.specs.Parts.{ofLists, ofFigures}
 use Rattle.job.specs.Totals.{totalsOf, Has}
 use Rattle.job.specs.Survey.{surveyOf}
 
@@ -32,20 +33,20 @@ size-is : (job : Job) (t : Totals) → t ≡ totalsOf job (fileCount job) → t 
 unfolding totalsOf sizeOn files
 size-is job t p = ap (λ (u : Totals). u .size) p
 
-module _ {job : Job} {num den : ℕ} {t : Totals} (has : Has job num den t) where
-  pub ratio-is : (most : Limits) → check7 most (ofRatio num den) ≡ check7 most job
+module _ {job : Job} {figures : Figures} {t : Totals} (has : Has job figures t) where
+  pub ratio-is : (most : Limits) → check7 most (ofFigures figures) ≡ check7 most job
   unfolding check7
-  ratio-is most = rw (has .num, has .den)
+  ratio-is most = sym (ap (check7 most) (has .job-is))
 
   pub free-is : refuseIf (eqb (t .free) 0) 8 0 ≡ check8 job
   unfolding totalsOf files check8
   free-is = ap (λ (u : Totals). refuseIf (eqb (u .free) 0) 8 0) (has .totals)
 
-  pub balance-is : refuseIf (not (inWindow num den (t .weight) (t .largest) (t .size))) 9 0 ≡ check9 job
+  pub balance-is : refuseIf (not (inWindow (figures .num) (figures .den) (t .weight) (t .largest) (t .size))) 9 0 ≡ check9 job
   unfolding totalsOf weight smax sizeOn files balanced check9
   balance-is =
-      rw (← has .num, ← has .den)
-      (ap (λ (u : Totals). refuseIf (not (inWindow (job .num) (job .den) (u .weight) (u .largest) (u .size))) 9 0) (has .totals))
+      ap (λ (j : Job). refuseIf (not (inWindow (j .num) (j .den) (t .weight) (t .largest) (t .size))) 9 0) (sym (has .job-is))
+      ∙ ap (λ (u : Totals). refuseIf (not (inWindow (job .num) (job .den) (u .weight) (u .largest) (u .size))) 9 0) (has .totals)
 
 -- ---- the measure and the survey
 

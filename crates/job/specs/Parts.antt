@@ -1,7 +1,12 @@
--- A job as a step sees it that is handed some of its lists only; the rest stands empty. Assumes nothing.
+-- The job that a call is handed, and a job as a step sees it that is handed some of it only; the rest stands empty. Assumes nothing.
 use Prim.Native.Nat.{ℕ}
 use mathlib.Core.List.{List, []}
 use Rattle.rules.specs.Job.{Job, asJob}
+use Rattle.job.specs.declared.Job.{Job as Figures}
+
+-- the figures of a call and its five lists: every contract hands over a job by this, and no other names a figure
+abbrev pub wholeJob : Figures → List ℕ → List ℕ → List ℕ → List ℕ → List ℕ → Job
+wholeJob figures sizes sides marks bounds pins = asJob sizes sides marks bounds pins (figures .num) (figures .den) (figures .cap)
 
 abbrev pub ofFiles : List ℕ → List ℕ → List ℕ → Job
 ofFiles sizes sides marks = asJob sizes sides marks [] [] 0 0 0
@@ -17,6 +22,6 @@ ofPins sizes bounds pins = asJob sizes [] [] bounds pins 0 0 0
 abbrev pub ofLists : List ℕ → List ℕ → List ℕ → List ℕ → List ℕ → Job
 ofLists sizes sides marks bounds pins = asJob sizes sides marks bounds pins 0 0 0
 
--- the ratio alone
-abbrev pub ofRatio : ℕ → ℕ → Job
-ofRatio num den = asJob [] [] [] [] [] num den 0
+-- the figures alone
+abbrev pub ofFigures : Figures → Job
+ofFigures figures = wholeJob figures [] [] [] [] []

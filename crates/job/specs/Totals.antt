@@ -4,7 +4,9 @@ use mathlib.Core.Path.{_≡_}
 use mathlib.Core.Bool.{Bool}
 use lib.ListN.{getD}
 use lib.Dec.{eqb}
+use Rattle.job.specs.declared.Job.{Job as Figures}
 use Rattle.job.specs.declared.figures.Totals.{Totals}
+use Rattle.job.specs.Parts.{wholeJob}
 use Rattle.rules.specs.Lists.{bit, total, count, largest, upTo}
 use Rattle.rules.specs.Job.{Job, Limits, fileCount}
 use Rattle.rules.specs.Split.{onSide, sizeOf}
@@ -44,12 +46,11 @@ pub record Added (job : Job) (n : ℕ) (t : Totals) : Type 0 where
   pub is : t ≡ totalsOf job n
   pub within : Within t (n * 65535)
 
--- the job has ratio n/d and totals t
-pub record Has (job : Job) (n d : ℕ) (t : Totals) : Type 0 where
-  pub num : job .num ≡ n
-  pub den : job .den ≡ d
+-- the job has these figures and totals t
+pub record Has (job : Job) (figures : Figures) (t : Totals) : Type 0 where
+  pub job-is : job ≡ wholeJob figures (job .sizes) (job .sides) (job .marks) (job .bounds) (job .pins)
   pub totals : t ≡ totalsOf job (fileCount job)
 
--- v is what 7 to 9 give of every job with ratio n/d and totals t
-abbrev pub Gives7to9 : Limits → ℕ → ℕ → Totals → Verdict → Type 0
-Gives7to9 most n d t v = (job : Job) → Has job n d t → v ≡ check7to9 most job
+-- v is what 7 to 9 give of every job with these figures and totals t
+abbrev pub Gives7to9 : Limits → Figures → Totals → Verdict → Type 0
+Gives7to9 most figures t v = (job : Job) → Has job figures t → v ≡ check7to9 most job

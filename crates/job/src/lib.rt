@@ -24,7 +24,8 @@ pub use verdict::or_else;
 pub use verdict::refuse_if;
 ghost use mathlib.Core.Path.{_≡_};
 ghost use mathlib.Core.Bool.{true};
-ghost use Rattle.rules.specs.Job.{limitsOf, asJob, viewOf};
+ghost use Rattle.rules.specs.Job.{limitsOf, viewOf};
+ghost use Rattle.job.specs.Parts.{wholeJob};
 ghost use Rattle.rules.specs.Check.{checkJob, «measure»};
 ghost use Rattle.job.specs.Survey.{surveyOf};
 
@@ -78,7 +79,7 @@ pub fn check(
     bounds: &[u16],
     pins: &[u16],
 ) -> Verdict
-    ensures { λ r. do ⌜ r ≡ checkJob (limitsOf (← ⟦Job::MOST_FILES⟧ .entry) (← ⟦Job::MOST_RECIPES⟧ .entry) (← ⟦Job::MOST_PINS⟧ .entry) (← ⟦Job::MOST_DEN⟧ .entry)) (asJob (now (sizes .entry)) (now (sides .entry)) (now (marks .entry)) (now (bounds .entry)) (now (pins .entry)) (job .num) (job .den) (job .cap)) ⌝ }
+    ensures { λ r. do ⌜ r ≡ checkJob (limitsOf (← ⟦Job::MOST_FILES⟧ .entry) (← ⟦Job::MOST_RECIPES⟧ .entry) (← ⟦Job::MOST_PINS⟧ .entry) (← ⟦Job::MOST_DEN⟧ .entry)) (wholeJob job (now (sizes .entry)) (now (sides .entry)) (now (marks .entry)) (now (bounds .entry)) (now (pins .entry))) ⌝ }
 {
     let v = check1to6(sizes, sides, marks, bounds, pins, true);
     if v.number != 0 {
@@ -96,7 +97,7 @@ pub fn measure(
     bounds: &[u16],
     pins: &[u16],
 ) -> Measure
-    ensures { λ r. do ⌜ r ≡ «measure» (limitsOf (← ⟦Job::MOST_FILES⟧ .entry) (← ⟦Job::MOST_RECIPES⟧ .entry) (← ⟦Job::MOST_PINS⟧ .entry) (← ⟦Job::MOST_DEN⟧ .entry)) (asJob (now (sizes .entry)) (now (sides .entry)) (now (marks .entry)) (now (bounds .entry)) (now (pins .entry)) (job .num) (job .den) (job .cap)) ⌝ }
+    ensures { λ r. do ⌜ r ≡ «measure» (limitsOf (← ⟦Job::MOST_FILES⟧ .entry) (← ⟦Job::MOST_RECIPES⟧ .entry) (← ⟦Job::MOST_PINS⟧ .entry) (← ⟦Job::MOST_DEN⟧ .entry)) (wholeJob job (now (sizes .entry)) (now (sides .entry)) (now (marks .entry)) (now (bounds .entry)) (now (pins .entry))) ⌝ }
 {
     let verdict = check1to6(sizes, sides, marks, bounds, pins, true);
     if verdict.number != 0 {
@@ -124,7 +125,7 @@ pub fn survey(
     pins: &[u16],
     lent: bool,
 ) -> Survey
-    ensures { λ r. do ⌜ r ≡ surveyOf (limitsOf (← ⟦Job::MOST_FILES⟧ .entry) (← ⟦Job::MOST_RECIPES⟧ .entry) (← ⟦Job::MOST_PINS⟧ .entry) (← ⟦Job::MOST_DEN⟧ .entry)) (asJob (now (sizes .entry)) (now (sides .entry)) (now (marks .entry)) (now (bounds .entry)) (now (pins .entry)) (job .num) (job .den) (job .cap)) lent ⌝ }
+    ensures { λ r. do ⌜ r ≡ surveyOf (limitsOf (← ⟦Job::MOST_FILES⟧ .entry) (← ⟦Job::MOST_RECIPES⟧ .entry) (← ⟦Job::MOST_PINS⟧ .entry) (← ⟦Job::MOST_DEN⟧ .entry)) (wholeJob job (now (sizes .entry)) (now (sides .entry)) (now (marks .entry)) (now (bounds .entry)) (now (pins .entry))) lent ⌝ }
 {
     let v = check1to6(sizes, sides, marks, bounds, pins, lent);
     if v.number != 0 {

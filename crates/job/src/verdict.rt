@@ -9,11 +9,11 @@ use crate::numbers::wide;
 use crate::pins::first_bad_pin;
 use rules::Verdict;
 ghost use mathlib.Core.Path.{_≡_};
-ghost use Prim.Native.Nat.{_*_, _<_};
+ghost use Prim.Native.Nat.{_*_, _≤_, _<_};
 ghost use lib.ListN.{length};
 ghost use Rattle.rules.specs.Job.{limitsOf};
 ghost use Rattle.rules.specs.Check.{refuseIf, _orElse_, check1Of, check2Of, «check3», «check4», «check5», «check6», «check7», «check4to6», «check1to6»};
-ghost use Rattle.job.specs.Parts.{ofFiles, ofRecipes, ofPins, ofLists, ofRatio};
+ghost use Rattle.job.specs.Parts.{ofFiles, ofRecipes, ofPins, ofLists, ofFigures};
 ghost use Rattle.job.specs.Totals.{Within, Gives7to9};
 
 // Refused with this number and place, if the test passes; else done.
@@ -84,7 +84,7 @@ fn check4(bounds: &[u16], pins: &[u16]) -> Verdict
 }
 
 fn check5(sizes: &[u16], bounds: &[u16], pins: &[u16]) -> Verdict
-    requires { ⌜ «check4» (ofRecipes (now bounds) (now pins)) .number ≡ 0 ⌝ }
+    requires { do ⌜ (length (now sizes) ≤ (← ⟦Job::MOST_FILES⟧)) × («check4» (ofRecipes (now bounds) (now pins)) .number ≡ 0) ⌝ }
     ensures { λ r. ⌜ r ≡ «check5» (ofPins (now (sizes .entry)) (now (bounds .entry)) (now (pins .entry))) ⌝ }
 {
     let k = first_bad_pin(sizes, bounds, pins);
@@ -99,14 +99,18 @@ fn check6(sizes: &[u16], sides: &[u16], marks: &[u16]) -> Verdict
     refuse_if(f < sizes.len(), 6, f)
 }
 
-fn check7(num: u16, den: u16) -> Verdict
-    ensures { λ r. do ⌜ r ≡ «check7» (limitsOf (← ⟦Job::MOST_FILES⟧ .entry) (← ⟦Job::MOST_RECIPES⟧ .entry) (← ⟦Job::MOST_PINS⟧ .entry) (← ⟦Job::MOST_DEN⟧ .entry)) (ofRatio num den) ⌝ }
+fn check7(job: Job) -> Verdict
+    ensures { λ r. do ⌜ r ≡ «check7» (limitsOf (← ⟦Job::MOST_FILES⟧ .entry) (← ⟦Job::MOST_RECIPES⟧ .entry) (← ⟦Job::MOST_PINS⟧ .entry) (← ⟦Job::MOST_DEN⟧ .entry)) (ofFigures job) ⌝ }
 {
-    refuse_if((num == 0) | (den <= num) | (Job::MOST_DEN < den), 7, 0)
+    refuse_if(
+        (job.num == 0) | (job.den <= job.num) | (Job::MOST_DEN < job.den),
+        7,
+        0,
+    )
 }
 
 fn check4to6(sizes: &[u16], sides: &[u16], marks: &[u16], bounds: &[u16], pins: &[u16]) -> Verdict
-    requires { ⌜ 1 < length (now bounds) ⌝ }
+    requires { do ⌜ (1 < length (now bounds)) × (length (now sizes) ≤ (← ⟦Job::MOST_FILES⟧)) ⌝ }
     requires { ⌜ (length (now sides) ≡ length (now sizes)) × (length (now marks) ≡ length (now sizes)) ⌝ }
     ensures { λ r. ⌜ r ≡ «check4to6» (ofLists (now (sizes .entry)) (now (sides .entry)) (now (marks .entry)) (now (bounds .entry)) (now (pins .entry))) ⌝ }
 {
@@ -145,9 +149,9 @@ pub(crate) fn check1to6(
 // 8 and 9 need no list, only what its files add up to.
 pub(crate) fn check7to9(job: Job, t: Totals) -> Verdict
     requires { do ⌜ Within t ((← ⟦Job::MOST_FILES⟧) * 65535) ⌝ }
-    ensures { λ r. do ⌜ Gives7to9 (limitsOf (← ⟦Job::MOST_FILES⟧ .entry) (← ⟦Job::MOST_RECIPES⟧ .entry) (← ⟦Job::MOST_PINS⟧ .entry) (← ⟦Job::MOST_DEN⟧ .entry)) (job .num) (job .den) t r ⌝ }
+    ensures { λ r. do ⌜ Gives7to9 (limitsOf (← ⟦Job::MOST_FILES⟧ .entry) (← ⟦Job::MOST_RECIPES⟧ .entry) (← ⟦Job::MOST_PINS⟧ .entry) (← ⟦Job::MOST_DEN⟧ .entry)) job t r ⌝ }
 {
-    let v7 = check7(job.num, job.den);
+    let v7 = check7(job);
     let v8 = refuse_if(t.free == 0, 8, 0);
     let v9 = refuse_if(!is_balanced(job, t), 9, 0);
     or_else(v7, or_else(v8, v9))

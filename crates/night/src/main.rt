@@ -1,4 +1,4 @@
-// The night's program: a stored job on standard input, its report on standard output, in one write.
+// The night's program: a stored job on standard input, its report on standard output.
 use libc::STDOUT_FILENO;
 
 fn main() {

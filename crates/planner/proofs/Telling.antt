@@ -6,7 +6,7 @@ use mathlib.Core.Bool.{Bool, true, false, cond}
 use mathlib.Core.List.{List}
 use native.Mathlib.Omega.{arith}
 use lib.ListN.{length, take, replicate, length-replicate}
-use lib.IntN.{ℤ, pos}
+use lib.IntN.{pos}
 use lib.Seq.{length-take-le}
 use borrow.Author.Tests.{eq-eqb}
 use Rattle.rules.specs.declared.Verdict.{Verdict}
@@ -15,7 +15,9 @@ use Rattle.rules.specs.declared.RunFigures.{RunFigures}
 use Rattle.rules.specs.declared.ReadFigures.{ReadFigures}
 use Rattle.rules.specs.declared.Header.{Header}
 use Rattle.rules.specs.declared.Printed.{Printed}
-use Rattle.rules.specs.Job.{Job, asJob, Limits, fileCount, files, Lent}
+use Rattle.job.specs.declared.Job.{Job as JobFigures}
+use Rattle.job.specs.Parts.{wholeJob}
+use Rattle.rules.specs.Job.{Job, Limits, fileCount, files, Lent}
 use Rattle.rules.specs.Run.{Ended, endedOf, noRunFigures, passEnds, runEnds}
 use Rattle.rules.specs.Stored.{Room, headerOf, jobOf, Reading, written, reading, readVerdict}
 use Rattle.rules.specs.Report.{refusal, Printing, printed, intoRoom, reporting, prints, allRoom, ownLent, allLent}
@@ -26,7 +28,7 @@ use Rattle.rules.proofs.CutOff.{prints-no, traces-no}
 use Rattle.rules.proofs.Reports.{into-number, into-bytes, reporting-refusal, run-told, pass-held, pass-long, pass-traced}
 use Rattle.stored.specs.Steps.{firstOf}
 use Rattle.stored.proofs.Readings.{first-written}
-use Rattle.planner.specs.Answering.{runReport, passTrace, jobText, inputText, Answered, Lendable}
+use Rattle.planner.specs.Answering.{figuresIn, runReport, passTrace, jobText, inputText, Answered, Lendable}
 
 -- what is refused is told as a refused run is
 pub refusal-told : (most : Limits) {v : Verdict} {a : RunFigures} {x : Printing} (sizes sides room : List ℕ) → x ≡ reporting most sizes a sides room → a ≡ noRunFigures v → v .number ≢ 0
@@ -39,24 +41,21 @@ into-lendable bytes room room' a e = let h = into-bytes bytes room room' a e in 
 -- ---- what the planner's own calls tell
 
 -- a run with the planner's own lists, reported
-pub run-printed : (most : Limits) (job : Job) (a : Printed) (r : RunFigures) (sides room room' : List ℕ) (lent : Lent) → fileCount job ≤ most .files
-    → endedOf r sides lent ≡ runEnds most job (ownLent most (take (fileCount job) (replicate (most .files) (pos 0))))
+pub run-printed : (most : Limits) (job : Job) (a : Printed) (r : RunFigures) (sides room room' : List ℕ) (own lent : Lent) → endedOf r sides lent ≡ runEnds most job own → own ≡ allLent most job
     → printed a room' ≡ reporting most (job .sizes) r sides room
     → (printed a room' ≡ intoRoom (runReport most job) room) × (a .verdict .number ≢ 3 → a .verdict .number ≡ 0)
-run-printed most job a r sides room room' lent few e f =
-    let own : take (fileCount job) (replicate (most .files) (pos 0)) ≡ replicate (fileCount job) (pos 0) = take-replicate (fileCount job) (most .files) (pos 0) few in
-    let ran : endedOf r sides lent ≡ runEnds most job (allLent most job) = e ∙ ap (λ (g : List ℤ). runEnds most job (ownLent most g)) own in
+run-printed most job a r sides room room' own lent e q f =
+    let ran : endedOf r sides lent ≡ runEnds most job (allLent most job) = e ∙ ap (runEnds most job) q in
     let told : printed a room' ≡ intoRoom (runReport most job) room = f ∙ ap (λ (x : Ended RunFigures). reporting most (job .sizes) (x .answer) (x .sides) room) ran ∙ run-told most job (allLent most job) room in
     (told, into-number (runReport most job) room room' a told)
 
 -- one pass with them, traced
-pub pass-printed : (most : Limits) (job : Job) (a : Printed) (f : Figures) (sides room room' : List ℕ) (gains : List ℤ) (lent : Lent) → gains ≡ replicate (fileCount job) (pos 0)
-    → endedOf f sides lent ≡ passEnds most job (ownLent most gains)
+pub pass-printed : (most : Limits) (job : Job) (a : Printed) (f : Figures) (sides room room' : List ℕ) (own lent : Lent) → endedOf f sides lent ≡ passEnds most job own → own ≡ allLent most job
     → printed a room' ≡ tracing most (job .sizes) f sides (listing lent) room
     → (printed a room' ≡ intoRoom (passTrace most job) room) × (a .verdict .number ≢ 3 → a .verdict .number ≡ 0) × (holdsPass (job .sizes) f (listing lent) ≡ true)
     × (length sides ≡ length (job .sides)) × (length (lent .recipes) ≡ 4 * most .recipes)
-pass-printed most job a f sides room room' gains lent own e g =
-    let made : endedOf f sides lent ≡ passEnds most job (allLent most job) = e ∙ ap (λ (g : List ℤ). passEnds most job (ownLent most g)) own in
+pass-printed most job a f sides room room' own lent e q g =
+    let made : endedOf f sides lent ≡ passEnds most job (allLent most job) = e ∙ ap (passEnds most job) q in
     let long = pass-long most job (allLent most job) in
     let told : printed a room' ≡ intoRoom (passTrace most job) room
     = g ∙ ap (λ (x : Ended Figures). tracing most (job .sizes) (x .answer) (x .sides) (listing (x .lent)) room) made ∙ pass-traced most job (allLent most job) room in (
@@ -67,13 +66,20 @@ pass-printed most job a f sides room room' gains lent own e g =
       ap (λ (x : Ended Figures). length (x .lent .recipes)) made ∙ long .1 ∙ length-replicate (4 * most .recipes) 0,
     )
 
+-- the planner's own lists, the gain list cut to the files
+pub own-lent : (most : Limits) (sizes : List ℕ) (n : ℕ) → length sizes ≡ n → n ≤ most .files → ownLent most (take n (replicate (most .files) (pos 0))) ≡ ownLent most (replicate (length sizes) (pos 0))
+own-lent most sizes n e few = ap (ownLent most) (take-replicate n (most .files) (pos 0) few ∙ ap (λ (i : ℕ). replicate i (pos 0)) (sym e))
+
+pub figures-whole : (figures : JobFigures) (h : Header) → (figures .num ≡ h .num) × (figures .den ≡ h .den) × (figures .cap ≡ h .cap) → figures ≡ figuresIn h
+figures-whole figures h e = λ i. record { num = e .0 i; den = e .1 i; cap = e .2 i }
+
 -- the figures of the header are those of the job
-pub first-printed : (traced : Bool) (most : Limits) (h : Header) (lists : Room) (num den cap : ℕ) (x : Printing) (room : List ℕ) → (num ≡ h .num) × (den ≡ h .den) × (cap ≡ h .cap)
-    → x ≡ intoRoom (jobText traced most (asJob (take (h .files) (lists .sizes)) (take (h .files) (lists .sides)) (take (h .files) (lists .marks)) (take (h .recipes + 1) (lists .bounds)) (take (h .pins) (lists .pins)) num den cap)) room
+pub first-printed : (traced : Bool) (most : Limits) (h : Header) (lists : Room) (figures : JobFigures) (x : Printing) (room : List ℕ) → figures ≡ figuresIn h
+    → x ≡ intoRoom (jobText traced most (wholeJob figures (take (h .files) (lists .sizes)) (take (h .files) (lists .sides)) (take (h .files) (lists .marks)) (take (h .recipes + 1) (lists .bounds)) (take (h .pins) (lists .pins)))) room
     → x ≡ intoRoom (jobText traced most (firstOf h lists)) room
-first-printed traced most h lists num den cap x room e f =
+first-printed traced most h lists figures x room e f =
     f
-    ∙ λ i. intoRoom (jobText traced most (asJob (take (h .files) (lists .sizes)) (take (h .files) (lists .sides)) (take (h .files) (lists .marks)) (take (h .recipes + 1) (lists .bounds)) (take (h .pins) (lists .pins)) (e .0 i) (e .1 i) (e .2 i))) room
+    ∙ ap (λ (g : JobFigures). intoRoom (jobText traced most (wholeJob g (take (h .files) (lists .sizes)) (take (h .files) (lists .sides)) (take (h .files) (lists .marks)) (take (h .recipes + 1) (lists .bounds)) (take (h .pins) (lists .pins)))) room) e
 
 text-no : (traced : Bool) (most : Limits) (bytes : List ℕ) → readVerdict most bytes (allRoom most) .number ≢ 0 → inputText traced most bytes ≡ refusal (readVerdict most bytes (allRoom most))
 text-no true most bytes n = traces-no most bytes n

@@ -5,10 +5,16 @@ use mathlib.Core.Bool.{Bool, cond}
 use mathlib.Core.List.{List}
 use lib.ListN.{length, take}
 use Rattle.rules.specs.declared.Printed.{Printed}
+use Rattle.rules.specs.declared.Header.{Header}
+use Rattle.job.specs.declared.Job.{Job as Figures}
 use Rattle.rules.specs.Job.{Job, Limits}
 use Rattle.rules.specs.Run.{passEnds, runEnds}
 use Rattle.rules.specs.Report.{report, allLent, prints}
 use Rattle.rules.specs.Trace.{listing, trace, traces}
+
+-- the figures that a stored job's header has
+abbrev pub figuresIn : Header → Figures
+figuresIn h = record { num = h .num; den = h .den; cap = h .cap }
 
 -- with the planner's own lists: the report of a run, and the trace of a pass
 abbrev pub runReport : Limits → Job → List ℕ

@@ -7,28 +7,48 @@ ghost use mathlib.Core.Path.{_≡_};
 ghost use mathlib.Core.Logic.{_≢_};
 ghost use mathlib.Core.Bool.{cond};
 ghost use Prim.Native.Nat.{_+_, _≤_, _<_};
-ghost use lib.ListN.{length, replicate};
-ghost use lib.IntN.{pos};
-ghost use Rattle.rules.specs.Job.{limitsOf, asJob};
-ghost use Rattle.rules.specs.Report.{refusal, «printed», intoRoom, prints};
+ghost use lib.ListN.{length};
+ghost use Rattle.rules.specs.Job.{limitsOf, lentOf};
+ghost use Rattle.job.specs.Parts.{wholeJob};
+ghost use Rattle.rules.specs.Report.{refusal, «printed», intoRoom, allLent, prints};
 ghost use Rattle.rules.specs.Trace.{traces};
 ghost use Rattle.rules.specs.Theorems.{mostBytes};
 ghost use Rattle.stored.specs.Room.{roomOf};
 ghost use Rattle.stored.specs.Steps.{firstOf};
-ghost use Rattle.planner.specs.Answering.{runReport, passTrace, jobText, inputText, Answered, Lendable};
+ghost use Rattle.planner.specs.Answering.{figuresIn, jobText, inputText, Answered, Lendable};
+
+// The bytes of a block, and how many files or other numbers one holds.
+const BLOCK_BYTES: usize = 512;
+
+const BLOCK_FILES: usize = 126;
+
+const BLOCK_NUMBERS: usize = 253;
 
 // The blocks of the largest stored job, and one more, so that a longer input is seen to be longer.
-pub const INPUT_BYTES: usize = 512
+pub const INPUT_BYTES: usize = BLOCK_BYTES
     * (2
-        + (Job::MOST_FILES + 125) / 126
-        + (Job::MOST_RECIPES + 253) / 253
-        + (Job::MOST_PINS + 252) / 253);
+        + (Job::MOST_FILES + (BLOCK_FILES - 1)) / BLOCK_FILES
+        + (Job::MOST_RECIPES + BLOCK_NUMBERS) / BLOCK_NUMBERS
+        + (Job::MOST_PINS + (BLOCK_NUMBERS - 1)) / BLOCK_NUMBERS);
 
-// No report is longer.
-pub const TEXT_BYTES: usize = Job::MOST_FILES + 256;
+// More than the lines of the figures take, words and numbers, in a report and in a trace.
+const REPORT_FIGURES_BYTES: usize = 256;
 
-// No trace is longer: a line for each move and each scan, and a gain for each file.
-pub const TRACE_BYTES: usize = 512 + 128 * Job::MOST_FILES + 256 * Job::MOST_RECIPES;
+const TRACE_FIGURES_BYTES: usize = 512;
+
+// More than a file takes in a trace: the line of its move, its gain and its letter.
+const FILE_BYTES: usize = 128;
+
+// More than the line of a scan takes; a recipe is scanned at most four times.
+const SCAN_BYTES: usize = 64;
+
+// No report is longer: the lines of the figures, and a letter for each file.
+pub const TEXT_BYTES: usize = REPORT_FIGURES_BYTES + Job::MOST_FILES;
+
+// No trace is longer.
+pub const TRACE_BYTES: usize = TRACE_FIGURES_BYTES
+    + FILE_BYTES * Job::MOST_FILES
+    + 4 * SCAN_BYTES * Job::MOST_RECIPES;
 
 // What reading refused is told as a refused run is.
 fn print_refusal(verdict: Verdict, out: &mut [u8]) -> Printed
@@ -36,54 +56,11 @@ fn print_refusal(verdict: Verdict, out: &mut [u8]) -> Printed
     ensures { λ r. ⌜ «printed» r (now (out .exit)) ≡ intoRoom (refusal verdict) (now (out .entry)) ⌝ }
     ensures { λ r. do ⌜ Answered (← ⟦TEXT_BYTES⟧ .entry) r (now (out .entry)) ⌝ }
 {
-    let none = [0u16; 1];
-    report::report(runs::refused(verdict), &none, &none, out)
+    report::report(runs::refused(verdict), &[], &[], out)
 }
 
-// The run of a job, with lists of the planner's own for the gains, moves, scans and scratch, and its report.
-fn print_run(
-    job: Job,
-    sizes: &[u16],
-    sides: &mut [u16],
-    marks: &[u16],
-    bounds: &[u16],
-    pins: &[u16],
-    out: &mut [u8],
-) -> Printed
-    requires { do ⌜ (length (now sizes) ≤ (← ⟦Job::MOST_FILES⟧)) × (length (now sides) ≡ length (now sizes)) ⌝ }
-    ensures { λ r. do ⌜ «printed» r (now (out .exit)) ≡ intoRoom (runReport (limitsOf (← ⟦Job::MOST_FILES⟧ .entry) (← ⟦Job::MOST_RECIPES⟧ .entry) (← ⟦Job::MOST_PINS⟧ .entry) (← ⟦Job::MOST_DEN⟧ .entry)) (asJob (now (sizes .entry)) (now (sides .entry)) (now (marks .entry)) (now (bounds .entry)) (now (pins .entry)) (job .num) (job .den) (job .cap))) (now (out .entry)) ⌝ }
-    ensures { λ r. do ⌜ Answered (← ⟦TEXT_BYTES⟧ .entry) r (now (out .entry)) ⌝ }
-{
-    let mut gains = [0i32; Job::MOST_FILES];
-    let mut tried = [0u16; Job::MOST_FILES];
-    let mut gained = [0i32; Job::MOST_FILES];
-    let mut cuts = [0u16; Job::MOST_FILES];
-    let mut ends = [0u16; Job::MOST_FILES];
-    let mut recipes = [0u16; 4 * Job::MOST_RECIPES];
-    let mut kinds = [0u16; 4 * Job::MOST_RECIPES];
-    let mut scratch = [0u16; Job::MOST_PINS + 4 * Job::MOST_FILES + 4 * Job::MOST_RECIPES + 16];
-    let c = sizes.len();
-    let r = runs::run(
-        job,
-        sizes,
-        sides,
-        marks,
-        bounds,
-        pins,
-        &mut gains[..c],
-        &mut tried,
-        &mut gained,
-        &mut cuts,
-        &mut ends,
-        &mut recipes,
-        &mut kinds,
-        &mut scratch,
-    );
-    report::report(r, sizes, sides, out)
-}
-
-// One pass of a job, with such lists too, and its trace; the gain list is one of the right length.
-fn print_moves(
+// The report of the job's run, or the trace of one pass, with the lists that a pass is lent.
+fn print_with(
     job: Job,
     sizes: &[u16],
     sides: &mut [u16],
@@ -91,20 +68,53 @@ fn print_moves(
     bounds: &[u16],
     pins: &[u16],
     gains: &mut [i32],
+    tried: &mut [u16],
+    gained: &mut [i32],
+    cuts: &mut [u16],
+    ends: &mut [u16],
+    recipes: &mut [u16],
+    kinds: &mut [u16],
+    scratch: &mut [u16],
     out: &mut [u8],
+    traced: bool,
 ) -> Printed
-    requires { do ⌜ (length (now sizes) ≤ (← ⟦Job::MOST_FILES⟧)) × (length (now sides) ≡ length (now sizes)) × (now gains ≡ replicate (length (now sizes)) (pos 0)) ⌝ }
-    ensures { λ r. do ⌜ «printed» r (now (out .exit)) ≡ intoRoom (passTrace (limitsOf (← ⟦Job::MOST_FILES⟧ .entry) (← ⟦Job::MOST_RECIPES⟧ .entry) (← ⟦Job::MOST_PINS⟧ .entry) (← ⟦Job::MOST_DEN⟧ .entry)) (asJob (now (sizes .entry)) (now (sides .entry)) (now (marks .entry)) (now (bounds .entry)) (now (pins .entry)) (job .num) (job .den) (job .cap))) (now (out .entry)) ⌝ }
-    ensures { λ r. do ⌜ Answered (← ⟦TRACE_BYTES⟧ .entry) r (now (out .entry)) ⌝ }
+    requires { do ⌜ (length (now sizes) ≤ (← ⟦Job::MOST_FILES⟧)) × (length (now sides) ≡ length (now sizes)) ⌝ }
+    requires { do ⌜ lentOf (now gains) (now tried) (now gained) (now cuts) (now ends) (now recipes) (now kinds) (now scratch) ≡ allLent (limitsOf (← ⟦Job::MOST_FILES⟧) (← ⟦Job::MOST_RECIPES⟧) (← ⟦Job::MOST_PINS⟧) (← ⟦Job::MOST_DEN⟧)) (wholeJob job (now sizes) (now sides) (now marks) (now bounds) (now pins)) ⌝ }
+    ensures { λ r. do ⌜ «printed» r (now (out .exit)) ≡ intoRoom (jobText traced (limitsOf (← ⟦Job::MOST_FILES⟧ .entry) (← ⟦Job::MOST_RECIPES⟧ .entry) (← ⟦Job::MOST_PINS⟧ .entry) (← ⟦Job::MOST_DEN⟧ .entry)) (wholeJob job (now (sizes .entry)) (now (sides .entry)) (now (marks .entry)) (now (bounds .entry)) (now (pins .entry)))) (now (out .entry)) ⌝ }
+    ensures { λ r. do ⌜ Answered (cond traced (← ⟦TRACE_BYTES⟧ .entry) (← ⟦TEXT_BYTES⟧ .entry)) r (now (out .entry)) ⌝ }
 {
-    let mut tried = [0u16; Job::MOST_FILES];
-    let mut gained = [0i32; Job::MOST_FILES];
-    let mut cuts = [0u16; Job::MOST_FILES];
-    let mut ends = [0u16; Job::MOST_FILES];
-    let mut recipes = [0u16; 4 * Job::MOST_RECIPES];
-    let mut kinds = [0u16; 4 * Job::MOST_RECIPES];
-    let mut scratch = [0u16; Job::MOST_PINS + 4 * Job::MOST_FILES + 4 * Job::MOST_RECIPES + 16];
-    let r = split::pass_once(
+    if traced {
+        let f = split::pass_once(
+            job,
+            sizes,
+            sides,
+            marks,
+            bounds,
+            pins,
+            gains,
+            tried,
+            gained,
+            cuts,
+            ends,
+            recipes,
+            kinds,
+            scratch,
+        );
+        return report::trace(
+            f,
+            sizes,
+            sides,
+            gains,
+            tried,
+            gained,
+            cuts,
+            ends,
+            recipes,
+            kinds,
+            out,
+        );
+    }
+    let r = runs::run(
         job,
         sizes,
         sides,
@@ -112,70 +122,26 @@ fn print_moves(
         bounds,
         pins,
         gains,
-        &mut tried,
-        &mut gained,
-        &mut cuts,
-        &mut ends,
-        &mut recipes,
-        &mut kinds,
-        &mut scratch,
+        tried,
+        gained,
+        cuts,
+        ends,
+        recipes,
+        kinds,
+        scratch,
     );
-    report::trace(
-        r,
-        sizes,
-        sides,
-        gains,
-        &tried,
-        &gained,
-        &cuts,
-        &ends,
-        &recipes,
-        &kinds,
-        out,
-    )
+    report::report(r, sizes, sides, out)
 }
 
-fn print_pass(
-    job: Job,
-    sizes: &[u16],
-    sides: &mut [u16],
-    marks: &[u16],
-    bounds: &[u16],
-    pins: &[u16],
-    out: &mut [u8],
-) -> Printed
-    requires { do ⌜ (length (now sizes) ≤ (← ⟦Job::MOST_FILES⟧)) × (length (now sides) ≡ length (now sizes)) ⌝ }
-    ensures { λ r. do ⌜ «printed» r (now (out .exit)) ≡ intoRoom (passTrace (limitsOf (← ⟦Job::MOST_FILES⟧ .entry) (← ⟦Job::MOST_RECIPES⟧ .entry) (← ⟦Job::MOST_PINS⟧ .entry) (← ⟦Job::MOST_DEN⟧ .entry)) (asJob (now (sizes .entry)) (now (sides .entry)) (now (marks .entry)) (now (bounds .entry)) (now (pins .entry)) (job .num) (job .den) (job .cap))) (now (out .entry)) ⌝ }
-    ensures { λ r. do ⌜ Answered (← ⟦TRACE_BYTES⟧ .entry) r (now (out .entry)) ⌝ }
+// The figures of a stored job.
+fn figures_of(h: Header) -> Job
+    ensures { λ r. ⌜ r ≡ figuresIn h ⌝ }
 {
-    let mut gains = [0i32; Job::MOST_FILES];
-    let c = sizes.len();
-    print_moves(job, sizes, sides, marks, bounds, pins, &mut gains[..c], out)
+    Job::new(h.num, h.den, h.cap)
 }
 
-// The run's report, or the pass's trace.
+// The same of the job in the first entries of the lists that were read into, with lists of the planner's own for the gains, moves, scans and scratch.
 fn print_job(
-    job: Job,
-    sizes: &[u16],
-    sides: &mut [u16],
-    marks: &[u16],
-    bounds: &[u16],
-    pins: &[u16],
-    out: &mut [u8],
-    traced: bool,
-) -> Printed
-    requires { do ⌜ (length (now sizes) ≤ (← ⟦Job::MOST_FILES⟧)) × (length (now sides) ≡ length (now sizes)) ⌝ }
-    ensures { λ r. do ⌜ «printed» r (now (out .exit)) ≡ intoRoom (jobText traced (limitsOf (← ⟦Job::MOST_FILES⟧ .entry) (← ⟦Job::MOST_RECIPES⟧ .entry) (← ⟦Job::MOST_PINS⟧ .entry) (← ⟦Job::MOST_DEN⟧ .entry)) (asJob (now (sizes .entry)) (now (sides .entry)) (now (marks .entry)) (now (bounds .entry)) (now (pins .entry)) (job .num) (job .den) (job .cap))) (now (out .entry)) ⌝ }
-    ensures { λ r. do ⌜ Answered (cond traced (← ⟦TRACE_BYTES⟧ .entry) (← ⟦TEXT_BYTES⟧ .entry)) r (now (out .entry)) ⌝ }
-{
-    if traced {
-        return print_pass(job, sizes, sides, marks, bounds, pins, out);
-    }
-    print_run(job, sizes, sides, marks, bounds, pins, out)
-}
-
-// The same of the job in the first entries of the lists that were read into.
-fn print_first(
     h: Header,
     sizes: &[u16],
     sides: &mut [u16],
@@ -193,13 +159,30 @@ fn print_first(
     let c = h.files as usize;
     let n = h.recipes as usize + 1;
     let p = h.pins as usize;
-    print_job(
-        Job::new(h.num, h.den, h.cap),
+    let job = figures_of(h);
+    let mut gains = [0i32; Job::MOST_FILES];
+    let mut tried = [0u16; Job::MOST_FILES];
+    let mut gained = [0i32; Job::MOST_FILES];
+    let mut cuts = [0u16; Job::MOST_FILES];
+    let mut ends = [0u16; Job::MOST_FILES];
+    let mut recipes = [0u16; tables::MOST_SCANS];
+    let mut kinds = [0u16; tables::MOST_SCANS];
+    let mut scratch = [0u16; tables::MOST_NUMBERS];
+    print_with(
+        job,
         &sizes[..c],
         &mut sides[..c],
         &marks[..c],
         &bounds[..n],
         &pins[..p],
+        &mut gains[..c],
+        &mut tried,
+        &mut gained,
+        &mut cuts,
+        &mut ends,
+        &mut recipes,
+        &mut kinds,
+        &mut scratch,
         out,
         traced,
     )
@@ -228,7 +211,7 @@ fn answer(input: &[u8], out: &mut [u8], traced: bool) -> Printed
     if v.number != 0 {
         return print_refusal(v, out);
     }
-    print_first(
+    print_job(
         read.header,
         &sizes,
         &mut sides,

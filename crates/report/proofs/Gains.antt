@@ -16,6 +16,7 @@ use Rattle.rules.proofs.Machine.{wide-is}
 use Rattle.rules.proofs.Tests.{clash}
 use Rattle.rules.specs.Report.{text}
 use Rattle.rules.specs.Trace.{signed, gainWords}
+use Rattle.report.specs.Bytes.{gainBytes}
 use Rattle.report.specs.Laying.{Laid, pieces, shown, filled}
 use Rattle.report.proofs.Laying.{Laying, laying-none, laying-more, laying-end, laid-as}
 
@@ -81,18 +82,18 @@ gain-pieces (g ∷ gains) = ap (λ (l : List ℕ). signed g ++ l) (gain-pieces g
 -- the first i gains are laid, at most so long
 pub record Gaining (gains : List ℤ) (at : ℕ) (room : List ℕ) (i next : ℕ) (after : List ℕ) : Type 0 where
   pub laying : Laying signed gains at room i next after
-  pub short : next ≤ at + 22 * i
+  pub short : next ≤ at + gainBytes * i
 
 pub gaining-none : {gains : List ℤ} {at : ℕ} {room : List ℕ} → Gaining gains at room 0 at room
 gaining-none = record { laying = laying-none; short = omega arith }
 
 module _ {gains : List ℤ} {at i next : ℕ} {room mid : List ℕ} (x : Gaining gains at room i next mid) where
   pub gaining-more : {n : ℕ} {after : List ℕ} → i < length gains → SFits w32 (getD gains i (pos 0))
-      → Laid next (signed (toZ w32 (ofZ w32 (getD gains i (pos 0))))) mid n after → n ≤ next + 22 → Gaining gains at room (i + 1) n after
+      → Laid next (signed (toZ w32 (ofZ w32 (getD gains i (pos 0))))) mid n after → n ≤ next + gainBytes → Gaining gains at room (i + 1) n after
   gaining-more h f l s = record { laying = laying-more (pos 0) (x .laying) h (laid-as (signed-back f) l); short = omega (arith, x .short) }
 
   pub gaining-end : length gains ≤ i → Laid at (gainWords gains) room next mid
   gaining-end h = laid-as (gain-pieces gains) (laying-end (pos 0) (x .laying) h)
 
-  pub gaining-short : next ≤ at + 22 * length gains
+  pub gaining-short : next ≤ at + gainBytes * length gains
   gaining-short = omega (arith, x .short, x .laying .stop)

@@ -20,6 +20,7 @@ use Rattle.rules.specs.Report.{text, spaced, line, sizeLine, sidesLine}
 use Rattle.rules.specs.Trace.{Listing, signed, scanLines, scansBefore, moveLines, movesLines, passLines, badEnd, holdsPass}
 use Rattle.rules.proofs.Tests.{or-no, and-yes}
 use Rattle.rules.proofs.Searches.{none-below, Passed, passed-none, passed-more, passed-some, passed-no}
+use Rattle.report.specs.Bytes.{scanBytes, moveBytes}
 use Rattle.report.specs.Laying.{Laid, pieces, shown, filled}
 use Rattle.report.specs.Tracing.{scanLists, endsOf, moveLists, InOrder, MovesHeld, moveLine, gainsLine, tailLines}
 use Rattle.report.proofs.Forms.{joined}
@@ -189,19 +190,19 @@ module _ {l : Listing} {n i first : ℕ} (x : Ending l n i first) where
 -- the first k scans from a on are laid, at most so long
 pub record Scanning (l : Listing) (a n at : ℕ) (room : List ℕ) (k next : ℕ) (after : List ℕ) : Type 0 where
   pub laying : Laying (scanLine l a) (upTo n) at room k next after
-  pub short : next ≤ at + 47 * k
+  pub short : next ≤ at + scanBytes * k
 
 pub scanning-none : {l : Listing} {a n at : ℕ} {room : List ℕ} → Scanning l a n at room 0 at room
 scanning-none = record { laying = laying-none; short = omega arith }
 
 module _ {l : Listing} {a n at k next : ℕ} {room mid : List ℕ} (x : Scanning l a n at room k next mid) where
-  pub scanning-more : {p : ℕ} {after : List ℕ} → k < n → Laid next (scanLine l a k) mid p after → p ≤ next + 47 → Scanning l a n at room (k + 1) p after
+  pub scanning-more : {p : ℕ} {after : List ℕ} → k < n → Laid next (scanLine l a k) mid p after → p ≤ next + scanBytes → Scanning l a n at room (k + 1) p after
   scanning-more h y s = record { laying = growing-more (x .laying) h y; short = omega (arith, x .short) }
 
   pub scanning-end : n ≤ k → Laid at (scanLines l a n) room next mid
   scanning-end h = laid-as (scan-pieces l a n) (growing-end (x .laying) h)
 
-  pub scanning-short : next ≤ at + 47 * n
+  pub scanning-short : next ≤ at + scanBytes * n
   scanning-short = omega (arith, x .short, growing-stop (x .laying))
 
 -- ---- a loop over the moves
@@ -210,7 +211,7 @@ module _ {l : Listing} {a n at k next : ℕ} {room mid : List ℕ} (x : Scanning
 pub record Moving (l : Listing) (n at : ℕ) (room : List ℕ) (i first next : ℕ) (after : List ℕ) : Type 0 where
   pub starts : first ≡ scansBefore l i
   pub laying : Laying (moveLines l) (upTo n) at room i next after
-  pub short : next ≤ at + (69 * i + 47 * first)
+  pub short : next ≤ at + (moveBytes * i + scanBytes * first)
   pub small : first < 65536
 
 pub moving-none : {l : Listing} {n at : ℕ} {room : List ℕ} → Moving l n at room 0 0 at room
@@ -227,8 +228,8 @@ module _ {l : Listing} {n at i first next : ℕ} {room mid : List ℕ} (x : Movi
   moving-order m h = rw (x .starts) (in-order l i (m .scans i h))
 
   pub moving-more : {p q : ℕ} {after last : List ℕ} → MovesHeld n l → i < n → SFits w32 (getD (l .gained) i (pos 0)) → getD (l .ends) i 0 < 65536
-      → Laid next (moveLine (getD (l .tried) i 0) (toZ w32 (ofZ w32 (getD (l .gained) i (pos 0)))) (getD (l .cuts) i 0)) mid p after → p ≤ next + 69
-      → Laid p ownScans after q last → q ≤ p + 47 * (getD (l .ends) i 0 - first) → Moving l n at room (i + 1) (getD (l .ends) i 0) q last
+      → Laid next (moveLine (getD (l .tried) i 0) (toZ w32 (ofZ w32 (getD (l .gained) i (pos 0)))) (getD (l .cuts) i 0)) mid p after → p ≤ next + moveBytes
+      → Laid p ownScans after q last → q ≤ p + scanBytes * (getD (l .ends) i 0 - first) → Moving l n at room (i + 1) (getD (l .ends) i 0) q last
   moving-more m h f k y s z t =
       let line : Laid next ownLine mid _ _ = laid-as (ap (λ (g : ℤ). moveLine (getD (l .tried) i 0) g (getD (l .cuts) i 0)) (toZ-ofZ f)) y in
       record {
@@ -241,7 +242,7 @@ module _ {l : Listing} {n at i first next : ℕ} {room mid : List ℕ} (x : Movi
   pub moving-end : n ≤ i → Laid at (movesLines l n) room next mid
   moving-end h = laid-as (move-pieces l n) (growing-end (x .laying) h)
 
-  pub moving-short : n ≤ i → next ≤ at + (69 * n + 47 * scansBefore l n)
+  pub moving-short : n ≤ i → next ≤ at + (moveBytes * n + scanBytes * scansBefore l n)
   moving-short h =
       let e : i ≡ n = omega (arith, growing-stop (x .laying)) in
       rw (← e) (omega (arith, x .short, x .starts))

@@ -1,7 +1,8 @@
--- What the inner steps of a report promise one another; the promise of the report itself cites nothing here. Assumes nothing.
+-- What the inner steps of a report and of a trace promise one another; the promise of the report itself cites nothing here but how much room is
+-- enough. Assumes nothing.
 use mathlib.Core.Path.{_≡_}
 use mathlib.Core.Logic.{_≢_}
-use Prim.Native.Nat.{ℕ, _+_, _≤_}
+use Prim.Native.Nat.{ℕ, _≤_}
 use mathlib.Core.Bool.{Bool, not, cond}
 use mathlib.Core.List.{List, []}
 use lib.ListN.{length, getD}
@@ -9,6 +10,7 @@ use lib.Dec.{ltb, eqb}
 use Rattle.rules.specs.declared.Verdict.{Verdict}
 use Rattle.rules.specs.Check.{refuseIf, refuseAt, _orElse_}
 use Rattle.rules.specs.Report.{line}
+use Rattle.report.specs.Bytes.{reportBytes}
 
 -- the verdict on a split in two parts: before its text is counted, and after
 unfoldable pub lengthsVerdict : ℕ → List ℕ → List ℕ → Verdict
@@ -19,9 +21,9 @@ lengthsVerdict most sizes sides =
 unfoldable pub roomVerdict : List ℕ → Bool → Verdict
 roomVerdict sides lent = refuseIf (not lent) 3 0 orElse refuseAt 6 (λ f. ltb 1 (getD sides f 0)) (length sides)
 
--- room that is this much longer than the sides holds every text, so that it is never refused
+-- room of this length holds every text, so that it is never refused
 abbrev pub Enough : Verdict → List ℕ → List ℕ → List ℕ → Type 0
-Enough v sizes sides room = length sides ≡ length sizes → 256 + length sides ≤ length room → v .number ≢ 3
+Enough v sizes sides room = length sides ≡ length sizes → reportBytes (length sides) ≤ length room → v .number ≢ 3
 
 abbrev pub settledLine : Bool → List ℕ
 settledLine settled = line (cond settled "settled yes" "settled no") []

@@ -2,7 +2,7 @@
 -- Assumes nothing.
 use mathlib.Core.Path.{_≡_}
 use mathlib.Core.Logic.{_≢_}
-use Prim.Native.Nat.{ℕ, _+_, _*_, _≤_, _<_}
+use Prim.Native.Nat.{ℕ, _≤_, _<_}
 use mathlib.Core.Bool.{Bool, true, false, not}
 use mathlib.Core.List.{List, [], _∷_, _++_}
 use lib.ListN.{length}
@@ -12,13 +12,14 @@ use Rattle.rules.specs.declared.Figures.{Figures}
 use Rattle.rules.specs.Check.{refuseIf, _orElse_}
 use Rattle.rules.specs.Report.{text, spaced, line, sidesLine}
 use Rattle.rules.specs.Trace.{Listing, listingOf, signed, gainWords, badEnd, holdsPass}
+use Rattle.report.specs.Bytes.{traceBytes}
 use Rattle.report.specs.Steps.{lengthsVerdict}
 
 -- where the lists hold the pass, room of this length holds every text, so that it is never refused
 abbrev pub EnoughTold : Verdict → List ℕ → Figures → List ℕ → Listing → List ℕ → Type 0
 EnoughTold v sizes f sides l room =
     length sides ≡ length sizes → holdsPass sizes f l ≡ true
-    → 512 + 128 * length sizes + 64 * length (l .recipes) ≤ length room → v .number ≢ 3
+    → traceBytes (length sizes) (length (l .recipes)) ≤ length room → v .number ≢ 3
 
 -- ---- the lists that a step reads, the others empty
 

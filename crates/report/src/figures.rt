@@ -8,15 +8,16 @@ use rules::RunFigures;
 use rules::Verdict;
 ghost use mathlib.Core.Path.{_≡_};
 ghost use mathlib.Core.Bool.{true};
-ghost use Prim.Native.Nat.{_+_, _≤_};
+ghost use Prim.Native.Nat.{_≤_};
 ghost use lib.ListN.{length};
 ghost use Rattle.rules.specs.Report.{refusal, figureLines, ofSizes};
+ghost use Rattle.report.specs.Bytes.{figureBytes, reportBytes};
 ghost use Rattle.report.specs.Laying.{Near, Laid};
 ghost use Rattle.report.specs.Steps.{settledLine};
 
 pub(crate) fn put_refusal(out: &mut [u8], v: Verdict) -> usize
     ensures { λ r. ⌜ Laid 0 (refusal v) (now (out .entry)) r (now (out .exit)) ⌝ }
-    ensures { λ r. ⌜ r ≤ 256 ⌝ }
+    ensures { λ r. ⌜ r ≤ figureBytes ⌝ }
 {
     put_form(out, 0, b"refused 0 1\n", &[v.number as u64, v.place as u64])
 }
@@ -35,7 +36,7 @@ fn put_settled(out: &mut [u8], at: usize, settled: bool) -> usize
 pub(crate) fn put_figures(out: &mut [u8], r: RunFigures, sizes: &[u16], sides: &[u16]) -> usize
     requires { do ⌜ (length (now sizes) ≤ (← ⟦Job::MOST_FILES⟧)) × (length (now sides) ≡ length (now sizes)) ⌝ }
     ensures { λ n. ⌜ Laid 0 (figureLines (ofSizes (now (sizes .entry))) r (now (sides .entry))) (now (out .entry)) n (now (out .exit)) ⌝ }
-    ensures { λ n. ⌜ n ≤ 256 + length (now (sides .entry)) ⌝ }
+    ensures { λ n. ⌜ n ≤ reportBytes (length (now (sides .entry))) ⌝ }
 {
     let b = size_on(sizes, sides, 1);
     let mut next = put_form(

@@ -16,6 +16,7 @@ ghost use Rattle.rules.specs.Job.{limitsOf};
 ghost use Rattle.rules.specs.Check.{refuseIf};
 ghost use Rattle.rules.specs.Report.{printed, printing, refusal, reporting};
 ghost use Rattle.rules.specs.Trace.{listingOf, tracing};
+ghost use Rattle.report.specs.Bytes.{figureBytes};
 ghost use Rattle.report.specs.Steps.{Enough};
 ghost use Rattle.report.specs.Tracing.{EnoughTold};
 use figures::put_figures;
@@ -34,7 +35,7 @@ use verdict::room_verdict;
 // A refusal told: it needs room alone, since it tells of no split.
 fn print_refusal(told: Verdict, out: &mut [u8]) -> Printed
     ensures { λ r. ⌜ printed r (now (out .exit)) ≡ printing (refuseIf (not (leb (length (refusal told)) (length (now (out .entry))))) 3 0) (refusal told) (now (out .entry)) ⌝ }
-    ensures { λ r. ⌜ (256 ≤ length (now (out .entry)) → r .verdict .number ≢ 3) ⌝ }
+    ensures { λ r. ⌜ (figureBytes ≤ length (now (out .entry)) → r .verdict .number ≢ 3) ⌝ }
 {
     let bytes = put_refusal(&mut [], told);
     let verdict = refuse_if(!(bytes <= out.len()), 3, 0);

@@ -9,6 +9,7 @@ ghost use lib.ListN.{length};
 ghost use lib.IntN.{natAbs};
 ghost use Rattle.rules.specs.Report.{line};
 ghost use Rattle.rules.specs.Trace.{signed, scanLines, scansBefore, movesLines};
+ghost use Rattle.report.specs.Bytes.{gainBytes, scanBytes, moveBytes};
 ghost use Rattle.report.specs.Laying.{Ahead, Laid};
 ghost use Rattle.report.specs.Tracing.{scanLists, moveLists, InOrder, MovesHeld, moveLine, gainsLine};
 
@@ -26,9 +27,9 @@ fn magnitude(gain: i32) -> u64
 
 // After one space, with its sign where it is below zero.
 fn put_signed(out: &mut [u8], at: usize, gain: i32) -> usize
-    requires { ⌜ Ahead at 22 ⌝ }
+    requires { ⌜ Ahead at gainBytes ⌝ }
     ensures { λ r. ⌜ Laid at (signed gain) (now (out .entry)) r (now (out .exit)) ⌝ }
-    ensures { λ r. ⌜ r ≤ at + 22 ⌝ }
+    ensures { λ r. ⌜ r ≤ at + gainBytes ⌝ }
 {
     let n = magnitude(gain);
     if gain < 0 {
@@ -38,9 +39,9 @@ fn put_signed(out: &mut [u8], at: usize, gain: i32) -> usize
 }
 
 pub(crate) fn put_gains(out: &mut [u8], at: usize, gains: &[i32]) -> usize
-    requires { ⌜ Ahead at (6 + 22 * length (now gains)) ⌝ }
+    requires { ⌜ Ahead at (6 + gainBytes * length (now gains)) ⌝ }
     ensures { λ r. ⌜ Laid at (gainsLine (now (gains .entry))) (now (out .entry)) r (now (out .exit)) ⌝ }
-    ensures { λ r. ⌜ r ≤ at + (6 + 22 * length (now (gains .entry))) ⌝ }
+    ensures { λ r. ⌜ r ≤ at + (6 + gainBytes * length (now (gains .entry))) ⌝ }
 {
     let mut next = put_text(out, at, b"gains");
     let mut f = 0;
@@ -52,9 +53,9 @@ pub(crate) fn put_gains(out: &mut [u8], at: usize, gains: &[i32]) -> usize
 }
 
 fn put_scan(out: &mut [u8], at: usize, recipe: u16, kind: u16) -> usize
-    requires { ⌜ Ahead at 47 ⌝ }
+    requires { ⌜ Ahead at scanBytes ⌝ }
     ensures { λ r. ⌜ Laid at (line "scan" (recipe ∷ kind ∷ [])) (now (out .entry)) r (now (out .exit)) ⌝ }
-    ensures { λ r. ⌜ r ≤ at + 47 ⌝ }
+    ensures { λ r. ⌜ r ≤ at + scanBytes ⌝ }
 {
     put_form(out, at, b"scan 0 1\n", &[recipe as u64, kind as u64])
 }
@@ -68,10 +69,10 @@ fn put_scans(
     first: u16,
     end: u16,
 ) -> usize
-    requires { ⌜ Ahead at (47 * (end - first)) ⌝ }
+    requires { ⌜ Ahead at (scanBytes * (end - first)) ⌝ }
     requires { ⌜ InOrder (now recipes) (now kinds) first end ⌝ }
     ensures { λ r. ⌜ Laid at (scanLines (scanLists (now (recipes .entry)) (now (kinds .entry))) first (end - first)) (now (out .entry)) r (now (out .exit)) ⌝ }
-    ensures { λ r. ⌜ r ≤ at + 47 * (end - first) ⌝ }
+    ensures { λ r. ⌜ r ≤ at + scanBytes * (end - first) ⌝ }
 {
     let a = first as usize;
     let n = (end - first) as usize;
@@ -85,9 +86,9 @@ fn put_scans(
 }
 
 fn put_move(out: &mut [u8], at: usize, file: u16, gain: i32, cut: u16) -> usize
-    requires { ⌜ Ahead at 69 ⌝ }
+    requires { ⌜ Ahead at moveBytes ⌝ }
     ensures { λ r. ⌜ Laid at (moveLine file gain cut) (now (out .entry)) r (now (out .exit)) ⌝ }
-    ensures { λ r. ⌜ r ≤ at + 69 ⌝ }
+    ensures { λ r. ⌜ r ≤ at + moveBytes ⌝ }
 {
     let mut next = put_form(out, at, b"move 0", &[file as u64]);
     next = put_signed(out, next, gain);
@@ -106,10 +107,10 @@ pub(crate) fn put_moves(
     recipes: &[u16],
     kinds: &[u16],
 ) -> usize
-    requires { ⌜ Ahead at (69 * n + 47 * 65536) ⌝ }
+    requires { ⌜ Ahead at (moveBytes * n + scanBytes * 65536) ⌝ }
     requires { ⌜ MovesHeld n (moveLists (now tried) (now gained) (now cuts) (now ends) (now recipes) (now kinds)) ⌝ }
     ensures { λ r. ⌜ Laid at (movesLines (moveLists (now (tried .entry)) (now (gained .entry)) (now (cuts .entry)) (now (ends .entry)) (now (recipes .entry)) (now (kinds .entry))) n) (now (out .entry)) r (now (out .exit)) ⌝ }
-    ensures { λ r. ⌜ r ≤ at + (69 * n + 47 * scansBefore (moveLists (now (tried .entry)) (now (gained .entry)) (now (cuts .entry)) (now (ends .entry)) (now (recipes .entry)) (now (kinds .entry))) n) ⌝ }
+    ensures { λ r. ⌜ r ≤ at + (moveBytes * n + scanBytes * scansBefore (moveLists (now (tried .entry)) (now (gained .entry)) (now (cuts .entry)) (now (ends .entry)) (now (recipes .entry)) (now (kinds .entry))) n) ⌝ }
 {
     let mut next = at;
     let mut first = 0;

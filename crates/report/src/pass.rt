@@ -18,6 +18,7 @@ ghost use lib.Dec.{leb, ltb, eqb};
 ghost use Rattle.rules.specs.Lists.{someBelow};
 ghost use Rattle.rules.specs.Report.{ofSizes};
 ghost use Rattle.rules.specs.Trace.{listingOf, badEnd, holdsPass, passLines};
+ghost use Rattle.report.specs.Bytes.{gainBytes, figureBytes, traceBytes};
 ghost use Rattle.report.specs.Laying.{Ahead, Laid};
 ghost use Rattle.report.specs.Tracing.{endsOf, passVerdict, tailLines};
 
@@ -90,9 +91,9 @@ pub(crate) fn pass_verdict(
 
 // The lines after the moves, where the size of B is b.
 fn put_tail(out: &mut [u8], at: usize, f: Figures, b: u64, gains: &[i32], sides: &[u16]) -> usize
-    requires { ⌜ Ahead at (256 + 22 * length (now gains) + length (now sides)) ⌝ }
+    requires { ⌜ Ahead at (figureBytes + gainBytes * length (now gains) + length (now sides)) ⌝ }
     ensures { λ r. ⌜ Laid at (tailLines f b (now (gains .entry)) (now (sides .entry))) (now (out .entry)) r (now (out .exit)) ⌝ }
-    ensures { λ r. ⌜ r ≤ at + (256 + 22 * length (now (gains .entry)) + length (now (sides .entry))) ⌝ }
+    ensures { λ r. ⌜ r ≤ at + (figureBytes + gainBytes * length (now (gains .entry)) + length (now (sides .entry))) ⌝ }
 {
     let mut next = put_gains(out, at, gains);
     next = put_form(
@@ -129,7 +130,7 @@ pub(crate) fn put_pass(
     requires { do ⌜ (length (now sizes) ≤ (← ⟦Job::MOST_FILES⟧)) × (length (now sides) ≡ length (now sizes)) ⌝ }
     requires { ⌜ holdsPass (now sizes) f (listingOf (now gains) (now tried) (now gained) (now cuts) (now ends) (now recipes) (now kinds)) ≡ true ⌝ }
     ensures { λ n. ⌜ Laid 0 (passLines (ofSizes (now (sizes .entry))) f (now (sides .entry)) (listingOf (now (gains .entry)) (now (tried .entry)) (now (gained .entry)) (now (cuts .entry)) (now (ends .entry)) (now (recipes .entry)) (now (kinds .entry)))) (now (out .entry)) n (now (out .exit)) ⌝ }
-    ensures { λ n. ⌜ n ≤ 512 + 128 * length (now (sizes .entry)) + 64 * length (now (recipes .entry)) ⌝ }
+    ensures { λ n. ⌜ n ≤ traceBytes (length (now (sizes .entry))) (length (now (recipes .entry))) ⌝ }
 {
     let b = size_on(sizes, sides, 1);
     let mut next = put_text(out, 0, b"done\n");

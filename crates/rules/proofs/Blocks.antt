@@ -1,5 +1,5 @@
 -- A block's check byte by byte, and the verdict on blocks block by block, as a loop goes. Assumes nothing.
-use mathlib.Core.Path.{_≡_, ap, _∙_}
+use mathlib.Core.Path.{_≡_, sym, ap, _∙_}
 use Prim.Native.Nat.{ℕ, zero, suc, _+_, _-_, _*_, _<_, _≤_}
 use native.Mathlib.Numerals.{add-one}
 use native.Mathlib.Omega.{arith}
@@ -9,6 +9,7 @@ use lib.Seq.{take-nil}
 use Rattle.rules.specs.declared.Header.{Header}
 use Rattle.rules.specs.Check.{done, _orElse_}
 use Rattle.rules.specs.Stored.{weigh, blockVerdict, blocksVerdict}
+use Rattle.rules.proofs.Verdicts.{or-assoc}
 
 weigh-suc : (bs : List ℕ) (k i : ℕ) → weigh i (take (suc k) bs) ≡ weigh i (take k bs) + suc (i + k) * getD bs k 0
 unfolding weigh
@@ -26,16 +27,29 @@ weigh-more bs k =
     let e : suc (0 + k) ≡ k + 1 = omega arith in
     ap (λ (j : ℕ). weigh 0 (take j bs)) (add-one k) ∙ weigh-suc bs k 0 ∙ ap (λ (j : ℕ). weigh 0 (take k bs) + j * getD bs k 0) e
 
--- the blocks from b up to, not including, m
-module _ (h : Header) (bytes : List ℕ) (b m : ℕ) where
-  pub blocks-more : b < m → blocksVerdict h bytes b (m - b) ≡ (blockVerdict h bytes b orElse blocksVerdict h bytes (b + 1) (m - (b + 1)))
+-- of the n blocks from b on, those from the kth on
+module _ (h : Header) (bytes : List ℕ) (b n k : ℕ) where
+  pub blocks-more : k < n → blocksVerdict h bytes (b + k) (n - k) ≡ (blockVerdict h bytes (b + k) orElse blocksVerdict h bytes (b + (k + 1)) (n - (k + 1)))
   unfolding blocksVerdict
   blocks-more l =
-      let e : m - b ≡ suc (m - suc b) = omega arith in
-      rw (e, add-one b)
+      let e : n - k ≡ suc (n - (k + 1)) = omega arith in
+      let f : b + (k + 1) ≡ suc (b + k) = omega arith in
+      rw (e, f)
 
-  pub blocks-end : m ≤ b → blocksVerdict h bytes b (m - b) ≡ done
+  pub blocks-end : n ≤ k → blocksVerdict h bytes (b + k) (n - k) ≡ done
   unfolding blocksVerdict
   blocks-end l =
-      let e : m - b ≡ 0 = omega arith in
+      let e : n - k ≡ 0 = omega arith in
       rw e
+
+-- the m blocks from b on, then the n blocks after them
+pub blocks-split : (h : Header) (bytes : List ℕ) (b m n : ℕ) → blocksVerdict h bytes b (m + n) ≡ (blocksVerdict h bytes b m orElse blocksVerdict h bytes (b + m) n)
+unfolding blocksVerdict
+blocks-split h bytes b zero n =
+    let e : 0 + n ≡ n = omega arith in
+    let f : b + 0 ≡ b = omega arith in
+    rw (e, f)
+blocks-split h bytes b (suc m) n =
+    let e : suc m + n ≡ suc (m + n) = omega arith in
+    let f : b + suc m ≡ suc b + m = omega arith in
+    rw (e, f, blocks-split h bytes (suc b) m n) (sym (or-assoc (blockVerdict h bytes b) (blocksVerdict h bytes (suc b) m) (blocksVerdict h bytes (suc b + m) n)))

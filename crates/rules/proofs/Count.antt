@@ -122,6 +122,14 @@ count-some p (suc n) h = go (p n) refl (total-upTo (λ x. bit (p x)) n) (count-s
     go false e q ih = let r = ih (λ z. h (omega (arith, ap bit e))) in (r .0, omega (arith, r .1), r .2)
 
 -- one entry more, as a loop over a list has it
+pub count-here : (p : ℕ → Bool) (n i : ℕ) → i < n → p i ≡ true → count p (upTo n) ≢ 0
+unfolding count
+count-here p zero i h e = absurd (omega arith)
+count-here p (suc n) i h e = elim (ℕ-discrete i n) [
+  | yes q ↦ let z : bit (p n) ≡ 1 = rw (← q, e) refl in λ k. omega (arith, total-upTo (λ x. bit (p x)) n)
+  | no m ↦ let r : count p (upTo n) ≢ 0 = count-here p n i (omega arith) e in λ k. unfold count in r (omega (arith, total-upTo (λ x. bit (p x)) n))
+]
+
 pub total-take {ℓ} : {A : Type ℓ} (w : A → ℕ) (d : A) (l : List A) (i : ℕ) → i < length l → total w (take (suc i) l) ≡ total w (take i l) + w (getD l i d)
 unfolding total
 total-take w d [] i h = absurd (omega arith)

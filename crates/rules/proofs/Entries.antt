@@ -1,7 +1,7 @@
 -- A lent list afterwards, entry by entry. Assumes nothing.
 use mathlib.Core.Path.{_≡_, refl, sym, ap, _∙_}
 use Prim.Native.Nat.{ℕ, zero, suc, _+_, _-_, _≤_, _<_}
-use mathlib.Core.List.{List, [], _∷_, _++_}
+use mathlib.Core.List.{List, [], _∷_, _++_, append-assoc}
 use native.Mathlib.Numerals.{add-one}
 use native.Mathlib.Omega.{arith}
 use lib.ListN.{length, getD, set, take, drop, replicate, length-append, length-drop, length-replicate, getD-replicate, List·getD-append}
@@ -74,6 +74,14 @@ module _ {ℓ} {A : Type ℓ} (n : ℕ) (z : A) (xs : List A) (fits : length xs 
   pub padded-past : (d : A) (i : ℕ) → length xs ≤ i → i < n → getD (padded n z xs) i d ≡ z
   unfolding padded
   padded-past d i h k = getD-past d xs (replicate (n - length xs) z) i h ∙ getD-replicate (n - length xs) (i - length xs) z d (omega arith)
+
+-- what follows xs in such a list: the zeros, and the further entries
+abbrev pub beyond {ℓ} : {A : Type ℓ} → ℕ → A → List A → List A → List A
+beyond n z xs old = replicate (n - length xs) z ++ drop (length (padded n z xs)) old
+
+pub listed-more {ℓ} : {A : Type ℓ} (n : ℕ) (z : A) (xs old : List A) → listed n z xs old ≡ xs ++ beyond n z xs old
+unfolding onto
+listed-more n z xs old = unfold padded in append-assoc xs (replicate (n - length xs) z) (drop (length (padded n z xs)) old)
 
 pub listed-holds {ℓ} : {A : Type ℓ} (n : ℕ) (z : A) (xs old : List A) → length xs ≤ n → n ≤ length old → Listed n z xs old (listed n z xs old)
 listed-holds n z xs old h k =

@@ -12,11 +12,11 @@ use lib.Dec.{eqb}
 use lib.ListN.{length, getD, length-append, length-map}
 use Rattle.rules.specs.Lists.{bit, total, count, upTo}
 use Rattle.rules.specs.Split.{sideOf, countOn, times, holds, recipesWith}
-use Rattle.rules.specs.Move.{stepsBy, State, moved, after, Frees, stop, move, Scan, kindIf, kindsIn, kindsOf, scansFrom, scansOf, scans, visits}
+use Rattle.rules.specs.Move.{stepsBy, State, lockedOn, moved, after, Frees, stop, move, Scan, kindIf, kindsIn, kindsOf, scansFrom, scansOf, scans, visits}
 use Rattle.rules.specs.Theorems.{Binary, Distinct}
 use Rattle.rules.proofs.Count.{is0, is1, total-append, total-map, total-const, sumFrom, sumFrom-upTo, total-index, length-upTo, times-upTo, holds-yes, holds-no}
 use Rattle.rules.proofs.OneMove.{Moves, move-of, stays-binary, left-count, there-count, left-locked, there-locked, out-count, out-locked}
-use Rattle.rules.proofs.Locked.{lockedOn, locked-le, kindsBy, kinds-by}
+use Rattle.rules.proofs.Locked.{locked-le, kindsBy, kinds-by}
 
 -- ---- numbers alone: the scans that a side with n files, l of them locked, causes
 

@@ -3,7 +3,7 @@ use mathlib.Core.Path.{_≡_, refl, sym, ap, ap₂, _∙_}
 use mathlib.Core.Logic.{_≢_}
 use Prim.Native.Nat.{ℕ, zero, suc, _+_, _-_, _≤_, _<_}
 use mathlib.Core.Bool.{Bool, true, false, not, cond, _&&_}
-use mathlib.Core.List.{List, [], _∷_, _++_, map}
+use mathlib.Core.List.{List, [], _∷_, _++_, map, append-assoc, append-nil}
 use native.Mathlib.Decide.{ℕ-discrete}
 use native.Mathlib.Omega.{arith}
 use native.Mathlib.Nat.{zero-add, add-zero, suc-add, add-suc}
@@ -15,7 +15,7 @@ use Rattle.rules.specs.Lists.{bit, total, count, diff, sum}
 use Rattle.rules.specs.Split.{other, sideOf, onSide, cut, isCut, times, holds, alone, together, gain}
 use Rattle.rules.specs.Move.{stepsBy, State, lockOf, free, moved, after, Frees, stop, move, Scan, kindsOf, scansFrom, scansOf, scans, reaches, touches, raises, change, scanPins, scanAll, replay, endsFrom}
 use Rattle.rules.specs.Pass.{gainsWhen, standing, gainsAfter, startGains}
-use Rattle.rules.specs.Theorems.{Binary, Distinct}
+use Rattle.rules.specs.Theorems.{Binary, Distinct, scansTold}
 use Rattle.rules.proofs.Count.{getD-tabled, length-tabled, hit-eq, hit-ne, total-append, total-map, total-law, holds-yes, holds-no}
 use Rattle.rules.proofs.Signed.{diff-add, diff-eq, diff-neg, diff-pos, diff-zero, step-diff}
 use Rattle.rules.proofs.Tests.{and-false}
@@ -270,22 +270,34 @@ module _ (rs : List (List ℕ)) (dis : Distinct rs) where
       ∙ ap (λ z. z -ℤ R) (cut-moved rs dis st f m)
       ∙ cut-kept (moved st f) fs rest (stays-binary m)
 
--- the lists of the moves fs ++ rest, replayed for fs alone, give what the scans of fs do
-replay-prefix : (rs : List (List ℕ)) (n : ℕ) (st : State) (fs rest : List ℕ) (g : List ℤ)
-    → replay rs st fs n (endsFrom rs n st (fs ++ rest)) (scans rs st (fs ++ rest)) g ≡ keptUp rs st fs g
+-- the lists of the moves fs ++ rest, whatever follows in them, replayed for fs alone, give what the scans of fs do
+replay-prefix : (rs : List (List ℕ)) (n : ℕ) (st : State) (fs rest more : List ℕ) (over : List Scan) (g : List ℤ)
+    → replay rs st fs n (endsFrom rs n st (fs ++ rest) ++ more) (scans rs st (fs ++ rest) ++ over) g ≡ keptUp rs st fs g
 unfolding replay endsFrom scans keptUp
-replay-prefix rs n st [] rest g = refl
-replay-prefix rs n st (f ∷ fs) rest g =
+replay-prefix rs n st [] rest more over g = refl
+replay-prefix rs n st (f ∷ fs) rest more over g =
     let a : List Scan = scansOf rs st f in
     let b : List Scan = scans rs (moved st f) (fs ++ rest) in
     let e : n + length a - n ≡ length a = omega arith in
-    rw (e, take-append-seam a b, drop-append-seam a b) (replay-prefix rs (n + length a) (moved st f) fs rest _)
+    rw (e, append-assoc a b over, take-append-seam a (b ++ over), drop-append-seam a (b ++ over)) (replay-prefix rs (n + length a) (moved st f) fs rest more over _)
+
+pub replay-within : (k : ℕ) (rs : List (List ℕ)) (st : State) (fs more : List ℕ) (over : List Scan) (g : List ℤ)
+    → replay rs st (take k fs) 0 (endsFrom rs 0 st fs ++ more) (scans rs st fs ++ over) g ≡ keptUp rs st (take k fs) g
+replay-within k rs st fs more over g =
+    ap (λ (l : List ℕ). replay rs st (take k fs) 0 (endsFrom rs 0 st l ++ more) (scans rs st l ++ over) g) (sym (take-append-drop k fs))
+    ∙ replay-prefix rs 0 st (take k fs) (drop k fs) more over g
 
 pub replay-listed : (k : ℕ) (rs : List (List ℕ)) (st : State) (fs : List ℕ) (g : List ℤ)
     → replay rs st (take k fs) 0 (endsFrom rs 0 st fs) (scans rs st fs) g ≡ keptUp rs st (take k fs) g
 replay-listed k rs st fs g =
-    ap (λ (l : List ℕ). replay rs st (take k fs) 0 (endsFrom rs 0 st l) (scans rs st l) g) (sym (take-append-drop k fs))
-    ∙ replay-prefix rs 0 st (take k fs) (drop k fs) g
+    ap₂ (λ (x : List ℕ) (y : List Scan). replay rs st (take k fs) 0 x y g) (sym (append-nil (endsFrom rs 0 st fs))) (sym (append-nil (scans rs st fs)))
+    ∙ replay-within k rs st fs [] [] g
+
+-- scans told by two lists, whatever follows in them
+pub told-more : (cs : List Scan) (js ks : List ℕ) → scansTold (map (λ c. c .recipe) cs ++ js) (map (λ c. c .kind) cs ++ ks) ≡ cs ++ scansTold js ks
+unfolding scansTold
+told-more [] js ks = refl
+told-more (c ∷ cs) js ks = ap (λ (l : List Scan). c ∷ l) (told-more cs js ks)
 
 -- ---- the gain list that a pass leaves
 
@@ -295,6 +307,41 @@ unfolding gainsAfter
 gains-pinned rs n st fs y h e =
     getD-tabled (λ f. cond (free st f) (standing rs st fs f) (pos 0)) n y (pos 0) h
     ∙ ap (λ (b : Bool). cond b (standing rs st fs y) (pos 0)) (ne-eqb (lockOf st y) 0 e)
+
+-- a file that is moved was free
+frees-free : {st : State} {fs : List ℕ} → Frees st fs → (i : ℕ) → i < length fs → (getD fs i 0 < length (st .locks)) × (lockOf st (getD fs i 0) ≡ 0)
+unfolding moved
+frees-free stop i h = absurd (omega arith)
+frees-free (move a b e rest) zero h = (b, e)
+frees-free {st} (move {f = f} {fs = fs} a b e rest) (suc i) h =
+    let r = frees-free rest i (omega arith) in (
+      rw (length-set (st .locks) f 1) at (r .0),
+      elim (ℕ-discrete (getD fs i 0) f) [
+        | yes q ↦ ap (lockOf st) q ∙ e
+        | no n ↦ sym (getD-set-other (st .locks) f (getD fs i 0) 1 0 n) ∙ r .1
+      ],
+    )
+
+-- a moved file keeps the gain it had when chosen
+standing-when : (rs : List (List ℕ)) {st : State} {fs : List ℕ} → Frees st fs → (i : ℕ) → i < length fs
+    → standing rs st fs (getD fs i 0) ≡ getD (gainsWhen rs st fs) i (pos 0)
+unfolding standing gainsWhen
+standing-when rs stop i h = absurd (omega arith)
+standing-when rs (move {f = f} a b e rest) zero h = rw (eq-eqb f f refl) refl
+standing-when rs {st} (move {f = f} {fs = fs} a b e rest) (suc i) h =
+    let l : lockOf (moved st f) f ≡ 1 = unfold moved in getD-set-same (st .locks) f 1 0 b in
+    let n : f ≢ getD fs i 0 = λ q. omega (arith, ap (lockOf (moved st f)) q, frees-free rest i (omega arith) .1) in
+    rw (ne-eqb f (getD fs i 0) n) (standing-when rs rest i (omega arith))
+
+pub gains-chosen : (rs : List (List ℕ)) (n : ℕ) {st : State} {fs : List ℕ} → Frees st fs → length (st .locks) ≡ n → (i : ℕ) → i < length fs
+    → getD (gainsAfter rs n st fs) (getD fs i 0) (pos 0) ≡ getD (gainsWhen rs st fs) i (pos 0)
+unfolding gainsAfter
+gains-chosen rs n {st} {fs} l long i h =
+    let r = frees-free l i h in
+    let y : ℕ = getD fs i 0 in
+    getD-tabled (λ f. cond (free st f) (standing rs st fs f) (pos 0)) n y (pos 0) (omega (arith, r .0))
+    ∙ ap (λ (b : Bool). cond b (standing rs st fs y) (pos 0)) (eq-eqb (lockOf st y) 0 (r .1))
+    ∙ standing-when rs l i h
 
 module _ (rs : List (List ℕ)) (dis : Distinct rs) where
   -- a moved file keeps the gain it had when chosen, a file that is free at the end has its gain afresh

@@ -21,8 +21,12 @@ pub mod MovesEnd
 pub mod Runs
 pub mod SoundJob
 pub mod Steps
+pub mod Refusals
 pub mod Reading
 pub mod CutOff
 pub mod Proved
+pub mod Checking
 pub mod Told
 pub mod Reports
+pub mod Lending
+pub mod Marked

@@ -10,12 +10,8 @@ use native.Mathlib.Nat.{zero-add}
 use borrow.Author.Tests.{eqb-true, eq-eqb, ne-eqb}
 use Rattle.rules.specs.Lists.{bit, total, count}
 use Rattle.rules.specs.Split.{other, sideOf, onSide, countOn}
-use Rattle.rules.specs.Move.{State, free, moved, fileOn, kindIf, kindsIn}
+use Rattle.rules.specs.Move.{State, free, lockedOn, moved, fileOn, kindIf, kindsIn}
 use Rattle.rules.proofs.Count.{and-le, total-le, count-le}
-
--- how many files of r on side u are locked
-unfoldable pub lockedOn : State → ℕ → List ℕ → ℕ
-lockedOn st u r = count (λ x. onSide (st .sides) u x && not (free st x)) r
 
 pub locked-le : (st : State) (u : ℕ) (r : List ℕ) → lockedOn st u r ≤ countOn (st .sides) u r
 unfolding lockedOn countOn count

@@ -13,7 +13,7 @@ use lib.Seq.{getD-set-same, getD-set-other}
 use borrow.Author.Tests.{eqb-true}
 use Rattle.rules.specs.Lists.{total, count}
 use Rattle.rules.specs.Job.{Job, fileCount}
-use Rattle.rules.specs.Split.{times, balanced}
+use Rattle.rules.specs.Split.{sideOf, times, balanced}
 use Rattle.rules.specs.Move.{stepsBy, State, lockOf, free, moved, after, Frees, stop, move, sizeAfter, legal, choose, movesBy, moves}
 use Rattle.rules.specs.Theorems.{Chosen}
 use Rattle.rules.proofs.Count.{hit-eq, hit-ne, count-le}
@@ -119,6 +119,14 @@ locked-out x l stop = refl
 locked-out {st} x l (move {f = f} {fs = fs} a b e rest) =
     let n : f ≢ x = λ q. omega (arith, ap (lockOf st) q) in
     omega (arith, hit-ne n, locked-out x (rw (getD-set-other (st .locks) f x 1 0 (λ q. n (sym q))) l) rest)
+
+-- nor does a file that is locked
+pub locked-stays : {st : State} {fs : List ℕ} (x : ℕ) → 1 ≤ lockOf st x → Frees st fs → sideOf (after st fs .sides) x ≡ sideOf (st .sides) x
+unfolding stepsBy moved
+locked-stays x l stop = refl
+locked-stays {st} x l (move {f = f} {fs = fs} a b e rest) =
+    let n : x ≢ f = λ q. omega (arith, ap (lockOf st) q) in
+    locked-stays {fs = fs} x (rw (getD-set-other (st .locks) f x 1 0 n) l) rest ∙ getD-set-other (st .sides) f x _ 0 n
 
 pub frees-once : {st : State} {fs : List ℕ} (x : ℕ) → Frees st fs → times x fs ≤ 1
 unfolding times count total moved

@@ -12,10 +12,10 @@ use lib.Seq.{getD-set-same, getD-set-other}
 use borrow.Author.Tests.{eq-eqb, ne-eqb, lt-ltb}
 use Rattle.rules.specs.Lists.{bit, total, count}
 use Rattle.rules.specs.Split.{sideOf, onSide, countOn, isCut, times, holds, alone, together}
-use Rattle.rules.specs.Move.{State, lockOf, free, moved, reaches, touches, raises}
+use Rattle.rules.specs.Move.{State, lockOf, free, lockedOn, moved, reaches, touches, raises}
 use Rattle.rules.specs.Theorems.{Binary}
 use Rattle.rules.proofs.Tests.{and-false}
-use Rattle.rules.proofs.Locked.{lockedOn, kindsBy}
+use Rattle.rules.proofs.Locked.{kindsBy}
 use Rattle.rules.proofs.Count.{is0, is1, hit-self, hit-ne, and-le, total-out, total-move, total-has, total-zero, holds-yes, holds-no}
 
 -- f moves, from the state st to st'

@@ -1,35 +1,35 @@
 -- The theorems of specs/Theorems.antt about jobs, moves, passes and runs. Assumes nothing.
 use mathlib.Core.Path.{_≡_, refl, sym, ap, _∙_}
 use mathlib.Core.Logic.{_≢_}
-use Prim.Native.Nat.{ℕ, zero, suc, _*_, _≤_}
+use Prim.Native.Nat.{ℕ, zero, suc, _*_, _≤_, _<_}
 use mathlib.Core.Bool.{Bool, true, not, _&&_, _||_}
-use mathlib.Core.List.{List, [], _∷_}
+use mathlib.Core.List.{List, [], _∷_, map}
 use native.Mathlib.Decide.{decLt, ℕ-discrete}
 use native.Mathlib.Omega.{arith}
 use lib.Dec.{eqb, leb, ltb}
 use lib.IntN.{ℤ, pos}
 use lib.ListN.{length, getD, take, length-map}
-use lib.Seq.{take-suc, take-all, take-length}
+use lib.Seq.{take-suc, take-all, take-length, take-append-le}
 use borrow.Author.Tests.{eqb-true, eqb-false, leb-false, ltb-false, eq-eqb, ne-eqb}
 use Rattle.rules.specs.declared.Verdict.{Verdict}
 use Rattle.rules.specs.Lists.{count, upTo, lowest, someBelow}
 use Rattle.rules.specs.Job.{Job, Limits, fileCount, recipeCount, files, views, recipes, Lent, scratchFor, fits}
-use Rattle.rules.specs.Split.{cut, sizeA, balanced}
+use Rattle.rules.specs.Split.{sideOf, cut, sizeA, balanced}
 use Rattle.rules.specs.Check.{refuseIf, _orElse_, check1, check2, check3, check4, check5, badFile, check6, check7, check8, check9, check4to6, check1to6, check7to9, check, measure}
-use Rattle.rules.specs.Move.{stepsBy, State, start, free, moved, after, Frees, sizeAfter, legal}
+use Rattle.rules.specs.Move.{stepsBy, State, start, free, moved, after, Frees, sizeAfter, legal, Scan, scans, endsFrom}
 use Rattle.rules.specs.Pass.{cutAt, keeps, gainsAfter, startGains, Pass, passOf, tries, pass, leaves}
 use Rattle.rules.specs.Run.{mostPasses, passes, run, lastOf, figuresOf, runFiguresOf, leftBy, passEnds, runEnds}
-use Rattle.rules.specs.Theorems.{Sound, Accepted, Sides, stateAt, MovesHold, Left, Chosen, PassHolds, RunHolds, Answers}
+use Rattle.rules.specs.Theorems.{Sound, Accepted, Sides, stateAt, replayedTo, MovesHold, Left, scansTold, replayedBy, Replayed, Chosen, PassHolds, startSides, RunHolds, Answers}
 use Rattle.rules.proofs.Tests.{clash, or-no, and-yes, not-no}
 use Rattle.rules.proofs.Verdicts.{passes-both, not-refused, Plain, plain-if, plain-chain}
 use Rattle.rules.proofs.Count.{length-tabled, count-some}
-use Rattle.rules.proofs.Entries.{listed-holds}
-use Rattle.rules.proofs.GainKept.{frees-take, after-binary, keptUp, kept-length, kept-more, gain-kept-at, gains-kept, gains-pinned, replay-listed, cut-kept, start-fresh}
+use Rattle.rules.proofs.Entries.{beyond, listed-more, listed-holds}
+use Rattle.rules.proofs.GainKept.{frees-take, after-binary, keptUp, kept-length, kept-more, gain-kept-at, gains-kept, gains-pinned, gains-chosen, replay-within, replay-listed, told-more, cut-kept, start-fresh}
 use Rattle.rules.proofs.FourScans.{recipe-scans, all-scans, all-visits}
 use Rattle.rules.proofs.Sizes.{sizes-kept, gain-range}
 use Rattle.rules.proofs.SoundJob.{sound, recipes-distinct, recipes-length, views-total}
 use Rattle.rules.proofs.Choice.{chosen-one}
-use Rattle.rules.proofs.MovesEnd.{StateLong, after-long, pass-free, pass-each, pass-end, frees-once, frees-few}
+use Rattle.rules.proofs.MovesEnd.{StateLong, after-long, pass-free, pass-each, pass-end, locked-stays, frees-once, frees-few}
 use Rattle.rules.proofs.Fits.{long-enough}
 use Rattle.rules.proofs.Steps.{after-snoc, cuts-at, gains-take, gains-length, cuts-length, ends-length}
 use Rattle.rules.proofs.Runs.{keeps-le, keeps-least, keeps-shortest, onePass, pass-falls, pass-to, pass-size, Passes, passes-come, come-first, come-next, come-less, come-few, come-turns, come-settled, come-full, come-each, come-last, come-some, turns-none, turns-cap}
@@ -86,6 +86,7 @@ module _ (most : Limits) (job : Job) (s : Sound most job) where
             ∙ gains-kept rs dis (fileCount job) st ms l (w .binary);
         all = unfold gainsAfter in length-tabled _ (fileCount job);
         pinned = λ f h e. gains-pinned rs (fileCount job) st ms f h e;
+        chosen = gains-chosen rs (fileCount job) l (s .marksLong);
         range = λ k f. gain-range (stateAt job sides ms k .sides) rs f;
         cuts = λ k. rw (gains-take rs k st ms) (cut-kept rs dis st (take k ms) (frees-take k l) (w .binary));
         present = λ k h. cuts-at rs st ms k h;
@@ -102,9 +103,32 @@ module _ (most : Limits) (job : Job) (s : Sound most job) where
           long = after-long st (take (keeps rs st ms) ms) (start-long sides w) .sides;
           binary = after-binary st (take (keeps rs st ms) ms) (frees-take (keeps rs st ms) l) (w .binary);
         };
+        stays = λ k f e. locked-stays f (omega (arith, e)) (frees-take k l);
+        remains = λ f e. locked-stays f (omega (arith, e)) (frees-take (keeps rs st ms) l);
       }
 
   -- ---- what the lent lists then hold
+
+  -- beyond what the pass lists, the replay reads nothing of them
+  replay-left : (sides ms : List ℕ) (l : Lent) (k : ℕ) → k ≤ length ms
+      → replayedBy job sides (leaves job l (passOf job sides ms)) k ≡ replayedTo job sides ms k
+  unfolding leaves passOf
+  replay-left sides ms l k h =
+      let st : State = start job sides in
+      let rs : List (List ℕ) = recipes job in
+      let cs : List Scan = scans rs st ms in
+      let c : ℕ = fileCount job in
+      let n : ℕ = 4 * recipeCount job in
+      rw (
+        listed-more c 0 ms (l .tried),
+        take-append-le k ms (beyond c 0 ms (l .tried)) h,
+        listed-more c 0 (endsFrom rs 0 st ms) (l .ends),
+        listed-more n 0 (map (λ s. s .recipe) cs) (l .recipes),
+        listed-more n 0 (map (λ s. s .kind) cs) (l .kinds),
+        told-more cs (beyond n 0 (map (λ s. s .recipe) cs) (l .recipes)) (beyond n 0 (map (λ s. s .kind) cs) (l .kinds)),
+        replay-within k rs st ms (beyond c 0 (endsFrom rs 0 st ms) (l .ends)) (scansTold (beyond n 0 (map (λ s. s .recipe) cs) (l .recipes)) (beyond n 0 (map (λ s. s .kind) cs) (l .kinds))) (startGains rs c st),
+        replay-listed k rs st ms (startGains rs c st),
+      )
 
   pub left : (sides ms : List ℕ) (l : Lent) → fits job l ≡ true → MovesHold job sides ms → Left job l (passOf job sides ms)
   unfolding leaves passOf
@@ -119,6 +143,15 @@ module _ (most : Limits) (job : Job) (s : Sound most job) where
         recipes = listed-holds (4 * recipeCount job) 0 _ (l .recipes) (rw length-map (m .scans)) (r .scannedRecipes);
         kinds = listed-holds (4 * recipeCount job) 0 _ (l .kinds) (rw length-map (m .scans)) (r .scannedKinds);
         scratch = listed-holds (scratchFor job) 0 [] (l .scratch) (omega arith) (r .scratch);
+      }
+
+  pub replayed : (sides ms : List ℕ) (l : Lent) → fits job l ≡ true → MovesHold job sides ms → Replayed job l sides ms
+  replayed sides ms l ok m =
+      let same : (k : ℕ) → k ≤ length ms → replayedBy job sides (leaves job l (passOf job sides ms)) k ≡ replayedTo job sides ms k = replay-left sides ms l in
+      record {
+        same = same;
+        fresh = λ k f h p e. ap (λ (x : List ℤ). getD x f (pos 0)) (same k h) ∙ m .fresh k f p e;
+        gains = same (length ms) (omega arith) ∙ m .gains ∙ sym (left sides ms l ok m .gains);
       }
 
   -- ---- one pass
@@ -162,6 +195,37 @@ module _ (most : Limits) (job : Job) (s : Sound most job) where
   pub given-sides : Sides job (job .sides)
   given-sides = record { long = s .sidesLong; binary = s .binary }
 
+  -- what holds of the sides given, and of those that a pass leaves if it holds of those that it starts from
+  module _ {ℓ} (good : List ℕ → Type ℓ) (begin : good (job .sides)) (keep : (sides : List ℕ) → good sides → good (pass job sides .sidesAfter)) where
+    each-start : (i : ℕ) → good (startSides job i)
+    unfolding startSides
+    each-start zero = begin
+    each-start (suc i) = keep (startSides job i) (each-start i)
+
+  -- sides that a pass may start from, with every pinned file where it was
+  abbrev Unmoved : List ℕ → Type 0
+  Unmoved sides = Sides job sides × ((f : ℕ) → getD (job .marks) f 0 ≢ 0 → sideOf sides f ≡ sideOf (job .sides) f)
+
+  unmoved-start : Unmoved (job .sides)
+  unmoved-start = (given-sides, λ f e. refl)
+
+  unmoved-next : (sides : List ℕ) → Unmoved sides → Unmoved (pass job sides .sidesAfter)
+  unmoved-next sides w = let m = pass-holds sides (w .0) .moves in (m .next, λ f e. m .remains f e ∙ w .1 f e)
+
+  -- and balanced ones
+  abbrev Level : List ℕ → Type 0
+  Level sides = Sides job sides × (balanced job (sizeA job sides) ≡ true)
+
+  level-next : (sides : List ℕ) → Level sides → Level (pass job sides .sidesAfter)
+  level-next sides w = let p = pass-holds sides (w .0) in (p .moves .next, rw (← pass-size job (tries job) sides) (p .returns (w .1)))
+
+  come-start : (ps : List Pass) → ((d : Pass) → 1 ≤ length ps → getD ps 0 d ≡ pass job (job .sides))
+      → ((d : Pass) (i : ℕ) → suc i < length ps → getD ps (suc i) d ≡ pass job (getD ps i d .sidesAfter))
+      → (d : Pass) (i : ℕ) → i < length ps → getD ps i d ≡ pass job (startSides job i)
+  unfolding startSides
+  come-start ps first next d zero h = first d h
+  come-start ps first next d (suc i) h = next d i h ∙ ap (λ (p : Pass). pass job (p .sidesAfter)) (come-start ps first next d i (omega arith))
+
   pub run-holds : RunHolds job
   unfolding passes
   run-holds =
@@ -174,6 +238,8 @@ module _ (most : Limits) (job : Job) (s : Sound most job) where
         | no n ↦ omega (arith, turns-cap job n)
       ] in
       let some : 1 ≤ length ps = come-some job try came turn in
+      let from : (d : Pass) (i : ℕ) → i < length ps → getD ps i d ≡ pass job (startSides job i)
+      = come-start ps (come-first job try came) (come-next job try came) in
       let last = come-last job try (Sides job) next came given-sides (onePass job try (job .sides)) (job .sides, given-sides, refl) in
       record {
         some = some;
@@ -182,6 +248,7 @@ module _ (most : Limits) (job : Job) (s : Sound most job) where
         sides = λ d i h.
             let t = come-each job try (Sides job) next came given-sides d i h in
             rw (t .2) (next (t .0) (t .1));
+        from = from;
         lessened = λ d i h. come-less job try came d i h;
         few = come-few job try came;
         settled = λ e. come-settled job try came (onePass job try (job .sides)) (omega (arith, turns-none job e));
@@ -197,10 +264,18 @@ module _ (most : Limits) (job : Job) (s : Sound most job) where
             ap (λ (p : Pass). p .sizeAfter) (last .2) ∙ pass-size job try (last .0)
             ∙ sym (ap (λ (p : Pass). sizeA job (p .sidesAfter)) (last .2));
         returns = λ b.
-            let t = come-last job try (λ sides. Sides job sides × (balanced job (sizeA job sides) ≡ true))
-            (λ sides w. (next sides (w .0), rw (← pass-size job try sides) (pass-holds sides (w .0) .returns (w .1))))
-            came (given-sides, b) (onePass job try (job .sides)) (job .sides, (given-sides, b), refl) in
+            let t = come-last job try Level level-next came (given-sides, b) (onePass job try (job .sides)) (job .sides, (given-sides, b), refl) in
             ap (λ (p : Pass). balanced job (p .sizeAfter)) (t .2) ∙ pass-holds (t .0) (t .1 .0) .returns (t .1 .1);
+        balance = λ b i k h. let t = each-start Level (given-sides, b) level-next i in pass-holds (startSides job i) (t .0) .balance (t .1) k;
+        stays = λ i k f h e.
+            let t = each-start Unmoved unmoved-start unmoved-next i in
+            pass-holds (startSides job i) (t .0) .moves .stays k f e ∙ t .1 f e;
+        remains = λ d i f h e.
+            ap (λ (p : Pass). sideOf (p .sidesAfter) f) (from d i h)
+            ∙ unmoved-next (startSides job i) (each-start Unmoved unmoved-start unmoved-next i) .1 f e;
+        pinned = λ f e.
+            let t = come-last job try Unmoved unmoved-next came unmoved-start (onePass job try (job .sides)) (job .sides, unmoved-start, refl) in
+            ap (λ (p : Pass). sideOf (p .sidesAfter) f) (t .2) ∙ unmoved-next (t .0) (t .1) .1 f e;
       }
 
 -- ---- the answers
@@ -220,15 +295,18 @@ plain-six most job lent =
     (plain-chain (check4 job) (check5 job orElse check6 job)
     (plain-chain (check5 job) (check6 job) (plain-if (someBelow (badFile job) (fileCount job)) 5 (lowest (badFile job) (fileCount job)))))))
 
-lent-fits : (most : Limits) (job : Job) (lent : Bool) → check most job lent .number ≡ 0 → lent ≡ true
-unfolding check check1to6 check3
-lent-fits most job lent ok =
-    let a = passes-both (check1to6 most job lent) (check7to9 most job) ok in
-    let b = passes-both (check1 job) (check2 most job orElse check3 job lent orElse check4to6 job) (a .0) in
+pub lent-six : (most : Limits) (job : Job) (lent : Bool) → check1to6 most job lent .number ≡ 0 → lent ≡ true
+unfolding check1to6 check3
+lent-six most job lent ok =
+    let b = passes-both (check1 job) (check2 most job orElse check3 job lent orElse check4to6 job) ok in
     let c = passes-both (check2 most job) (check3 job lent orElse check4to6 job) (b .1) in
     let d = passes-both (check3 job lent) (check4to6 job) (c .1) in
     let long = eqb (length (job .sides)) (fileCount job) && eqb (length (job .marks)) (fileCount job) in
     and-yes long lent (not-no (long && lent) (not-refused (not (long && lent)) 2 0 (d .0))) .1
+
+pub lent-fits : (most : Limits) (job : Job) (lent : Bool) → check most job lent .number ≡ 0 → lent ≡ true
+unfolding check
+lent-fits most job lent ok = lent-six most job lent (passes-both (check1to6 most job lent) (check7to9 most job) ok .0)
 
 pub answers : (most : Limits) (job : Job) (l : Lent) → Answers most job l
 unfolding passEnds runEnds measure

@@ -21,6 +21,7 @@ use Rattle.rules.proofs.Tests.{not-no}
 use Rattle.rules.proofs.Count.{length-tabled, getD-tabled}
 use Rattle.rules.proofs.Entries.{onto-length, onto-in, onto-stays}
 use Rattle.rules.proofs.SoundJob.{sound}
+use Rattle.rules.proofs.Refusals.{read-rows}
 
 -- ---- its lists are as long as the header says
 
@@ -114,6 +115,7 @@ module _ (bytes : List ℕ) (small : allBelow 256 bytes) where
 pub read-holds : (most : Limits) (bytes : List ℕ) (room : Room) → ReadHolds most bytes room
 unfolding reading check
 read-holds most bytes room = record {
+  table = read-rows most bytes room;
   refused = λ n. rw (ne-eqb (readVerdict most bytes room .number) 0 n, reading) refl;
   reads = λ e. rw (eq-eqb (readVerdict most bytes room .number) 0 e, reading) refl;
   enough = λ e. read-counts most bytes room e .3;

@@ -8,7 +8,7 @@ use mathlib.Core.Bool.{Bool, true, false, cond}
 use lib.IntN.{ℤ, pos, _+ℤ_}
 use lib.ListN.{length, getD, set, take, length-append}
 use lib.Seq.{getD-set-same, set-set, set-getD}
-use Rattle.rules.specs.Split.{other, sideOf, holds, gain, cut}
+use Rattle.rules.specs.Split.{other, sideOf, holds, recipesFrom, recipesOf, gain, cut}
 use Rattle.rules.specs.Move.{stepsBy, State, moved, after, Scan, scansOf, scans, scanAll, endsFrom, kindsIn, kindsOf, scansFrom, touches, change, scanPins}
 use Rattle.rules.specs.Pass.{gainsWhen, cutsAfter, cutAt}
 use Rattle.rules.proofs.GainKept.{keptUp}
@@ -19,14 +19,6 @@ pub scan-more : (st : State) (t k : ℕ) (r : List ℕ) (x : ℕ) (g : List ℤ)
 unfolding scanPins
 scan-more st t k [] x g = refl
 scan-more st t k (y ∷ r) x g = scan-more st t k r x _
-
--- the numbers of the recipes that hold f, rising, those of rs counted from j
-unfoldable pub recipesFrom : ℕ → ℕ → List (List ℕ) → List ℕ
-recipesFrom f j [] = []
-recipesFrom f j (r ∷ rs) = cond (holds r f) (j ∷ recipesFrom f (suc j) rs) (recipesFrom f (suc j) rs)
-
-abbrev pub recipesOf : List (List ℕ) → ℕ → List ℕ
-recipesOf rs f = recipesFrom f 0 rs
 
 -- the scans of a move, by the list of the moved file's own recipes
 unfoldable pub scansOver : (ℕ → List ℕ) → State → ℕ → List ℕ → List Scan

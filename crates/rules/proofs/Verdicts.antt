@@ -62,10 +62,11 @@ module _ {o p v1 v2 v3 u v w : Verdict} (e : o ≡ (v1 orElse p)) (f : p ≡ (v2
   pub three-go : {r x : Verdict} → o .number ≡ 0 → r ≡ x → r ≡ (u orElse v orElse w orElse x)
   three-go {x = x} z q = chain-go first z q ∙ or-three u v w x
 
-  pub three-pass : o .number ≡ 0 → (u .number ≡ 0) × (w .number ≡ 0)
+  pub three-pass : o .number ≡ 0 → (u .number ≡ 0) × (v .number ≡ 0) × (w .number ≡ 0)
   three-pass z =
       let l = passes-both u (v orElse w) (zero-of first z) in
-      (l .0, passes-both v w (l .1) .1)
+      let m = passes-both v w (l .1) in
+      (l .0, m .0, m .1)
 
 -- a test that refuses, in a chain
 pub refuse-stop : {t : Bool} {r : Verdict} (n p : ℕ) (w : Verdict) → t ≡ true → r ≡ refuseIf true (suc n) p → r ≡ (refuseIf t (suc n) p orElse w)
@@ -91,6 +92,16 @@ plain-if false n p h = refl
 
 pub plain-chain : (v w : Verdict) → Plain w → Plain (v orElse w)
 plain-chain v w p h = let r = passes-both v w h in rw (eq-eqb (v .number) 0 (r .0)) (p (r .1))
+
+-- ---- a number that a chain never gives
+
+-- what follows a check is asked only where it lets through
+pub never-chain : (k : ℕ) (v w : Verdict) → v .number ≢ k → (v .number ≡ 0 → w .number ≢ k) → (v orElse w) .number ≢ k
+never-chain k v w a b = go (eqb (v .number) 0) refl
+  where
+    go : (t : Bool) → eqb (v .number) 0 ≡ t → cond t w v .number ≢ k
+    go true e = b (eqb-true (v .number) 0 e)
+    go false e = a
 
 -- a number with a place
 pub at-lowest : (k : ℕ) (test : ℕ → Bool) (n : ℕ) → AtLowest (suc k) test n

@@ -32,12 +32,18 @@ v orElse w = cond (isDone v) w v
 -- ---- 1 and 2, of a job's counts and of a stored job's header
 
 -- C or N is 0
-abbrev pub check1Of : ℕ → ℕ → Verdict
-check1Of c n = refuseIf (eqb c 0 || eqb n 0) 1 0
+abbrev pub empty : ℕ → ℕ → Bool
+empty c n = eqb c 0 || eqb n 0
 
 -- C, N or P over its most
+abbrev pub overMost : Limits → ℕ → ℕ → ℕ → Bool
+overMost most c n p = ltb (most .files) c || ltb (most .recipes) n || ltb (most .pins) p
+
+abbrev pub check1Of : ℕ → ℕ → Verdict
+check1Of c n = refuseIf (empty c n) 1 0
+
 abbrev pub check2Of : Limits → ℕ → ℕ → ℕ → Verdict
-check2Of most c n p = refuseIf (ltb (most .files) c || ltb (most .recipes) n || ltb (most .pins) p) 2 0
+check2Of most c n p = refuseIf (overMost most c n p) 2 0
 
 unfoldable pub check1 : Job → Verdict
 check1 job = check1Of (fileCount job) (recipeCount job)
@@ -47,21 +53,29 @@ check2 most job = check2Of most (fileCount job) (recipeCount job) (pinCount job)
 
 -- ---- 3: sides or marks not C long, or a lent list of wrong length; `lent` says that those are right
 
+abbrev pub wrongLength : Job → Bool → Bool
+wrongLength job lent = not (eqb (length (job .sides)) (fileCount job) && eqb (length (job .marks)) (fileCount job) && lent)
+
 unfoldable pub check3 : Job → Bool → Verdict
-check3 job lent =
-    refuseIf (not (eqb (length (job .sides)) (fileCount job) && eqb (length (job .marks)) (fileCount job) && lent)) 3 0
+check3 job lent = refuseIf (wrongLength job lent) 3 0
 
 -- ---- 4: first bound not 0; then a recipe j with fewer than two pins; then last bound not P
+
+abbrev pub startsLate : Job → Bool
+startsLate job = not (eqb (bound job 0) 0)
 
 -- its bound j + 1 is less than 2 plus its bound j
 abbrev pub short : Job → ℕ → Bool
 short job j = ltb (bound job (suc j)) (2 + bound job j)
 
+abbrev pub endsWrong : Job → Bool
+endsWrong job = not (eqb (bound job (recipeCount job)) (pinCount job))
+
 unfoldable pub check4 : Job → Verdict
 check4 job =
-    refuseIf (not (eqb (bound job 0) 0)) 4 0
+    refuseIf (startsLate job) 4 0
     orElse refuseAt 4 (short job) (recipeCount job)
-    orElse refuseIf (not (eqb (bound job (recipeCount job)) (pinCount job))) 4 (recipeCount job)
+    orElse refuseIf (endsWrong job) 4 (recipeCount job)
 
 -- ---- 5: a pin is C or more, or repeats an earlier pin of its recipe
 
@@ -87,18 +101,27 @@ check6 job = refuseAt 6 (badFile job) (fileCount job)
 
 -- ---- 7: num 0, num not below den, or den over its most
 
+abbrev pub badRatio : Limits → Job → Bool
+badRatio most job = eqb (job .num) 0 || leb (job .den) (job .num) || ltb (most .den) (job .den)
+
 unfoldable pub check7 : Limits → Job → Verdict
-check7 most job = refuseIf (eqb (job .num) 0 || leb (job .den) (job .num) || ltb (most .den) (job .den)) 7 0
+check7 most job = refuseIf (badRatio most job) 7 0
 
 -- ---- 8: no file is free
 
+abbrev pub noneFree : Job → Bool
+noneFree job = eqb (count (λ f. eqb (getD (job .marks) f 0) 0) (files job)) 0
+
 unfoldable pub check8 : Job → Verdict
-check8 job = refuseIf (eqb (count (λ f. eqb (getD (job .marks) f 0) 0) (files job)) 0) 8 0
+check8 job = refuseIf (noneFree job) 8 0
 
 -- ---- 9: the start is not balanced
 
+abbrev pub badStart : Job → Bool
+badStart job = not (balanced job (sizeA job (job .sides)))
+
 unfoldable pub check9 : Job → Verdict
-check9 job = refuseIf (not (balanced job (sizeA job (job .sides)))) 9 0
+check9 job = refuseIf (badStart job) 9 0
 
 -- ---- in the order 1 to 9
 

@@ -122,8 +122,11 @@ lentOf gains tried gained cuts ends recipes kinds scratch = record {
 }
 
 -- P + 4C + 4N + 16
+abbrev pub scratchNumbers : ℕ → ℕ → ℕ → ℕ
+scratchNumbers p c n = p + 4 * c + 4 * n + 16
+
 abbrev pub scratchFor : Job → ℕ
-scratchFor job = pinCount job + 4 * fileCount job + 4 * recipeCount job + 16
+scratchFor job = scratchNumbers (pinCount job) (fileCount job) (recipeCount job)
 
 -- gains exactly C; each move list at least C, each scan list at least 4N, scratch at least its numbers
 abbrev pub fits : Job → Lent → Bool

@@ -6,6 +6,7 @@ pub mod Move
 pub mod Pass
 pub mod Run
 pub mod Stored
+pub mod Refusals
 pub mod Report
 pub mod Trace
 pub mod Marked

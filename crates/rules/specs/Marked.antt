@@ -1,20 +1,20 @@
--- Document 01's marked table, m1 to m9, as one statement about the definitions. Assumes nothing.
-use Prim.Native.Nat.{ℕ, _≤_}
-use mathlib.Core.Path.{_≡_, refl}
+-- Document 01's marked table, m1 to m9, as one statement about the definitions (Marked `marked` of proofs/). Assumes nothing.
+use Prim.Native.Nat.{ℕ, _/_, _%_, _≤_}
+use mathlib.Core.Path.{_≡_}
 use mathlib.Core.Bool.{true, false}
-use mathlib.Core.List.{List, [], _∷_, map}
+use mathlib.Core.List.{List, [], _∷_, _++_, map}
 use lib.ListN.{length, take, set, replicate}
 use lib.IntN.{pos, negsuc}
-use borrow.Author.Tests.{le-ltb}
-use Rattle.rules.specs.Lists.{total, count, largest, upTo, lowest, bestUpTo, diff}
-use Rattle.rules.specs.Job.{Job, Limits, viewOf, files, views, recipes}
-use Rattle.rules.specs.Split.{countOn, isCut, cut, times, alone, together, gain, weight, smax, sizeOn, balanced}
-use Rattle.rules.specs.Check.{done, check1, check2, check3, check4, badPin, check5, check6, check7, check8, check9, check4to6, check7to9, check1to6, check, checkJob}
-use Rattle.rules.specs.Move.{State, start, moved, stepsBy, after, sizeAfter, legal, distAfter, challenge, firstBelow, choose, movesBy, moves, fileOn, kindsIn, kindsOf, scansFrom, scans, endsFrom, visits}
-use Rattle.rules.specs.Pass.{gainsWhen, cutsAfter, cutAt, keeps, standing, gainsAfter, Pass, passOf, pass}
-use Rattle.rules.specs.Run.{passesBy, mostPasses, passes, run, lastOf, figuresOf, runFiguresOf}
-use Rattle.rules.specs.Stored.{weigh, blockCheck, headerOf, laidOut, blockVerdict, blocksVerdict, jobOf, Room, layoutVerdict, readVerdict}
-use Rattle.rules.specs.Report.{text, digitsIn, spaced, line, refusal, sizeLine, sidesLine, figureLines, report, reportOf, prints}
+use Rattle.rules.specs.Lists.{padded}
+use Rattle.rules.specs.Job.{Job, Limits, files, views, recipes}
+use Rattle.rules.specs.Split.{gain, balanced}
+use Rattle.rules.specs.Check.{done, checkJob}
+use Rattle.rules.specs.Move.{State, start, after, scans, visits}
+use Rattle.rules.specs.Pass.{Pass, pass}
+use Rattle.rules.specs.Run.{run, lastOf}
+use Rattle.rules.specs.Stored.{blockCheck, jobOf, Room, readVerdict}
+use Rattle.rules.specs.Report.{text, prints}
+use Rattle.rules.specs.Trace.{traces}
 
 -- files of size 1, ratio 1/2, none pinned, cap 0
 abbrev pub small : List ℕ → List ℕ → List ℕ → Job
@@ -37,6 +37,31 @@ chain = small (0 ∷ 1 ∷ 0 ∷ 1 ∷ []) (0 ∷ 2 ∷ 4 ∷ 6 ∷ []) (0 ∷ 1
 abbrev pub pair : Job
 pair = small (0 ∷ 1 ∷ []) (0 ∷ 2 ∷ []) (0 ∷ 1 ∷ [])
 
+-- each value as two bytes, low byte first
+unfoldable pub valueBytes : List ℕ → List ℕ
+valueBytes [] = []
+valueBytes (v ∷ vs) = v % 256 ∷ v / 256 ∷ valueBytes vs
+
+-- a block as bytes: its number (below 256), its kind, its values, unused ones zero, and the two bytes of its check
+abbrev pub blockOf : ℕ → ℕ → List ℕ → ℕ → ℕ → List ℕ
+blockOf number kind values low high = (number ∷ 0 ∷ kind ∷ length values ∷ padded 506 0 (valueBytes values)) ++ (low ∷ high ∷ [])
+
+-- the chain as it is stored
+abbrev pub chainBytes : List ℕ
+chainBytes =
+    blockOf 0 1 (4 ∷ 3 ∷ 6 ∷ 1 ∷ 2 ∷ 0 ∷ []) 244 85
+    ++ (blockOf 1 2 (1 ∷ 0 ∷ 1 ∷ 1 ∷ 1 ∷ 0 ∷ 1 ∷ 1 ∷ []) 198 85
+    ++ (blockOf 2 3 (0 ∷ 2 ∷ 4 ∷ 6 ∷ []) 228 85
+    ++ blockOf 3 4 (0 ∷ 1 ∷ 2 ∷ 3 ∷ 1 ∷ 2 ∷ []) 225 85))
+
+-- the pair as it is stored
+abbrev pub pairBytes : List ℕ
+pairBytes =
+    blockOf 0 1 (2 ∷ 1 ∷ 2 ∷ 1 ∷ 2 ∷ 0 ∷ []) 184 85
+    ++ (blockOf 1 2 (1 ∷ 0 ∷ 1 ∷ 1 ∷ []) 133 85
+    ++ (blockOf 2 3 (0 ∷ 2 ∷ []) 118 85
+    ++ blockOf 3 4 (0 ∷ 1 ∷ []) 115 85))
+
 -- recipe {0,1,2}, files 0 and 1 in A, 2 in B
 abbrev pub triple : Job
 triple = small (0 ∷ 0 ∷ 1 ∷ []) (0 ∷ 3 ∷ []) (0 ∷ 1 ∷ 2 ∷ [])
@@ -53,13 +78,20 @@ abbrev pub said : Pass → List ℕ × List ℕ × ℕ × ℕ × ℕ
 said p = (p .tried, p .cuts, length (p .scanned), p .visited, p .kept)
 
 pub record Marked : Type 0 where
-  -- the chain: a job, under any limits that are wide enough for it; its passes; its gain list at the end; what the program prints
+  -- the chain: a job, under any limits that are wide enough for it; its passes; its gain list at the end; as it is stored; what the program prints of that
   pub m1·check : (most : Limits) → 4 ≤ most .files → 3 ≤ most .recipes → 6 ≤ most .pins → 2 ≤ most .den → checkJob most chain ≡ done
   pub m1·passes :
       map said (run chain) ≡
       (1 ∷ 2 ∷ 0 ∷ 3 ∷ [], 1 ∷ 1 ∷ 2 ∷ 3 ∷ [], 9, 18, 1) ∷ (2 ∷ 1 ∷ 3 ∷ 0 ∷ [], 1 ∷ 1 ∷ 2 ∷ 1 ∷ [], 9, 18, 0) ∷ []
   pub m1·gains : lastOf (pass chain (chain .sides)) (run chain) .gains ≡ pos 1 ∷ pos 0 ∷ pos 0 ∷ negsuc 0 ∷ []
-  pub m1·prints : reportOf chain ≡ text "done\ncut 3 1\nsize 3 1\npasses 2\nsettled yes\nkept 1\nvisits 36\nsides AAAB\n"
+  pub m1·stored : jobOf chainBytes ≡ chain
+  pub m1·prints : (most : Limits) → 4 ≤ most .files → 3 ≤ most .recipes → 6 ≤ most .pins → 2 ≤ most .den
+      → prints most chainBytes ≡ text "done\ncut 3 1\nsize 3 1\npasses 2\nsettled yes\nkept 1\nvisits 36\nsides AAAB\n"
+  -- and what the program that shows one pass prints
+  pub m1·traces : (most : Limits) → 4 ≤ most .files → 3 ≤ most .recipes → 6 ≤ most .pins → 2 ≤ most .den
+      → traces most chainBytes
+      ≡ text "done\nmove 1 2 1\nscan 0 2\nscan 0 3\nscan 2 2\nscan 2 3\nmove 2 0 1\nscan 1 2\nscan 1 3\nscan 2 1\nmove 0 -1 2\nscan 0 1\nmove 3 -1 3\nscan 1 1\n"
+      ++ text "gains -1 2 0 -1\ncut 3 1\nsize 3 1\ntried 4\nkept 1\nscans 9\nvisits 18\nsides AAAB\n"
   -- its starting gains
   pub m2 : map (gain (chain .sides) (recipes chain)) (files chain) ≡ pos 1 ∷ pos 2 ∷ pos 2 ∷ pos 1 ∷ []
   -- after its first move the free files 0, 2, 3 have gains -1, 0, 1
@@ -68,7 +100,12 @@ pub record Marked : Type 0 where
   pub m4 : map (balanced chain) (0 ∷ 1 ∷ 3 ∷ 4 ∷ []) ≡ false ∷ true ∷ true ∷ false ∷ []
   -- file 0 moves, cut 0, two passes, 12 visits
   pub m5·moves : map (λ p. take (p .kept) (p .tried)) (run pair) ≡ (0 ∷ []) ∷ [] ∷ []
-  pub m5·prints : reportOf pair ≡ text "done\ncut 1 0\nsize 0 2\npasses 2\nsettled yes\nkept 1\nvisits 12\nsides BB\n"
+  pub m5·stored : jobOf pairBytes ≡ pair
+  pub m5·prints : (most : Limits) → 2 ≤ most .files → 1 ≤ most .recipes → 2 ≤ most .pins → 2 ≤ most .den
+      → prints most pairBytes ≡ text "done\ncut 1 0\nsize 0 2\npasses 2\nsettled yes\nkept 1\nvisits 12\nsides BB\n"
+  pub m5·traces : (most : Limits) → 2 ≤ most .files → 1 ≤ most .recipes → 2 ≤ most .pins → 2 ≤ most .den
+      → traces most pairBytes
+      ≡ text "done\nmove 0 1 0\nscan 0 2\nscan 0 3\nmove 1 -1 1\nscan 0 1\ngains 1 -1\ncut 1 0\nsize 0 2\ntried 2\nkept 1\nscans 3\nvisits 6\nsides BB\n"
   -- the move sequence 0, 1, 2, given and not chosen by a pass, gives scan kinds 2, 4, 3, 1, so 12 visits and the bound met
   pub m6·kinds : given triple (0 ∷ 1 ∷ 2 ∷ []) ≡ 2 ∷ 4 ∷ 3 ∷ 1 ∷ []
   pub m6·visits : visits (views triple) (scans (recipes triple) (begin triple) (0 ∷ 1 ∷ 2 ∷ [])) ≡ 12
@@ -80,24 +117,3 @@ pub record Marked : Type 0 where
   -- a 512-byte file of zeros is refused 21, under any limits: by reading, whatever is lent, and so by the program
   pub m9·reads : (most : Limits) (room : Room) → readVerdict most (replicate 512 0) room ≡ record { number = 21; place = 0 }
   pub m9·prints : (most : Limits) → prints most (replicate 512 0) ≡ text "refused 21 0\n"
-
-pub marked : Marked
-unfolding total count largest upTo lowest bestUpTo diff viewOf files views countOn isCut cut times alone together gain weight smax sizeOn balanced check1 check2 check3 check4 badPin check5 check6 check7 check8 check9 check4to6 check7to9 check1to6 check moved stepsBy sizeAfter legal distAfter challenge firstBelow choose movesBy moves fileOn kindsIn kindsOf scansFrom scans endsFrom visits gainsWhen cutsAfter cutAt keeps standing gainsAfter passOf passesBy mostPasses passes lastOf figuresOf runFiguresOf weigh blockCheck headerOf laidOut blockVerdict blocksVerdict jobOf layoutVerdict readVerdict text digitsIn spaced line refusal sizeLine sidesLine figureLines report prints
-marked = record {
-  m1·check = λ m f r p d. rw (le-ltb (m .files) 4 f, le-ltb (m .recipes) 3 r, le-ltb (m .pins) 6 p, le-ltb (m .den) 2 d) refl;
-  m1·passes = refl;
-  m1·gains = refl;
-  m1·prints = refl;
-  m2 = refl;
-  m3 = refl;
-  m4 = refl;
-  m5·moves = refl;
-  m5·prints = refl;
-  m6·kinds = refl;
-  m6·visits = refl;
-  m6·three = refl;
-  m7 = refl;
-  m8 = refl;
-  m9·reads = λ most room. refl;
-  m9·prints = λ most. refl;
-}

@@ -8,7 +8,7 @@ use lib.ListN.{length, getD, take, drop, set}
 use lib.Dec.{ltb, eqb}
 use lib.IntN.{ℤ, pos, negsuc, _+ℤ_}
 use lib.Signed.{ltZ}
-use Rattle.rules.specs.Lists.{total}
+use Rattle.rules.specs.Lists.{total, count}
 use Rattle.rules.specs.Job.{Job, fileCount, recipes}
 use Rattle.rules.specs.Split.{other, sideOf, onSide, countOn, holds, gain, weight, sizeA, balanced}
 
@@ -27,6 +27,10 @@ lockOf st f = getD (st .locks) f 0
 
 abbrev pub free : State → ℕ → Bool
 free st f = eqb (lockOf st f) 0
+
+-- how many files of r on side u are locked
+unfoldable pub lockedOn : State → ℕ → List ℕ → ℕ
+lockedOn st u r = count (λ x. onSide (st .sides) u x && not (free st x)) r
 
 -- lock the file, change its side
 unfoldable pub moved : State → ℕ → State

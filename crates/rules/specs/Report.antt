@@ -11,11 +11,10 @@ use Rattle.rules.specs.declared.Verdict.{Verdict}
 use Rattle.rules.specs.declared.RunFigures.{RunFigures}
 use Rattle.rules.specs.declared.Printed.{Printed}
 use Rattle.rules.specs.Lists.{onto}
-use Rattle.rules.specs.Job.{Job, asJob, Limits, fileCount, Lent}
+use Rattle.rules.specs.Job.{Job, asJob, Limits, fileCount, Lent, scratchNumbers}
 use Rattle.rules.specs.Split.{sizeOn}
-use Rattle.rules.specs.Check.{done, isDone, refuseIf, refuseAt, _orElse_}
-use Rattle.rules.specs.Pass.{pass}
-use Rattle.rules.specs.Run.{run, lastOf, runFiguresOf, runEnds}
+use Rattle.rules.specs.Check.{isDone, refuseIf, refuseAt, _orElse_}
+use Rattle.rules.specs.Run.{runEnds}
 use Rattle.rules.specs.Stored.{Room, jobOf, readVerdict}
 
 -- a text as bytes
@@ -70,12 +69,6 @@ figureLines job r sides =
 -- the report of a run's answer, refused or not
 unfoldable pub report : Job → RunFigures → List ℕ → List ℕ
 report job r sides = elim (isDone (r .figures .verdict)) [ true ↦ figureLines job r sides | false ↦ refusal (r .figures .verdict) ]
-
--- the report of the run of a job that is not refused
-abbrev pub reportOf : Job → List ℕ
-reportOf job =
-    let first = pass job (job .sides) in
-    report job (runFiguresOf done first (run job)) (lastOf first (run job) .sidesAfter)
 
 -- ---- the call that makes a report's bytes: it knows no more of the job than its sizes, and is lent room for the bytes
 
@@ -140,7 +133,7 @@ ownLent most gains = record {
   ends = replicate (most .files) 0;
   recipes = replicate (4 * most .recipes) 0;
   kinds = replicate (4 * most .recipes) 0;
-  scratch = replicate (most .pins + 4 * most .files + 4 * most .recipes + 16) 0;
+  scratch = replicate (scratchNumbers (most .pins) (most .files) (most .recipes)) 0;
 }
 
 abbrev pub allLent : Limits → Job → Lent

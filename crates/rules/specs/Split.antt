@@ -1,7 +1,7 @@
 -- Document 01, "Gain, cut, balance". `rs` is a list of recipes, each a list of files. Assumes nothing.
-use Prim.Native.Nat.{ℕ, _+_, _-_, _*_}
-use mathlib.Core.Bool.{Bool, _&&_}
-use mathlib.Core.List.{List}
+use Prim.Native.Nat.{ℕ, suc, _+_, _-_, _*_}
+use mathlib.Core.Bool.{Bool, cond, _&&_}
+use mathlib.Core.List.{List, [], _∷_}
 use lib.ListN.{getD}
 use lib.Dec.{leb, ltb, eqb}
 use lib.IntN.{ℤ}
@@ -40,6 +40,15 @@ holds r f = ltb 0 (times f r)
 -- p, the number of recipes of f
 abbrev pub recipesWith : List (List ℕ) → ℕ → ℕ
 recipesWith rs f = count (λ r. holds r f) rs
+
+-- the numbers of the recipes of f, rising, those of rs counted from j
+unfoldable pub recipesFrom : ℕ → ℕ → List (List ℕ) → List ℕ
+recipesFrom f j [] = []
+recipesFrom f j (r ∷ rs) = cond (holds r f) (j ∷ recipesFrom f (suc j) rs) (recipesFrom f (suc j) rs)
+
+-- the recipes of f, in rising number
+abbrev pub recipesOf : List (List ℕ) → ℕ → List ℕ
+recipesOf rs f = recipesFrom f 0 rs
 
 -- r is a recipe of f where it is alone on its side
 unfoldable pub alone : List ℕ → ℕ → List ℕ → Bool

@@ -70,13 +70,17 @@ blockCount h = pinsAt h + blocksFor 253 (h .pins)
 abbrev pub kindOf : Header → ℕ → ℕ
 kindOf h b = cond (eqb b 0) 1 (cond (ltb b (boundsAt h)) 2 (cond (ltb b (pinsAt h)) 3 4))
 
+-- the things in block k of a kind that has x of them, m to a block
+abbrev pub heldIn : ℕ → ℕ → ℕ → ℕ
+heldIn m x k = min m (x - m * k)
+
 -- the count of values that block b must have: a file has two
 abbrev pub valuesIn : Header → ℕ → ℕ
 valuesIn h b =
     cond (eqb b 0) 6
-    (cond (ltb b (boundsAt h)) (2 * min 126 (h .files - 126 * (b - 1)))
-    (cond (ltb b (pinsAt h)) (min 253 (h .recipes + 1 - 253 * (b - boundsAt h)))
-    (min 253 (h .pins - 253 * (b - pinsAt h)))))
+    (cond (ltb b (boundsAt h)) (2 * heldIn 126 (h .files) (b - 1))
+    (cond (ltb b (pinsAt h)) (heldIn 253 (h .recipes + 1) (b - boundsAt h))
+    (heldIn 253 (h .pins) (b - pinsAt h))))
 
 -- ---- a block's verdict: its check, then its layout
 
@@ -87,12 +91,19 @@ laidOut block b kind n =
     && not (someBelow (λ v. leb n v && not (eqb (valueIn block v) 0)) 253)
     && not (eqb kind 2 && someBelow (λ f. ltb (2 * f) n && ltb 3 (valueIn block (2 * f + 1))) 126)
 
--- bytes 510 and 511 are the check
+-- bytes 510 and 511 are not the check
+abbrev pub badCheck : List ℕ → Bool
+badCheck block = not (eqb (word block 510) (blockCheck block))
+
+-- not block b as the header makes it
+abbrev pub badLayout : Header → List ℕ → ℕ → Bool
+badLayout h block b = not (laidOut block b (kindOf h b) (valuesIn h b))
+
 unfoldable pub blockVerdict : Header → List ℕ → ℕ → Verdict
 blockVerdict h bytes b =
     let block = blockAt bytes b in
-    refuseIf (not (eqb (word block 510) (blockCheck block))) 21 b
-    orElse refuseIf (not (laidOut block b (kindOf h b) (valuesIn h b))) 22 b
+    refuseIf (badCheck block) 21 b
+    orElse refuseIf (badLayout h block b) 22 b
 
 -- the first refusal of the n blocks from b on
 unfoldable pub blocksVerdict : Header → List ℕ → ℕ → ℕ → Verdict
@@ -134,17 +145,24 @@ roomy h r =
     leb (h .files) (length (r .sizes)) && leb (h .files) (length (r .sides)) && leb (h .files) (length (r .marks))
     && leb (h .recipes + 1) (length (r .bounds)) && leb (h .pins) (length (r .pins))
 
+abbrev pub underOne : List ℕ → Bool
+underOne bytes = ltb (length bytes) 512
+
+-- total length not as the header makes it
+abbrev pub wrongTotal : Header → List ℕ → Bool
+wrongTotal h bytes = not (eqb (length bytes) (512 * blockCount h))
+
 -- under 512 bytes 20; block 0 check 21, layout 22; 1 and 2 from the header; 3 for a lent list too short;
 -- total length not as the header makes it 20; each further block, 21 then 22
 unfoldable pub layoutVerdict : Limits → List ℕ → Room → Verdict
 layoutVerdict most bytes room =
     let h = headerOf bytes in
-    refuseIf (ltb (length bytes) 512) 20 0
+    refuseIf (underOne bytes) 20 0
     orElse blockVerdict h bytes 0
     orElse check1Of (h .files) (h .recipes)
     orElse check2Of most (h .files) (h .recipes) (h .pins)
     orElse refuseIf (not (roomy h room)) 3 0
-    orElse refuseIf (not (eqb (length bytes) (512 * blockCount h))) 20 0
+    orElse refuseIf (wrongTotal h bytes) 20 0
     orElse blocksVerdict h bytes 1 (blockCount h - 1)
 
 -- reading stops after check 6; the run of the job adds 7 to 9

@@ -1,21 +1,24 @@
 -- What holds of the definitions, a fact to a field. A line above each record names its proof and what that asks. Assumes nothing.
 use mathlib.Core.Path.{_≡_}
 use mathlib.Core.Logic.{_≢_}
-use Prim.Native.Nat.{ℕ, suc, _+_, _*_, _≤_, _<_}
+use Prim.Native.Nat.{ℕ, zero, suc, _+_, _*_, _≤_, _<_}
 use mathlib.Core.Bool.{Bool, true, false}
 use mathlib.Core.List.{List, [], _∷_, map}
 use lib.ListN.{length, getD, take}
 use lib.Dec.{eqb}
 use lib.IntN.{ℤ, pos, _-ℤ_}
 use lib.Signed.{ltZ}
+use Rattle.rules.specs.declared.Verdict.{Verdict}
+use Rattle.rules.specs.declared.Header.{Header}
 use Rattle.rules.specs.Lists.{count, diff, sum, onto, allBelow}
 use Rattle.rules.specs.Job.{Job, Limits, TwoByte, fileCount, recipeCount, pinCount, bound, pin, recipes, Lent, scratchFor, fits}
 use Rattle.rules.specs.Split.{sideOf, cut, times, recipesWith, gain, sizeOf, sizeOn, weight, sizeA, balanced}
-use Rattle.rules.specs.Check.{done, refuseAt, check1to6, check7to9, check, measure}
-use Rattle.rules.specs.Move.{State, start, lockOf, after, legal, distAfter, replay}
+use Rattle.rules.specs.Check.{done, refuseAt, check2Of, check2, check1to6, check7to9, check, measure}
+use Rattle.rules.specs.Move.{State, start, lockOf, after, legal, distAfter, Scan, replay}
 use Rattle.rules.specs.Pass.{cutAt, startGains, Pass, passOf, tries, pass, leaves}
 use Rattle.rules.specs.Run.{settles, run, lastOf, noFigures, noRunFigures, leftBy, unchanged, figuresOf, runFiguresOf, passEnds, runEnds}
-use Rattle.rules.specs.Report.{prints}
+use Rattle.rules.specs.Refusals.{Row, saidBy, rowOf, rows1to6, rows1to9, readRows}
+use Rattle.rules.specs.Report.{allRoom, allLent, prints}
 use Rattle.rules.specs.Trace.{traces}
 use Rattle.rules.specs.Stored.{blocksFor, headerOf, jobOf, Room, roomy, readVerdict, written, noHeader, reading}
 
@@ -83,6 +86,8 @@ pub record MovesHold (job : Job) (sides ms : List ℕ) : Type 0 where
   pub gains : replayedTo job sides ms (length ms) ≡ passOf job sides ms .gains
   pub all : length (passOf job sides ms .gains) ≡ fileCount job
   pub pinned : (f : ℕ) → f < fileCount job → getD (job .marks) f 0 ≢ 0 → getD (passOf job sides ms .gains) f (pos 0) ≡ pos 0
+  -- a moved file keeps the gain it had when chosen
+  pub chosen : (i : ℕ) → i < length ms → getD (passOf job sides ms .gains) (getD ms i 0) (pos 0) ≡ getD (passOf job sides ms .gained) i (pos 0)
   -- a gain lies from minus p to plus p
   pub range : (k f : ℕ) →
       (ltZ (gain (stateAt job sides ms k .sides) (recipes job) f) (diff 0 (recipesWith (recipes job) f)) ≡ false)
@@ -104,6 +109,9 @@ pub record MovesHold (job : Job) (sides ms : List ℕ) : Type 0 where
   pub shortest : (k : ℕ) → k < passOf job sides ms .kept → passOf job sides ms .cutAfter < cutAt (recipes job) (start job sides) ms k
   -- another pass may start from the sides left
   pub next : Sides job (passOf job sides ms .sidesAfter)
+  -- a pinned file is not moved: after every move, and in the sides left, it is where it was
+  pub stays : (k f : ℕ) → getD (job .marks) f 0 ≢ 0 → sideOf (stateAt job sides ms k .sides) f ≡ sideOf sides f
+  pub remains : (f : ℕ) → getD (job .marks) f 0 ≢ 0 → sideOf (passOf job sides ms .sidesAfter) f ≡ sideOf sides f
 
 -- ---- what a lent list holds afterwards, entry by entry
 
@@ -125,6 +133,29 @@ pub record Left (job : Job) (l : Lent) (p : Pass) : Type 0 where
   pub kinds : Listed (4 * recipeCount job) 0 (map (λ s. s .kind) (p .scanned)) (l .kinds) (leaves job l p .kinds)
   pub scratch : Listed (scratchFor job) 0 [] (l .scratch) (leaves job l p .scratch)
 
+-- ---- the replay of the lists that the caller is left with, zeros and all (Proved `replayed`, of moves that hold and lists that fit)
+
+-- the scans that the two scan lists tell of
+unfoldable pub scansTold : List ℕ → List ℕ → List Scan
+scansTold [] ks = []
+scansTold (j ∷ js) [] = []
+scansTold (j ∷ js) (k ∷ ks) = record { recipe = j; kind = k } ∷ scansTold js ks
+
+-- the gain list after the first k moves: the starting gains, and then only what these lists tell of
+abbrev pub replayedBy : Job → List ℕ → Lent → ℕ → List ℤ
+replayedBy job sides l k =
+    replay (recipes job) (start job sides) (take k (l .tried)) 0 (l .ends) (scansTold (l .recipes) (l .kinds))
+    (startGains (recipes job) (fileCount job) (start job sides))
+
+pub record Replayed (job : Job) (l : Lent) (sides ms : List ℕ) : Type 0 where
+  -- it is the replay of the pass, so all that holds of that one holds of it
+  pub same : (k : ℕ) → k ≤ length ms → replayedBy job sides (leaves job l (passOf job sides ms)) k ≡ replayedTo job sides ms k
+  -- after every move tried it gives each free file's gain worked out afresh
+  pub fresh : (k f : ℕ) → k ≤ length ms → f < fileCount job → lockOf (stateAt job sides ms k) f ≡ 0
+      → getD (replayedBy job sides (leaves job l (passOf job sides ms)) k) f (pos 0) ≡ gain (stateAt job sides ms k .sides) (recipes job) f
+  -- and after the last the gain list left
+  pub gains : replayedBy job sides (leaves job l (passOf job sides ms)) (length ms) ≡ leaves job l (passOf job sides ms) .gains
+
 -- ---- one pass (Proved `pass-holds`, of a sound job and sides that a pass may start from)
 
 -- f is legal, and no legal move comes before it: none has a greater gain; of those with no less a gain none is nearer, and those of lower number are further (Choice `chosen`)
@@ -138,6 +169,7 @@ pub record Chosen (job : Job) (st : State) (f : ℕ) : Type 0 where
       → distAfter job st f < distAfter job st g
 
 pub record PassHolds (job : Job) (sides : List ℕ) : Type 0 where
+  -- all that holds of any moves holds of these: a pinned file, say, is not moved
   pub moves : MovesHold job sides (tries job sides)
   -- each move is the choice there, and the only one; when the moves end no legal move is left: C turns never end a pass
   pub each : (i : ℕ) → i < length (tries job sides) → Chosen job (stateAt job sides (tries job sides) i) (getD (tries job sides) i 0)
@@ -151,12 +183,22 @@ pub record PassHolds (job : Job) (sides : List ℕ) : Type 0 where
 
 -- ---- a run (Proved `run-holds`, of a sound job)
 
+-- the sides that pass i of a run starts from
+unfoldable pub startSides : Job → ℕ → List ℕ
+startSides job zero = job .sides
+startSides job (suc i) = pass job (startSides job i) .sidesAfter
+
+-- the state after the first k moves of pass i of a run
+abbrev pub stateIn : Job → ℕ → ℕ → State
+stateIn job i k = stateAt job (startSides job i) (tries job (startSides job i)) k
+
 pub record RunHolds (job : Job) : Type 0 where
   -- pass after pass, each from the sides that the one before left; so all that holds of a pass holds of each
   pub some : 1 ≤ length (run job)
   pub first : (d : Pass) → getD (run job) 0 d ≡ pass job (job .sides)
   pub each : (d : Pass) (i : ℕ) → suc i < length (run job) → getD (run job) (suc i) d ≡ pass job (getD (run job) i d .sidesAfter)
   pub sides : (d : Pass) (i : ℕ) → i < length (run job) → Sides job (getD (run job) i d .sidesAfter)
+  pub from : (d : Pass) (i : ℕ) → i < length (run job) → getD (run job) i d ≡ pass job (startSides job i)
   -- every pass but the last lessened the cut, so passes are at most the starting cut plus one
   pub lessened : (d : Pass) (i : ℕ) → suc i < length (run job) → getD (run job) i d .cutAfter < getD (run job) i d .cutBefore
   pub few : length (run job) ≤ suc (cut (job .sides) (recipes job))
@@ -168,8 +210,41 @@ pub record RunHolds (job : Job) : Type 0 where
   pub cut : lastOf (pass job (job .sides)) (run job) .cutAfter ≡ cut (lastOf (pass job (job .sides)) (run job) .sidesAfter) (recipes job)
   pub size : lastOf (pass job (job .sides)) (run job) .sizeAfter ≡ sizeA job (lastOf (pass job (job .sides)) (run job) .sidesAfter)
   pub returns : balanced job (sizeA job (job .sides)) ≡ true → balanced job (lastOf (pass job (job .sides)) (run job) .sizeAfter) ≡ true
+  -- from a balanced start so is every split met within the run: in every pass, after every move
+  pub balance : balanced job (sizeA job (job .sides)) ≡ true → (i k : ℕ) → i < length (run job) → balanced job (sizeA job (stateIn job i k .sides)) ≡ true
+  -- a pinned file is not moved: in every pass, after every move, in the sides that the pass leaves and in those returned, it is where it was
+  pub stays : (i k f : ℕ) → i < length (run job) → getD (job .marks) f 0 ≢ 0 → sideOf (stateIn job i k .sides) f ≡ sideOf (job .sides) f
+  pub remains : (d : Pass) (i f : ℕ) → i < length (run job) → getD (job .marks) f 0 ≢ 0 → sideOf (getD (run job) i d .sidesAfter) f ≡ sideOf (job .sides) f
+  pub pinned : (f : ℕ) → getD (job .marks) f 0 ≢ 0 → sideOf (lastOf (pass job (job .sides)) (run job) .sidesAfter) f ≡ sideOf (job .sides) f
 
--- ---- the answers (Proved `answers`, of any input)
+-- ---- the numbers for no
+
+-- row i of a table is given, and no earlier one is
+pub record FirstRow (rows : List Row) (i : ℕ) : Type 0 where
+  pub below : i < length rows
+  pub given : rowOf rows i .given ≡ true
+  pub earlier : (j : ℕ) → j < i → rowOf rows j .given ≡ false
+
+-- the first row that is given is the answer (Refusals `first-given`, of any table without number 0)
+pub record FirstGiven (rows : List Row) (answer : Verdict) : Type 0 where
+  -- number and place are those of a row that is given where no earlier one is
+  pub given : (i : ℕ) → FirstRow rows i → answer ≡ saidBy (rowOf rows i)
+  -- a number is given only so
+  pub only : (n : ℕ) → n ≢ 0 → answer .number ≡ n → (i : ℕ) × FirstRow rows i × (rowOf rows i .number ≡ n) × (answer ≡ saidBy (rowOf rows i))
+  -- done exactly if no row is given
+  pub none : answer .number ≡ 0 → (i : ℕ) → rowOf rows i .given ≡ false
+  pub passed : ((i : ℕ) → rowOf rows i .given ≡ false) → answer ≡ done
+
+-- the check of any job; `lent` says that the lent lists are right (Checking `check-holds`)
+pub record CheckHolds (most : Limits) (job : Job) (lent : Bool) : Type 0 where
+  -- each number is given exactly when the table says, with its place: 1 to 9, and 1 to 6
+  pub table : FirstGiven (rows1to9 most job lent) (check most job lent)
+  pub tableTo6 : FirstGiven (rows1to6 most job lent) (check1to6 most job lent)
+  -- what is let through is exactly what is sound, and what is accepted
+  pub sound : check1to6 most job lent ≡ done → Sound most job × (lent ≡ true)
+  pub soundPasses : Sound most job → lent ≡ true → check1to6 most job lent ≡ done
+  pub accepted : check most job lent ≡ done → Accepted most job × (lent ≡ true)
+  pub acceptedPasses : Accepted most job → lent ≡ true → check most job lent ≡ done
 
 -- a number with a place stands at the lowest that passes the test, and is given only if one does (Verdicts `at-lowest`)
 pub record AtLowest (k : ℕ) (test : ℕ → Bool) (n : ℕ) : Type 0 where
@@ -177,6 +252,8 @@ pub record AtLowest (k : ℕ) (test : ℕ → Bool) (n : ℕ) : Type 0 where
       (refuseAt k test n .number ≡ k) × (refuseAt k test n .place < n) × (test (refuseAt k test n .place) ≡ true)
       × ((i : ℕ) → i < refuseAt k test n .place → test i ≡ false)
   pub ungiven : refuseAt k test n .number ≡ 0 → (i : ℕ) → i < n → test i ≡ false
+
+-- ---- the answers (Proved `answers`, of any input)
 
 pub record Answers (most : Limits) (job : Job) (l : Lent) : Type 0 where
   -- number 0 has place 0, and is given only if the lent lists fit
@@ -198,6 +275,8 @@ pub record Answers (most : Limits) (job : Job) (l : Lent) : Type 0 where
 -- ---- reading (Reading `read-holds`, of any input, and `written-holds`)
 
 pub record ReadHolds (most : Limits) (bytes : List ℕ) (room : Room) : Type 0 where
+  -- each number is given exactly when the table says, with its place
+  pub table : FirstGiven (readRows most bytes room) (readVerdict most bytes room)
   -- refused, it answers zeros and writes nothing
   pub refused : readVerdict most bytes room .number ≢ 0 →
       reading most bytes room ≡ record { answer = record { verdict = readVerdict most bytes room; header = noHeader }; room = room }
@@ -222,7 +301,7 @@ pub record Written (xs old : List ℕ) : Type 0 where
   pub holds : (i : ℕ) → i < length xs → getD (onto xs old) i 0 ≡ getD xs i 0
   pub stays : (i : ℕ) → length xs ≤ i → getD (onto xs old) i 0 ≡ getD old i 0
 
--- ---- the programs (CutOff `longer-same`, of any input)
+-- ---- the programs (CutOff `longer-same` and Lending `lends-enough`, of any input)
 
 -- how many bytes the largest job has
 abbrev pub mostBytes : Limits → ℕ
@@ -232,3 +311,12 @@ mostBytes most = 512 * (1 + blocksFor 126 (most .files) + blocksFor 253 (most .r
 pub record Longer (most : Limits) (k : ℕ) (input : List ℕ) : Type 0 where
   pub same : mostBytes most < k → prints most (take k input) ≡ prints most input
   pub traced : mostBytes most < k → traces most (take k input) ≡ traces most input
+
+-- a program has room for every job that passes 1 and 2, so 3 is never given
+pub record LendsEnough (most : Limits) (input : List ℕ) : Type 0 where
+  -- for reading what a header tells of, and for the run or the pass of a job
+  pub room : (h : Header) → check2Of most (h .files) (h .recipes) (h .pins) .number ≡ 0 → roomy h (allRoom most) ≡ true
+  pub lent : (job : Job) → check2 most job .number ≡ 0 → fits job (allLent most job) ≡ true
+  -- neither by reading nor by the check of the job that was read
+  pub read : readVerdict most input (allRoom most) .number ≢ 3
+  pub made : readVerdict most input (allRoom most) .number ≡ 0 → check most (jobOf input) (fits (jobOf input) (allLent most (jobOf input))) .number ≢ 3

@@ -99,7 +99,7 @@ module _ {most : Limits} {job : Job} {l : Lent} {g : List ℤ} {z : List ℕ} {s
     sums-small =
         (omega (arith, ap (λ (x : Survey). x .weight) found, weight-small), omega (arith, ap (λ (x : Survey). x .largest) found, smax-most job (a .sizes)))
 
-    pub playable : {w : Window} → w ≡ windowOf (job .num) (job .den) (s .weight) (s .largest) → Playable job l w
+    pub playable : {w : Window} → w ≡ windowOf job (s .weight) (s .largest) → Playable job l w
     playable e = record {
       most = most;
       sound = job-is .sound;

@@ -8,7 +8,7 @@ use native.Mathlib.Omega.{arith}
 use lib.Dec.{leb, ltb, eqb}
 use lib.IntN.{ℤ, pos}
 use lib.Signed.{ltZ}
-use lib.ListN.{length, getD}
+use lib.ListN.{length, getD, take}
 use borrow.Author.Tests.{leb-true, leb-false, le-leb, lt-leb, eqb-true, ne-eqb}
 use Rattle.rules.specs.Lists.{bit, total, upTo}
 use Rattle.rules.specs.Job.{Job, Limits, fileCount, pinCount, files, recipes, Lent}
@@ -25,7 +25,6 @@ use Rattle.rules.proofs.MovesEnd.{StateLong}
 use Rattle.rules.proofs.GainKept.{Fresh, keptUp, kept-length, gain-kept, start-fresh}
 use Rattle.rules.proofs.Choice.{choose-listed}
 use Rattle.split.specs.declared.choice.Window.{Window}
-use Rattle.tables.specs.Zones.{locksAt, part}
 use Rattle.split.specs.Choosing.{sizeBy, distIn, legalIn, Holds, chosenIn}
 use Rattle.split.specs.Moving.{Board}
 use Rattle.split.proofs.Going.{begins, made, stands, Going}
@@ -129,10 +128,10 @@ module _ (most : Limits) (job : Job) (s : Sound most job) (k : ℕ) where
 
     -- the choice by the lists
     pub choice-now : {l : Lent} {b : Board} → Going job l k b
-        → chosenIn w (b .rest .scanned .progress .size) (job .sizes) (b .sides) (part (locksAt (fileCount job) (pinCount job)) (fileCount job) (b .rest .scratch)) (b .rest .scanned .gains) (fileCount job)
+        → chosenIn w (b .rest .scanned .progress .size) (job .sizes) (b .sides) (take (fileCount job) (b .rest .scratch)) (b .rest .scanned .gains) (fileCount job)
         ≡ choose job (stands job k)
     choice-now {l} {b} g =
-        ap₂ (λ (a : ℕ) (x : List ℕ). chosenIn w a (job .sizes) x (part (locksAt (fileCount job) (pinCount job)) (fileCount job) (b .rest .scratch)) (b .rest .scanned .gains) (fileCount job)) (g .progress .size) (g .sides)
+        ap₂ (λ (a : ℕ) (x : List ℕ). chosenIn w a (job .sizes) x (take (fileCount job) (b .rest .scratch)) (b .rest .scanned .gains) (fileCount job)) (g .progress .size) (g .sides)
         ∙ ap₂ (λ (y : List ℕ) (z : List ℤ). chosenIn w (sizeA job (stands job k .sides)) (job .sizes) (stands job k .sides) y z (fileCount job)) (g .locks) (g .gains)
         ∙ choice-here
 

@@ -1,8 +1,10 @@
 -- A pass after its first k moves: what the lists, the scratch and the record in progress then hold. Assumes nothing.
-use mathlib.Core.Path.{_≡_}
-use Prim.Native.Nat.{ℕ, _≤_}
+use mathlib.Core.Path.{_≡_, sym, ap, _∙_}
+use Prim.Native.Nat.{ℕ, _+_, _*_, _≤_}
+use native.Mathlib.Omega.{arith}
 use mathlib.Core.List.{List, map}
 use lib.ListN.{length, take, drop}
+use lib.Seq.{drop-drop}
 use Rattle.rules.specs.Lists.{onto}
 use Rattle.rules.specs.Job.{Job, fileCount, recipeCount, pinCount, views, recipes, Lent, scratchFor}
 use Rattle.rules.specs.Split.{cut, sizeA}
@@ -10,7 +12,7 @@ use Rattle.rules.specs.Move.{State, start, after, scans, endsFrom, visits}
 use Rattle.rules.specs.Pass.{gainsWhen, cutsAfter, cutAt, keeps, startGains, tries}
 use Rattle.rules.proofs.GainKept.{keptUp}
 use Rattle.split.specs.declared.progress.Progress.{Progress}
-use Rattle.tables.specs.Zones.{locksAt, countsAt, part, Cells, Counts}
+use Rattle.tables.specs.Zones.{countsAt, Cells, Counts}
 use Rattle.split.specs.Moving.{Board}
 
 -- the first k moves of the pass from the job's sides, and the state after them
@@ -37,7 +39,7 @@ pub record Going (job : Job) (l : Lent) (k : ℕ) (b : Board) : Type 0 where
   pub few : k ≤ length (tries job (job .sides))
   pub sides : b .sides ≡ stands job k .sides
   -- the scratch: cells and counts stand in it, the locks are the state's, and what lies beyond its numbers stays
-  pub locks : part (locksAt (fileCount job) (pinCount job)) (fileCount job) (b .rest .scratch) ≡ stands job k .locks
+  pub locks : take (fileCount job) (b .rest .scratch) ≡ stands job k .locks
   pub cells : Cells (recipes job) (fileCount job) (pinCount job) (b .rest .scratch)
   pub counts : Counts (recipes job) (stands job k) (countsAt (fileCount job) (pinCount job)) (recipeCount job) (b .rest .scratch)
   pub long : length (b .rest .scratch) ≡ length (l .scratch)
@@ -52,3 +54,12 @@ pub record Going (job : Job) (l : Lent) (k : ℕ) (b : Board) : Type 0 where
   pub scannedRecipes : b .rest .scanned .recipes ≡ onto (map (λ s. s .recipe) (scans (recipes job) (begins job) (made job k))) (l .recipes)
   pub scannedKinds : b .rest .scanned .kinds ≡ onto (map (λ s. s .kind) (scans (recipes job) (begins job) (made job k))) (l .kinds)
   pub progress : InProgress job k (b .rest .scanned .progress)
+
+-- what lies beyond the counts is the same, so what lies beyond the scratch's numbers is
+pub beyond-numbers : (job : Job) (x y : List ℕ)
+    → drop (countsAt (fileCount job) (pinCount job) + 4 * recipeCount job) x ≡ drop (countsAt (fileCount job) (pinCount job) + 4 * recipeCount job) y
+    → drop (scratchFor job) x ≡ drop (scratchFor job) y
+beyond-numbers job x y e =
+    let m : ℕ = countsAt (fileCount job) (pinCount job) + 4 * recipeCount job in
+    let n : m + 16 ≡ scratchFor job = omega arith in
+    ap (λ (i : ℕ). drop i x) (sym n) ∙ sym (drop-drop 16 m x) ∙ ap (drop 16) e ∙ drop-drop 16 m y ∙ ap (λ (i : ℕ). drop i y) n

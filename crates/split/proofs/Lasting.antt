@@ -1,7 +1,7 @@
 -- A scan where its kind is not 0, a recipe and a list of recipes treated: lists keep their length, scans and visits only grow,
 -- so what fits at the end fits on the way; the counts that change lie above the locks. Assumes nothing.
 use mathlib.Core.Path.{_≡_, refl, sym, ap₂, subst, _∙_}
-use Prim.Native.Nat.{ℕ, _+_, _≤_, _<_, _^_}
+use Prim.Native.Nat.{ℕ, _+_, _*_, _≤_, _<_, _^_}
 use mathlib.Core.List.{List}
 use native.Mathlib.Decide.{ℕ-discrete}
 use native.Mathlib.Omega.{arith}
@@ -122,10 +122,10 @@ module _ (way : Way) (j : ℕ) (z : List ℕ) where
   recount-length = simp length-set
 
   -- what lies below the counts stays
-  pub recount-part : {look : ℕ → List ℕ} (at n : ℕ) → at + n ≤ way .locks + way .files → Treatable way look z j → part at n (recount way j z) ≡ part at n z
+  pub recount-part : {look : ℕ → List ℕ} {e : ℕ} (at n : ℕ) → at + n ≤ e → Treatable way look e z j → part at n (recount way j z) ≡ part at n z
   unfolding recount
   recount-part at n h t =
-      part-set-above at n _ (way .locked + j) (lockedT way j z + 1) (omega (arith, t .above))
+      part-set-above at n _ (way .there + j + 2 * way .recipes) (lockedT way j z + 1) (omega (arith, t .above))
       ∙ part-set-above at n _ (way .there + j) (countT way j z + 1) (omega (arith, t .above))
       ∙ part-set-above at n z (way .left + j) (countF way j z) (omega (arith, t .above))
 

@@ -6,25 +6,25 @@ use mathlib.Core.List.{List, [], _∷_, _++_, map, map-append, append-nil}
 use native.Mathlib.Omega.{arith}
 use lib.IntN.{pos}
 use lib.ListN.{length, getD, take, drop, set, length-set, length-append, length-map}
-use lib.Seq.{getD-set-same, getD-set-other, drop-set-add, take-set-lt, drop-set-lt, drop-drop}
+use lib.Seq.{getD-set-same, getD-set-other, take-set-lt, drop-set-lt}
 use Rattle.rules.specs.Lists.{allBelow, onto}
 use Rattle.rules.specs.Job.{Job, Limits, fileCount, recipeCount, pinCount, viewOf, view, views, recipes, Lent, scratchFor, fits}
-use Rattle.rules.specs.Split.{other, sideOf, cut}
+use Rattle.rules.specs.Split.{other, sideOf, recipesOf, cut}
 use Rattle.rules.specs.Move.{State, moved, Scan, scansOf, scans, visits}
 use Rattle.rules.specs.Theorems.{Sound}
 use Rattle.rules.proofs.Count.{getD-tabled, total-append}
 use Rattle.rules.proofs.Entries.{onto-length}
 use Rattle.rules.proofs.SoundJob.{bound-le, view-length, view-below, recipes-distinct, recipes-length}
-use Rattle.rules.proofs.Steps.{recipesOf, scans-append}
+use Rattle.rules.proofs.Steps.{scans-append}
 use Rattle.split.specs.declared.progress.Progress.{Progress}
-use Rattle.tables.specs.Zones.{locksAt, countsAt, part, stateIn, Counts}
+use Rattle.tables.specs.Zones.{cellsAt, endsAt, roomAt, countsAt, sideAt, part, stateIn, cellsOf, Counts}
 use Rattle.split.specs.Scanning.{Treated, treated, treatAll, Fits, Ready}
 use Rattle.split.specs.Choosing.{sizeBy}
 use Rattle.tables.specs.Ending.{turned}
-use Rattle.split.specs.Moving.{Board, cellsOf, cutBy, shiftedTo, countedOn, wayTo, treatFrom, treatMove, moveOne}
+use Rattle.split.specs.Moving.{Board, cutBy, shiftedTo, countedOn, wayTo, treatFrom, treatMove, moveOne}
 use Rattle.split.specs.Movable.{Movable}
 use Rattle.split.proofs.Playable.{Small}
-use Rattle.split.proofs.Going.{begins, made, stands, Going}
+use Rattle.split.proofs.Going.{begins, made, stands, Going, beyond-numbers}
 use Rattle.split.proofs.Treats.{Shifted, MoveTreated}
 use Rattle.rules.proofs.Fits.{LongEnough, long-enough}
 use Rattle.split.proofs.Bounds.{BoardLong, board-long, cut-few, Safe, safe}
@@ -32,25 +32,19 @@ use Rattle.split.proofs.NextBoard.{goes-on}
 use Rattle.split.proofs.ChoiceNow.{holds-now}
 use Rattle.split.proofs.NextMove.{Next}
 use Rattle.split.proofs.Recount.{beside-entry, beside-part}
-use Rattle.tables.proofs.Parts.{part-set-above}
+use Rattle.tables.proofs.Parts.{part-set-below}
+use Rattle.tables.proofs.Sides.{side-from}
 use Rattle.tables.proofs.LentParts.{cells-same}
 use Rattle.split.proofs.Treating.{wayOf, TreatedMove, move-treated, move-ready}
 
 -- ---- one entry set, seen from elsewhere in the list
 
-part-set-in : (a k i : ℕ) (v : ℕ) (z : List ℕ) → i < k → part a k (set z (a + i) v) ≡ set (part a k z) i v
-part-set-in a k i v z h = ap (take k) (drop-set-add a z i v) ∙ take-set-lt k (drop a z) i v h
-
 counts-set : {rs : List (List ℕ)} {st : State} {at n : ℕ} {z : List ℕ} (i v : ℕ) → i < at → Counts rs st at n z → Counts rs st at n (set z i v)
 counts-set {rs} {st} {at} {n} {z} i v h c = record {
-  each = λ j l.
-      let o = c .each j l in
-      record {
-        onA = getD-set-other z i (at + j) v 0 (λ e. omega arith) ∙ o .onA;
-        onB = getD-set-other z i (at + n + j) v 0 (λ e. omega arith) ∙ o .onB;
-        lockedA = getD-set-other z i (at + 2 * n + j) v 0 (λ e. omega arith) ∙ o .lockedA;
-        lockedB = getD-set-other z i (at + 3 * n + j) v 0 (λ e. omega arith) ∙ o .lockedB;
-      };
+  each = λ j l. record {
+    on = λ u m. getD-set-other z i (sideAt at n u + j) v 0 (λ e. omega (arith, side-from at n u)) ∙ c .each j l .on u m;
+    locked = λ u m. getD-set-other z i (sideAt at n u + j + 2 * n) v 0 (λ e. omega (arith, side-from at n u)) ∙ c .each j l .locked u m;
+  };
 }
 
 -- there is room for the entries of the move of f, which are two-byte numbers
@@ -84,7 +78,7 @@ module _ (most : Limits) (job : Job) (s : Sound most job) (small : Small job) {l
   z = b .rest .scratch
 
   abbrev locked : List ℕ
-  locked = set z (locksAt c p + f) 1
+  locked = set z f 1
 
   abbrev treatBegun : Treated
   treatBegun = treated locked (b .rest .scanned .gains) (b .rest .scanned .recipes) (b .rest .scanned .kinds)
@@ -99,19 +93,19 @@ module _ (most : Limits) (job : Job) (s : Sound most job) (small : Small job) {l
   room = omega (arith, long-enough job l ok .scratch, board-long most job s ok g .scratch)
 
   long : length locked ≡ length z
-  long = length-set z (locksAt c p + f) 1
+  long = length-set z f 1
 
   counts-locked : Counts rs st (countsAt c p) n locked
-  counts-locked = counts-set (locksAt c p + f) 1 (omega (arith, x .below)) (g .counts)
+  counts-locked = counts-set f 1 (omega (arith, x .below)) (g .counts)
 
   side : sideOf (turned (b .sides) f) f ≡ other (sideOf (st .sides) f)
   side = getD-set-same (b .sides) f (other (sideOf (b .sides) f)) 0 (omega (arith, x .below, board-long most job s ok g .sides)) ∙ ap (λ (u : List ℕ). other (sideOf u f)) (g .sides)
 
-  locks : part (locksAt c p) c locked ≡ moved st f .locks
+  locks : take c locked ≡ moved st f .locks
   unfolding moved
-  locks = part-set-in (locksAt c p) c f 1 z (x .below) ∙ ap (λ (u : List ℕ). set u f 1) (g .locks)
+  locks = take-set-lt c z f 1 (x .below) ∙ ap (λ (u : List ℕ). set u f 1) (g .locks)
 
-  now : stateIn c p (turned (b .sides) f) locked ≡ moved st f
+  now : stateIn c (turned (b .sides) f) locked ≡ moved st f
   unfolding moved
   now = ap₂ (λ (u v : List ℕ). record { sides = u; locks = v }) (ap (λ (u : List ℕ). turned u f) (g .sides)) locks
 
@@ -138,11 +132,11 @@ module _ (most : Limits) (job : Job) (s : Sound most job) (small : Small job) {l
   map-more : (h : Scan → ℕ) → map h (scans rs (begins job) (made job k)) ++ map h (scansOf rs st f) ≡ map h (scans rs (begins job) (made job (suc k)))
   map-more h = sym (ap (map h) more ∙ map-append h (scans rs (begins job) (made job k)) (scansOf rs st f))
 
-  below : (a m : ℕ) → a + m ≤ locksAt c p → part a m (treatMove (job .sizes) (job .bounds) (job .pins) f b .scratch) ≡ part a m z
-  below a m h = beside-part (did .beside) a m (omega arith) ∙ part-set-above a m z (locksAt c p + f) 1 (omega arith)
+  below : (a m : ℕ) → cellsAt c ≤ a → a + m ≤ roomAt c p → part a m (treatMove (job .sizes) (job .bounds) (job .pins) f b .scratch) ≡ part a m z
+  below a m l h = beside-part (did .beside) a m (omega arith) ∙ part-set-below a m z f 1 (omega (arith, x .below))
 
-  entry : (i : ℕ) → i < locksAt c p → getD (treatMove (job .sizes) (job .bounds) (job .pins) f b .scratch) i 0 ≡ getD z i 0
-  entry i h = beside-entry (did .beside) i (omega arith) ∙ getD-set-other z (locksAt c p + f) i 1 0 (λ e. omega arith)
+  entry : (i : ℕ) → cellsAt c ≤ i → i < roomAt c p → getD (treatMove (job .sizes) (job .bounds) (job .pins) f b .scratch) i 0 ≡ getD z i 0
+  entry i l h = beside-entry (did .beside) i (omega arith) ∙ getD-set-other z f i 1 0 (λ e. omega (arith, x .below))
 
   visits-more : (us vs : List Scan) → visits rs (us ++ vs) ≡ visits rs us + visits rs vs
   unfolding visits
@@ -178,13 +172,13 @@ module _ (most : Limits) (job : Job) (s : Sound most job) (small : Small job) {l
       let r : LongEnough job l = long-enough job l ok in
       let y : Treated = treatMove (job .sizes) (job .bounds) (job .pins) f b in
       record {
-        locks = beside-part (did .beside) (locksAt c p) c (omega arith) ∙ locks ∙ ap (λ (u : State). u .locks) (sym (x .then));
+        locks = beside-part (did .beside) 0 c (omega arith) ∙ locks ∙ ap (λ (u : State). u .locks) (sym (x .then));
         cells = cells-same entry below (g .cells);
         counts = rw (x .then) (did .counts);
         long = did .beside .long ∙ long;
         beyond =
-            sym (drop-drop 16 (countsAt c p + 4 * n) (y .scratch)) ∙ ap (drop 16) (did .beside .beyond) ∙ drop-drop 16 (countsAt c p + 4 * n) locked
-            ∙ drop-set-lt (scratchFor job) z (locksAt c p + f) 1 (omega (arith, x .below));
+            beyond-numbers job (y .scratch) locked (did .beside .beyond)
+            ∙ drop-set-lt (scratchFor job) z f 1 (omega (arith, x .below));
         gains = did .gains;
         scannedRecipes =
             did .recipes (map (λ u. u .recipe) (scans rs (begins job) (made job k))) (l .recipes) (g .scannedRecipes)
@@ -203,12 +197,16 @@ module _ (most : Limits) (job : Job) (s : Sound most job) (small : Small job) {l
   recipes-short : (j : ℕ) → j < n → length (getD rs j []) < 65535
   recipes-short j h = rw (← sees j h) (omega (arith, view-length most job s j h, bound-le most job s (suc j) h, small .pins))
 
-  ready : Ready (wayTo c n p (sideOf (turned (b .sides) f) f)) (viewOf (job .bounds) (job .pins)) (cellsOf c p z f) locked
+  -- where the file's cells end
+  abbrev until : ℕ
+  until = cellsAt c + getD z (endsAt c p + f) 0
+
+  ready : Ready (wayTo c n p (sideOf (turned (b .sides) f) f)) (viewOf (job .bounds) (job .pins)) until (cellsOf c p z f) locked
   ready =
-      subst (λ (u : ℕ). Ready (wayTo c n p u) (viewOf (job .bounds) (job .pins)) (cellsOf c p z f) locked) (sym side)
-      (subst (λ (u : List ℕ). Ready (wayOf c n p st f) (viewOf (job .bounds) (job .pins)) u locked) (sym (g .cells .hold f (x .below)))
+      subst (λ (u : ℕ). Ready (wayTo c n p u) (viewOf (job .bounds) (job .pins)) until (cellsOf c p z f) locked) (sym side)
+      (subst (λ (u : List ℕ). Ready (wayOf c n p st f) (viewOf (job .bounds) (job .pins)) until u locked) (sym (g .cells .hold f (x .below)))
       (move-ready rs (recipes-distinct most job s) st f (x .moves) c n p (recipes-length most job s) (viewOf (job .bounds) (job .pins)) sees
-      locked (rw long (omega (arith, room))) counts-locked pins-below recipes-short))
+      until (omega (arith, g .cells .inside f (x .below))) locked (rw long (omega (arith, room))) counts-locked pins-below recipes-short))
 
   -- the lists written are as long as those lent
   as-long : (h : Scan → ℕ) (old : List ℕ) → 4 * n ≤ length old → length (onto (map h (scans rs (begins job) (made job (suc k)))) old) ≡ length old

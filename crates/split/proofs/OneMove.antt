@@ -3,7 +3,7 @@ use mathlib.Core.Path.{_≡_, refl, sym, ap, ap₂, subst, _∙_}
 use Prim.Native.Nat.{ℕ, suc, _+_, _-_, _≤_, _<_, _^_}
 use mathlib.Core.List.{List}
 use native.Mathlib.Omega.{arith}
-use lib.ListN.{length, getD, set, length-set}
+use lib.ListN.{length, getD, set, take, length-set}
 use lib.Seq.{getD-set-same}
 use lib.IntN.{ℤ, pos, negsuc, _-ℤ_}
 use mir.Syntax.{w32, w64}
@@ -16,12 +16,12 @@ use Rattle.rules.proofs.Machine.{wide-is}
 use Rattle.rules.proofs.Signed.{up, down, diff-eq, diff-pos}
 use Rattle.split.specs.declared.progress.Progress.{Progress}
 use Rattle.split.specs.declared.scan.Way.{Way}
-use Rattle.tables.specs.Zones.{locksAt, part, stateOf}
+use Rattle.tables.specs.Zones.{startsAt, endsAt, part, stateOf, cellsOf}
 use Rattle.split.specs.Scanning.{NearVisits, Fits, Treated, treated, treatAll, Ready}
 use Rattle.tables.specs.Ending.{turned}
-use Rattle.split.specs.Moving.{shiftedTo, shiftOf, countedOn, cutBy, wayTo, cellsOf, Locked, Board, board, treatFrom, treatMove, moveOne}
+use Rattle.split.specs.Moving.{shiftedTo, shiftOf, countedOn, cutBy, wayTo, Locked, Board, board, treatFrom, treatMove, moveOne}
 use Rattle.split.specs.Movable.{Movable}
-use Rattle.tables.proofs.Parts.{part-set-above}
+use Rattle.tables.proofs.Parts.{part-set-below}
 
 -- ---- the cut less a gain, at eight bytes
 
@@ -53,7 +53,7 @@ module _ {sizes bounds pins : List ℕ} {f : ℕ} {sides : List ℕ} {y : Treate
     (m : Movable sizes bounds pins f sides y) (h : HandedOn sizes bounds pins f sides y sides' z a e way q) where
   -- the scratch with the file's lock set
   abbrev locked : List ℕ
-  locked = set (y .scratch) (locksAt (length sizes) (length pins) + f) 1
+  locked = set (y .scratch) f 1
 
   abbrev look : ℕ → List ℕ
   look = viewOf bounds pins
@@ -65,38 +65,40 @@ module _ {sizes bounds pins : List ℕ} {f : ℕ} {sides : List ℕ} {y : Treate
   to : way ≡ wayTo (length sizes) (length bounds - 1) (length pins) (sideOf (turned sides f) f)
   to = h .to ∙ ap (wayTo (length sizes) (length bounds - 1) (length pins)) (sym side)
 
-  -- the lock lies above the cells
+  -- the lock lies below the cells
   cells : part a (e - a) locked ≡ cellsOf (length sizes) (length pins) (y .scratch) f
   cells =
-      part-set-above a (e - a) (y .scratch) (locksAt (length sizes) (length pins) + f) 1 (omega (arith, m .order, m .inside, h .cells .first, h .cells .last))
-      ∙ ap₂ (λ (i j : ℕ). part i (j - i) (y .scratch)) (h .cells .first) (h .cells .last)
+      let k : e - a ≡ getD (y .scratch) (endsAt (length sizes) (length pins) + f) 0 - getD (y .scratch) (startsAt (length sizes) (length pins) + f) 0
+      = omega (arith, h .cells .first, h .cells .last) in
+      part-set-below a (e - a) (y .scratch) f 1 (omega (arith, m .file, h .cells .first))
+      ∙ ap₂ (λ (i n : ℕ). part i n (y .scratch)) (h .cells .first) k
 
   -- what the code treats, of the scratch as it is then
   abbrev treats : List ℕ → Treated
-  treats z = treatAll (stateOf sides' (part (way .locks) (way .files) z)) way look (part a (e - a) z) (treated z (y .scanned .gains) (y .scanned .recipes) (y .scanned .kinds) q)
+  treats z = treatAll (stateOf sides' (take (way .files) z)) way look (part a (e - a) z) (treated z (y .scanned .gains) (y .scanned .recipes) (y .scanned .kinds) q)
 
   pub treats-from : treats z ≡ treatFrom sizes bounds pins f sides y
   unfolding treatFrom wayTo
   treats-from = ap treats (h .cells .held) ∙ rw (cells, to, h .turn, h .shift)
 
-  zones : (way .locks ≡ locksAt (length sizes) (length pins)) × (way .files ≡ length sizes) × (way .side ≡ 1 - sideOf sides f)
+  zones : (way .files ≡ length sizes) × (way .side ≡ 1 - sideOf sides f)
   unfolding wayTo
-  zones = (ap (λ (w : Way). w .locks) (h .to), ap (λ (w : Way). w .files) (h .to), ap (λ (w : Way). w .side) (h .to))
+  zones = (ap (λ (w : Way). w .files) (h .to), ap (λ (w : Way). w .side) (h .to))
 
   -- all that the call asks
-  pub treats-safe : ((way .side ≤ 1) × (a ≤ e) × (e ≤ way .locks))
-      × (((length (y .scanned .gains) ≡ way .files) × (length sides' ≡ way .files) × (way .locks + way .files ≤ length z))
-      × (Ready way look (part a (e - a) z) z × (NearVisits (y .scanned .gains) (q .visits) × Fits (treats z .scanned))))
+  pub treats-safe : ((way .side ≤ 1) × (way .files ≤ a) × (a ≤ e))
+      × (((length (y .scanned .gains) ≡ way .files) × (length sides' ≡ way .files) × (e ≤ length z))
+      × (Ready way look e (part a (e - a) z) z × (NearVisits (y .scanned .gains) (q .visits) × Fits (treats z .scanned))))
   treats-safe =
       let long : length (turned sides f) ≡ length sizes = length-set sides f (1 - sideOf sides f) ∙ m .sidesLong in
       let visits : q .visits ≡ y .scanned .progress .visits = ap (λ (p : Progress). p .visits) (h .shift) ∙ (unfold shiftedTo in refl) in
-      let same : length z ≡ length (y .scratch) = ap length (h .cells .held) ∙ length-set (y .scratch) (locksAt (length sizes) (length pins) + f) 1 in
-      let ready : Ready way look (part a (e - a) locked) locked = rw (cells, to) (m .ready) in (
-        (omega (arith, zones), omega (arith, h .cells .first, h .cells .last, m .order), omega (arith, h .cells .last, zones, m .inside)),
+      let same : length z ≡ length (y .scratch) = ap length (h .cells .held) ∙ length-set (y .scratch) f 1 in
+      let ready : Ready way look e (part a (e - a) locked) locked = rw (cells, to, h .cells .last) (m .ready) in (
+        (omega (arith, zones), omega (arith, zones, h .cells .first), omega (arith, h .cells .first, h .cells .last, m .order)),
         (
-          (m .gainsLong ∙ sym (zones .1), ap length (h .turn) ∙ long ∙ sym (zones .1), omega (arith, zones, m .scratchLong, same)),
+          (m .gainsLong ∙ sym (zones .0), ap length (h .turn) ∙ long ∙ sym (zones .0), omega (arith, h .cells .last, m .inside, m .scratchLong, same)),
           (
-            subst (λ (u : List ℕ). Ready way look (part a (e - a) u) u) (sym (h .cells .held)) ready,
+            subst (λ (u : List ℕ). Ready way look e (part a (e - a) u) u) (sym (h .cells .held)) ready,
             (rw visits (m .room), subst (λ (x : Treated). Fits (x .scanned)) (sym treats-from) (m .fits)),
           ),
         ),

@@ -4,19 +4,19 @@ use Prim.Native.Nat.{ℕ, _+_, _-_, _*_, _≤_, _<_}
 use mathlib.Core.List.{List}
 use native.Mathlib.Nat.{add-zero}
 use native.Mathlib.Omega.{arith}
-use lib.ListN.{length, drop}
-use lib.Seq.{drop-drop}
+use lib.ListN.{length}
 use lib.IntN.{ℤ, pos}
 use Rattle.rules.specs.declared.Figures.{Figures}
 use Rattle.rules.specs.Lists.{total}
-use Rattle.rules.specs.Job.{Job, Limits, fileCount, recipeCount, pinCount, views, Lent, lentOf, scratchFor}
+use Rattle.rules.specs.Job.{Job, Limits, fileCount, recipeCount, pinCount, views, Lent, lentOf, scratchNumbers, scratchFor}
 use Rattle.rules.specs.Check.{done}
 use Rattle.rules.specs.Pass.{tries, Pass, pass}
 use Rattle.rules.specs.Run.{endedOf, lastOf, figuresOf}
 use Rattle.rules.specs.Theorems.{Sound}
 use Rattle.rules.proofs.Fits.{LongEnough, long-enough}
 use Rattle.rules.proofs.Runs.{pass-from}
-use Rattle.tables.specs.Zones.{countsAt}
+use Rattle.tables.specs.declared.zones.Extent.{Extent}
+use Rattle.tables.specs.Zones.{extentOf}
 use Rattle.tables.specs.Clearing.{clearedIn}
 use Rattle.tables.specs.Ending.{backTo}
 use Rattle.tables.specs.LayingOut.{Prepared}
@@ -25,7 +25,7 @@ use Rattle.split.specs.declared.choice.Window.{Window}
 use Rattle.split.specs.declared.progress.Progress.{Progress}
 use Rattle.split.specs.Moving.{Board, board, begun}
 use Rattle.split.specs.Playing.{passLeft, figuresFrom}
-use Rattle.split.proofs.Going.{Going}
+use Rattle.split.proofs.Going.{Going, beyond-numbers}
 use Rattle.split.proofs.Treats.{Begun}
 use Rattle.split.proofs.Playable.{Playable, sizeAtStart, cutAtStart}
 use Rattle.split.proofs.Bounds.{BoardLong, board-long}
@@ -52,11 +52,7 @@ begins-here most job s l g z d =
       cells = rw (← e) (d .cells);
       counts = rw (← e) (d .counts);
       long = d .long;
-      beyond =
-          let b : drop (countsAt (fileCount job) (pinCount job) + 4 * recipeCount job) z ≡ drop (countsAt (fileCount job) (pinCount job) + 4 * recipeCount job) (l .scratch)
-          = rw e at (d .beyond) in
-          sym (drop-drop 16 (countsAt (fileCount job) (pinCount job) + 4 * recipeCount job) z) ∙ ap (drop 16) b
-          ∙ drop-drop 16 (countsAt (fileCount job) (pinCount job) + 4 * recipeCount job) (l .scratch);
+      beyond = beyond-numbers job z (l .scratch) (rw e at (d .beyond));
       gains = rw (← e) (d .starting);
       tried = refl;
       gained = refl;
@@ -79,6 +75,10 @@ first-under {job} {l} {w} {g} {z} y d e =
 -- there are few files, bounds and pins
 pub few-numbers : {job : Job} {l : Lent} {w : Window} → Playable job l w → (fileCount job < 65536) × (length (job .bounds) < 65536) × (pinCount job < 65536)
 few-numbers y = (y .small .files, y .small .bounds, omega (arith, y .small .pins))
+
+-- how far the scan lists and the scratch end in zeros, by the job's extent
+pub extent-known : {e : Extent} {c n p : ℕ} → e ≡ extentOf c n p → (4 * e .recipes ≡ 4 * n) × (scratchNumbers (e .pins) (e .files) (e .recipes) ≡ scratchNumbers p c n)
+extent-known q = (ap (λ (e : Extent). 4 * e .recipes) q, ap (λ (e : Extent). scratchNumbers (e .pins) (e .files) (e .recipes)) q)
 
 module _ {job : Job} {l : Lent} {w : Window} (y : Playable job l w) {b : Board} (going : Going job l (length (tries job (job .sides))) b) where
   abbrev q : Progress

@@ -4,16 +4,15 @@ use Prim.Native.Nat.{ℕ, suc, _+_, _-_, _*_, _≤_, _<_, _^_}
 use mathlib.Core.List.{List}
 use mathlib.Core.Option.{Option, none, some}
 use native.Mathlib.Omega.{arith}
-use lib.ListN.{length, getD}
+use lib.ListN.{length, getD, take}
 use lib.IntN.{ℤ, pos}
 use mir.Syntax.{w16, w64}
 use mir.Val.{Fits}
-use Rattle.rules.specs.Job.{Job, fileCount, pinCount, Lent}
+use Rattle.rules.specs.Job.{Job, fileCount, Lent}
 use Rattle.rules.specs.Move.{choose}
 use Rattle.rules.specs.Pass.{tries}
 use Rattle.split.specs.declared.choice.Window.{Window}
 use Rattle.split.specs.declared.choice.Best.{Best}
-use Rattle.tables.specs.Zones.{locksAt, part}
 use Rattle.split.specs.Choosing.{Holds, fileOr, chosenIn}
 use Rattle.split.specs.Best.{bestOf, bestIn}
 use Rattle.split.specs.Moving.{Board, moveOne}
@@ -53,7 +52,7 @@ movesOf b = b .rest .scanned .progress .moves
 
 -- the locks of the files
 abbrev pub locksIn : Job → Board → List ℕ
-locksIn job b = part (locksAt (fileCount job) (pinCount job)) (fileCount job) (b .rest .scratch)
+locksIn job b = take (fileCount job) (b .rest .scratch)
 
 -- the file chosen by the lists, and what is kept of it
 abbrev pub chosenNow : Job → Window → Board → Option ℕ
@@ -71,7 +70,7 @@ pub record Underway (job : Job) (l : Lent) (w : Window) (b : Board) : Type 0 whe
 pub record Choosable (job : Job) (w : Window) (b : Board) : Type 0 where
   pub sides : length (b .sides) ≡ fileCount job
   pub gains : length (b .rest .scanned .gains) ≡ fileCount job
-  pub locks : locksAt (fileCount job) (pinCount job) + fileCount job ≤ length (b .rest .scratch)
+  pub locks : fileCount job ≤ length (b .rest .scratch)
   pub den : w .den < 65536
   pub size : b .rest .scanned .progress .size < 2 ^ 40
   pub holds : Holds (b .rest .scanned .progress .size) (job .sizes) (b .sides)

@@ -9,9 +9,9 @@ use lib.ListN.{length, getD, set}
 use lib.Dec.{eqb}
 use borrow.Author.Tests.{eq-eqb, ne-eqb}
 use Rattle.rules.specs.Split.{other, sideOf, countOn, times}
-use Rattle.rules.specs.Move.{State, moved, kindIf, kindsIn, scanPins}
+use Rattle.rules.specs.Move.{State, lockedOn, moved, kindIf, kindsIn, scanPins}
 use Rattle.rules.proofs.Count.{is0, is1}
-use Rattle.rules.proofs.Locked.{lockedOn, kindsBy, kinds-by}
+use Rattle.rules.proofs.Locked.{kindsBy, kinds-by}
 use Rattle.rules.proofs.OneMove.{Moves, left-count, left-locked}
 use Rattle.tables.specs.Zones.{countsAt, CountsOf}
 use Rattle.split.specs.Scanning.{Scanned, scanned, scannedBy, scanIf, kindBy, kindThere, kindLeft, countT, lockedT, countF, lockedF}

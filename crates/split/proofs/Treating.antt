@@ -8,18 +8,18 @@ use native.Mathlib.Omega.{arith}
 use native.Mathlib.Nat.{add-zero, zero-add, suc-add, add-suc}
 use lib.ListN.{length, getD}
 use Rattle.rules.specs.Lists.{allBelow}
-use Rattle.rules.specs.Split.{other, sideOf, times, holds}
+use Rattle.rules.specs.Split.{other, sideOf, times, holds, recipesFrom, recipesOf}
 use Rattle.rules.specs.Move.{State, moved, Scan, kindsIn, scansOf, scanAll, visits}
 use Rattle.rules.specs.Theorems.{Distinct}
 use Rattle.rules.proofs.Count.{holds-yes, holds-no, countOn-le}
 use Rattle.rules.proofs.Locked.{lockedOn-le}
 use Rattle.rules.proofs.OneMove.{Moves, left-count, out-count, out-locked}
-use Rattle.rules.proofs.Steps.{recipesFrom, recipesOf, scansOver, scans-cells}
+use Rattle.rules.proofs.Steps.{scansOver, scans-cells}
 use Rattle.split.specs.declared.scan.Way.{Way}
 use Rattle.tables.specs.Zones.{countsAt, CountsOf, Counts}
 use Rattle.split.specs.Scanning.{Treated, treatOne, treatAll, Treatable, Ready, none, next}
 use Rattle.split.specs.Moving.{wayTo}
-use Rattle.split.proofs.Recount.{four-zones, places, counts-seen, Beside, beside-self, beside-then, Recounted, recounted}
+use Rattle.split.proofs.Recount.{two-lists, places, counts-seen, Beside, beside-self, beside-then, Recounted, recounted}
 use Rattle.split.proofs.ScanKinds.{scanOne, scansBy, scans-then, scans-map, kinds-scanned}
 use Rattle.split.proofs.ScansMade.{scansMade, withScans, Writes, gains-made, progress-made, recipes-made, kinds-made}
 
@@ -77,12 +77,7 @@ module _ {rs : List (List ℕ)} {st : State} {f : ℕ} (m : Moves st (moved st f
   out-counts : {at : ℕ} {z : List ℕ} {j : ℕ} → times f (getD rs j []) ≡ 0 → CountsOf rs st at n z j → CountsOf rs (moved st f) at n z j
   out-counts {j} o k =
       let r = getD rs j [] in
-      record {
-        onA = k .onA ∙ sym (out-count m 0 r o);
-        onB = k .onB ∙ sym (out-count m 1 r o);
-        lockedA = k .lockedA ∙ sym (out-locked m 0 r o);
-        lockedB = k .lockedB ∙ sym (out-locked m 1 r o);
-      }
+      record { on = λ u l. k .on u l ∙ sym (out-count m u r o); locked = λ u l. k .locked u l ∙ sym (out-locked m u r o) }
 
   passed : {b : ℕ} {z : List ℕ} → b < n → times f (getD rs b []) ≡ 0
       → Between rs st (moved st f) (countsAt c p) n b z → Between rs st (moved st f) (countsAt c p) n (suc b) z
@@ -93,11 +88,6 @@ module _ {rs : List (List ℕ)} {st : State} {f : ℕ} (m : Moves st (moved st f
   treated-too h g w =
       further (λ i a. g .others (moved st f) i (omega arith) (omega arith) (w .done i a)) (g .own)
       (λ i a l. g .others st i l (omega arith) (w .todo i (omega arith) l))
-
--- the locks stand below the counts
-locks-below : (c n p t : ℕ) → wayTo c n p t .locks + wayTo c n p t .files ≤ countsAt c p
-unfolding wayTo
-locks-below c n p t = omega arith
 
 -- ---- all recipes of the moved file
 
@@ -123,7 +113,7 @@ module _ (rs : List (List ℕ)) (st : State) (f : ℕ) (m : Moves st (moved st f
       ∙ sym (scans-map _ (λ k. record { recipe = j; kind = k }) (kindsIn st f (getD rs j [])) (y .scanned))
 
   treat-turns : (now : State) {b : ℕ} {js : List ℕ} → Turns rs f n b js
-      → (y : Treated) → p + 4 * c + 4 * n ≤ length (y .scratch) → Between rs st (moved st f) (countsAt c p) n b (y .scratch)
+      → (y : Treated) → countsAt c p + 4 * n ≤ length (y .scratch) → Between rs st (moved st f) (countsAt c p) n b (y .scratch)
       → Treats rs (moved st f) now (countsAt c p) n (other (sideOf (st .sides) f)) (scansIn rs st f js) y (treatAll now (wayOf c n p st f) look js y)
   unfolding treatAll treatOne scansOver
   treat-turns now (over e) y fits w =
@@ -141,15 +131,14 @@ module _ (rs : List (List ℕ)) (st : State) (f : ℕ) (m : Moves st (moved st f
             ∙ sym (scans-then _ (map (λ k. record { recipe = b; kind = k }) (kindsIn st f (getD rs b []))) (scansIn rs st f js) (y .scanned));
       }
 
-  module _ (below : (j : ℕ) → j < n → allBelow c (look j)) (short : (j : ℕ) → j < n → length (getD rs j []) < 65535) where
-    treatable : (z : List ℕ) → p + 4 * c + 4 * n ≤ length z → (j : ℕ) → j < n → times f (getD rs j []) ≡ 1
-        → CountsOf rs st (countsAt c p) n z j → Treatable (wayOf c n p st f) look z j
+  module _ (e : ℕ) (low : e ≤ countsAt c p) (below : (j : ℕ) → j < n → allBelow c (look j)) (short : (j : ℕ) → j < n → length (getD rs j []) < 65535) where
+    treatable : (z : List ℕ) → countsAt c p + 4 * n ≤ length z → (j : ℕ) → j < n → times f (getD rs j []) ≡ 1
+        → CountsOf rs st (countsAt c p) n z j → Treatable (wayOf c n p st f) look e z j
     treatable z fits j h o k =
         let s = sideOf (st .sides) f in
         let r = getD rs j [] in
         let a = counts-seen c n p s (m .binary f) k in
-        let q = places (four-zones c n p (other s) (omega arith)) j h in
-        let l = locks-below c n p (other s) in
+        let q = places (two-lists c n p (other s) (omega arith)) j h in
         record {
           counts = record {
             some = omega (arith, a .left, left-count m r o);
@@ -161,8 +150,8 @@ module _ (rs : List (List ℕ)) (st : State) (f : ℕ) (m : Moves st (moved st f
           below = unfold wayTo in below j h;
         }
 
-    ready-turns : {b : ℕ} {js : List ℕ} → Turns rs f n b js → (z : List ℕ) → p + 4 * c + 4 * n ≤ length z
-        → Between rs st (moved st f) (countsAt c p) n b z → Ready (wayOf c n p st f) look js z
+    ready-turns : {b : ℕ} {js : List ℕ} → Turns rs f n b js → (z : List ℕ) → countsAt c p + 4 * n ≤ length z
+        → Between rs st (moved st f) (countsAt c p) n b z → Ready (wayOf c n p st f) look e js z
     ready-turns (over e) z fits w = none
     ready-turns (without h o ts) z fits w = ready-turns ts z fits (passed m c n p h o w)
     ready-turns (within {b} h o ts) z fits w =
@@ -186,7 +175,7 @@ module _ (rs : List (List ℕ)) (dis : Distinct rs) (st : State) (f : ℕ) (m : 
   start-between : {z : List ℕ} → Counts rs st (countsAt c p) n z → Between rs st (moved st f) (countsAt c p) n 0 z
   start-between k = record { done = λ i h. absurd (omega arith); todo = λ i a h. k .each i h }
 
-  pub move-treated : (now : State) (y : Treated) → p + 4 * c + 4 * n ≤ length (y .scratch) → Counts rs st (countsAt c p) n (y .scratch)
+  pub move-treated : (now : State) (y : Treated) → countsAt c p + 4 * n ≤ length (y .scratch) → Counts rs st (countsAt c p) n (y .scratch)
       → TreatedMove rs st now f (countsAt c p) n y (treatAll now (wayOf c n p st f) look (recipesOf rs f) y)
   move-treated now y fits k =
       let t = other (sideOf (st .sides) f) in
@@ -203,7 +192,7 @@ module _ (rs : List (List ℕ)) (dis : Distinct rs) (st : State) (f : ℕ) (m : 
         kinds = rw made (kinds-made rs now t cs (y .scanned));
       }
 
-  pub move-ready : (z : List ℕ) → p + 4 * c + 4 * n ≤ length z → Counts rs st (countsAt c p) n z
+  pub move-ready : (e : ℕ) → e ≤ countsAt c p → (z : List ℕ) → countsAt c p + 4 * n ≤ length z → Counts rs st (countsAt c p) n z
       → ((j : ℕ) → j < n → allBelow c (look j)) → ((j : ℕ) → j < n → length (getD rs j []) < 65535)
-      → Ready (wayOf c n p st f) look (recipesOf rs f) z
-  move-ready z fits k below short = ready-turns rs st f m c n p look sees below short (turns rs dis f n long) z fits (start-between k)
+      → Ready (wayOf c n p st f) look e (recipesOf rs f) z
+  move-ready e low z fits k below short = ready-turns rs st f m c n p look sees e low below short (turns rs dis f n long) z fits (start-between k)

@@ -2,7 +2,7 @@
 use mathlib.Core.Path.{_≡_}
 use Prim.Native.Nat.{ℕ, suc}
 use mathlib.Core.List.{map}
-use lib.ListN.{length, getD, drop}
+use lib.ListN.{length, getD, take, drop}
 use lib.IntN.{pos}
 use Rattle.rules.specs.Lists.{onto}
 use Rattle.rules.specs.Job.{Job, fileCount, recipeCount, pinCount, views, recipes, Lent, scratchFor}
@@ -11,7 +11,7 @@ use Rattle.rules.specs.Move.{scans, visits}
 use Rattle.rules.specs.Pass.{startGains}
 use Rattle.rules.proofs.GainKept.{gainsScanned}
 use Rattle.split.specs.declared.progress.Progress.{Progress}
-use Rattle.tables.specs.Zones.{locksAt, countsAt, part, Cells, Counts}
+use Rattle.tables.specs.Zones.{countsAt, Cells, Counts}
 use Rattle.split.specs.Scanning.{Treated}
 use Rattle.split.specs.Choosing.{sizeBy}
 use Rattle.split.specs.Moving.{Board, begun, cutBy}
@@ -20,7 +20,7 @@ use Rattle.split.proofs.Going.{begins, made, stands}
 -- no move yet: cells and counts are built, the gains are the starting ones, and the lists are as lent
 pub record Begun (job : Job) (l : Lent) (b : Board) : Type 0 where
   pub sides : b .sides ≡ job .sides
-  pub locks : part (locksAt (fileCount job) (pinCount job)) (fileCount job) (b .rest .scratch) ≡ job .marks
+  pub locks : take (fileCount job) (b .rest .scratch) ≡ job .marks
   pub cells : Cells (recipes job) (fileCount job) (pinCount job) (b .rest .scratch)
   pub counts : Counts (recipes job) (begins job) (countsAt (fileCount job) (pinCount job)) (recipeCount job) (b .rest .scratch)
   pub long : length (b .rest .scratch) ≡ length (l .scratch)
@@ -47,7 +47,7 @@ pub record Shifted (job : Job) (k f : ℕ) (b : Board) (q : Progress) : Type 0 w
 
 -- what treating the recipes of move k, of the file f, leaves of the board b
 pub record MoveTreated (job : Job) (l : Lent) (k f : ℕ) (b : Board) (y : Treated) : Type 0 where
-  pub locks : part (locksAt (fileCount job) (pinCount job)) (fileCount job) (y .scratch) ≡ stands job (suc k) .locks
+  pub locks : take (fileCount job) (y .scratch) ≡ stands job (suc k) .locks
   pub cells : Cells (recipes job) (fileCount job) (pinCount job) (y .scratch)
   pub counts : Counts (recipes job) (stands job (suc k)) (countsAt (fileCount job) (pinCount job)) (recipeCount job) (y .scratch)
   pub long : length (y .scratch) ≡ length (b .rest .scratch)

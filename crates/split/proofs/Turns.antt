@@ -28,10 +28,10 @@ part-none i e z h =
     let n : e - i ≡ zero = omega arith in
     ap (λ (m : ℕ). take m (drop i z)) n
 
-ready-now : {way : Way} {look : ℕ → List ℕ} {j : ℕ} {js z : List ℕ} → Ready way look (j ∷ js) z → Treatable way look z j
+ready-now : {way : Way} {look : ℕ → List ℕ} {e j : ℕ} {js z : List ℕ} → Ready way look e (j ∷ js) z → Treatable way look e z j
 ready-now (next t r) = t
 
-ready-then : {way : Way} {look : ℕ → List ℕ} {j : ℕ} {js z : List ℕ} → Ready way look (j ∷ js) z → Ready way look js (recount way j z)
+ready-then : {way : Way} {look : ℕ → List ℕ} {e j : ℕ} {js z : List ℕ} → Ready way look e (j ∷ js) z → Ready way look e js (recount way j z)
 ready-then (next t r) = r
 
 module _ (st : State) (way : Way) where
@@ -48,14 +48,14 @@ module _ (st : State) (way : Way) where
 pub record Turn (st : State) (way : Way) (look : ℕ → List ℕ) (a e : ℕ) (y₀ : Treated) (i : ℕ) (y : Treated) : Type 0 where
   pub high : i ≤ e
   pub scratch : length (y .scratch) ≡ length (y₀ .scratch)
-  pub locks : part (way .locks) (way .files) (y .scratch) ≡ st .locks
-  pub ready : Ready way look (part i (e - i) (y .scratch)) (y .scratch)
+  pub locks : take (way .files) (y .scratch) ≡ st .locks
+  pub ready : Ready way look e (part i (e - i) (y .scratch)) (y .scratch)
   pub rest : treatAll st way look (part i (e - i) (y .scratch)) y ≡ treatAll st way look (part a (e - a) (y₀ .scratch)) y₀
   pub later : Later (y₀ .scanned) (y .scanned)
   pub near : GainsNear (y .scanned)
 
 module _ {st : State} {way : Way} {look : ℕ → List ℕ} {a e : ℕ} {y₀ : Treated} where
-  pub turn-first : a ≤ e → part (way .locks) (way .files) (y₀ .scratch) ≡ st .locks → Ready way look (part a (e - a) (y₀ .scratch)) (y₀ .scratch) → GainsNear (y₀ .scanned)
+  pub turn-first : a ≤ e → take (way .files) (y₀ .scratch) ≡ st .locks → Ready way look e (part a (e - a) (y₀ .scratch)) (y₀ .scratch) → GainsNear (y₀ .scanned)
       → Turn st way look a e y₀ a y₀
   turn-first h l r n = record {
     high = h;
@@ -73,7 +73,7 @@ module _ {st : State} {way : Way} {look : ℕ → List ℕ} {a e : ℕ} {y₀ : 
       none-left : (js : List ℕ) → js ≡ [] → treatAll st way look js y ≡ y
       none-left js q = ap (λ (l : List ℕ). treatAll st way look l y) q ∙ (unfold treatAll in refl)
 
-  module _ {i : ℕ} {y : Treated} (t : Turn st way look a e y₀ i y) (h : i < e) (inside : e ≤ way .locks) (long : way .locks + way .files ≤ length (y₀ .scratch)) where
+  module _ {i : ℕ} {y : Treated} (t : Turn st way look a e y₀ i y) (h : i < e) (inside : way .files ≤ e) (long : e ≤ length (y₀ .scratch)) where
     abbrev j : ℕ
     j = getD (y .scratch) i 0
 
@@ -83,10 +83,10 @@ module _ {st : State} {way : Way} {look : ℕ → List ℕ} {a e : ℕ} {y₀ : 
     cells : part i (e - i) (y .scratch) ≡ j ∷ js
     cells = part-cons i e (y .scratch) h (omega (arith, t .scratch))
 
-    ready : Ready way look (j ∷ js) (y .scratch)
-    ready = subst (λ (l : List ℕ). Ready way look l (y .scratch)) cells (t .ready)
+    ready : Ready way look e (j ∷ js) (y .scratch)
+    ready = subst (λ (l : List ℕ). Ready way look e l (y .scratch)) cells (t .ready)
 
-    pub turn-treatable : Treatable way look (y .scratch) j
+    pub turn-treatable : Treatable way look e (y .scratch) j
     turn-treatable = ready-now ready
 
     then : treatAll st way look js (treatOne st way j (look j) y) ≡ treatAll st way look (part a (e - a) (y₀ .scratch)) y₀
@@ -106,8 +106,8 @@ module _ {st : State} {way : Way} {look : ℕ → List ℕ} {a e : ℕ} {y₀ : 
         record {
           high = omega arith;
           scratch = ap length s ∙ recount-length way j z ∙ t .scratch;
-          locks = ap (part (way .locks) (way .files)) s ∙ recount-part way j z (way .locks) (way .files) (omega arith) turn-treatable ∙ t .locks;
-          ready = subst (λ (l : List ℕ). Ready way look l (treatOne st way j (look j) y .scratch)) (sym left) (subst (Ready way look js) (sym s) (ready-then ready));
+          locks = ap (take (way .files)) s ∙ recount-part way j z 0 (way .files) (omega arith) turn-treatable ∙ t .locks;
+          ready = subst (λ (l : List ℕ). Ready way look e l (treatOne st way j (look j) y .scratch)) (sym left) (subst (Ready way look e js) (sym s) (ready-then ready));
           rest = ap (λ (l : List ℕ). treatAll st way look l (treatOne st way j (look j) y)) left ∙ then;
           later = later-then (t .later) (later-one st way j (look j) z (y .scanned));
           near = near-recipe st way j (look j) z (y .scanned) (t .near);
@@ -116,13 +116,13 @@ module _ {st : State} {way : Way} {look : ℕ → List ℕ} {a e : ℕ} {y₀ : 
     -- ---- the code's steps: the counts changed, then two scans
 
     module _ {r z' : List ℕ} {k : Kinds} (own : r ≡ look j) (counted : z' ≡ recount way j (y .scratch)) (kinds : k ≡ kindsNow way j (y .scratch)) where
-      -- the scans see the locks of the entry, above which the counts lie
+      -- the scans see the locks of the entry, below the counts
       abbrev seen : State
-      seen = stateOf (st .sides) (part (way .locks) (way .files) z')
+      seen = stateOf (st .sides) (take (way .files) z')
 
       same : seen ≡ st
       same = ap (stateOf (st .sides))
-          (ap (part (way .locks) (way .files)) counted ∙ recount-part way j (y .scratch) (way .locks) (way .files) (omega arith) turn-treatable ∙ t .locks)
+          (ap (take (way .files)) counted ∙ recount-part way j (y .scratch) 0 (way .files) (omega arith) turn-treatable ∙ t .locks)
 
       abbrev scan : ℕ → Scanned → Scanned
       scan kind x = scanIf seen (way .side) j r kind x
@@ -144,7 +144,7 @@ module _ {st : State} {way : Way} {look : ℕ → List ℕ} {a e : ℕ} {y₀ : 
       pub own-below : allBelow (way .files) r
       own-below = subst (allBelow (way .files)) (sym own) (turn-treatable .below)
 
-      pub seen-long : way .locks + way .files ≤ length z'
+      pub seen-long : way .files ≤ length z'
       seen-long = omega (arith, long, t .scratch, ap length counted, recount-length way j (y .scratch))
 
       pub first-fits : Fits (treatAll st way look (part a (e - a) (y₀ .scratch)) y₀ .scanned) → Fits one

@@ -7,6 +7,7 @@ use mathlib.Core.Option.{Option, none, some}
 use lib.ListN.{length, getD}
 use lib.Dec.{leb, eqb}
 use lib.IntN.{ℤ, pos}
+use Rattle.rules.specs.Job.{Job}
 use Rattle.rules.specs.Split.{sideOf}
 use Rattle.rules.specs.Move.{distance, better, firstBelow}
 use Rattle.split.specs.declared.choice.Window.{Window}
@@ -37,5 +38,5 @@ chosenIn w size sizes sides locks gains n =
     firstBelow (legalIn w size sizes sides locks) (better (λ f. getD gains f (pos 0)) (distIn w size sizes sides)) n
 
 -- den, and num·W and den·smax
-abbrev pub windowOf : ℕ → ℕ → ℕ → ℕ → Window
-windowOf num den weight largest = record { den = den; aim = num * weight; span = den * largest }
+abbrev pub windowOf : Job → ℕ → ℕ → Window
+windowOf job weight largest = record { den = job .den; aim = job .num * weight; span = job .den * largest }

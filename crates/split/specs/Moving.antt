@@ -1,6 +1,6 @@
 -- What the code of a move does, on lists. Assumes nothing.
 use mathlib.Core.Path.{_≡_}
-use Prim.Native.Nat.{ℕ, _+_, _-_, _*_}
+use Prim.Native.Nat.{ℕ, _+_, _-_}
 use mathlib.Core.Bool.{cond}
 use mathlib.Core.List.{List}
 use lib.ListN.{length, getD, set}
@@ -11,7 +11,7 @@ use Rattle.rules.specs.Split.{other, sideOf}
 use Rattle.rules.proofs.Signed.{up, down}
 use Rattle.split.specs.declared.progress.Progress.{Progress}
 use Rattle.split.specs.declared.scan.Way.{Way}
-use Rattle.tables.specs.Zones.{startAt, endAt, locksAt, countsAt, sideAt, part, stateIn}
+use Rattle.tables.specs.Zones.{cellsAt, startsAt, endsAt, countsAt, sideAt, stateIn, cellsOf}
 use Rattle.split.specs.Scanning.{Treated, treated, treatAll}
 use Rattle.split.specs.Choosing.{sizeBy}
 use Rattle.tables.specs.Ending.{turned}
@@ -54,17 +54,9 @@ countedOn p =
 abbrev pub cutBy : ℕ → ℤ → ℕ
 cutBy cut g = cut + down g - up g
 
--- the zones of a move to side t
+-- the way of a move to side t
 unfoldable pub wayTo : ℕ → ℕ → ℕ → ℕ → Way
-wayTo c n p t = record {
-  side = t;
-  files = c;
-  locks = locksAt c p;
-  there = sideAt (countsAt c p) n t;
-  left = sideAt (countsAt c p) n (other t);
-  locked = sideAt (countsAt c p + 2 * n) n t;
-  staying = sideAt (countsAt c p + 2 * n) n (other t);
-}
+wayTo c n p t = record { side = t; files = c; recipes = n; there = sideAt (countsAt c p) n t; left = sideAt (countsAt c p) n (other t) }
 
 -- ---- one move
 
@@ -87,15 +79,11 @@ board sides tried gained cuts ends scratch gains recipes kinds p = record {
   rest = treated scratch gains recipes kinds p;
 }
 
--- the cells of file f
-abbrev pub cellsOf : ℕ → ℕ → List ℕ → ℕ → List ℕ
-cellsOf c p z f = part (getD z (startAt p f) 0) (getD z (endAt c p f) 0 - getD z (startAt p f) 0) z
-
 -- the file is locked, and its cells are told
 pub record Locked (c p f : ℕ) (z z' : List ℕ) (from to : ℕ) : Type 0 where
-  pub first : from ≡ getD z (startAt p f) 0
-  pub last : to ≡ getD z (endAt c p f) 0
-  pub held : z' ≡ set z (locksAt c p + f) 1
+  pub first : from ≡ cellsAt c + getD z (startsAt c p + f) 0
+  pub last : to ≡ cellsAt c + getD z (endsAt c p + f) 0
+  pub held : z' ≡ set z f 1
 
 -- |A| and the cut after the move of f
 abbrev pub shiftOf : List ℕ → List ℕ → List ℤ → ℕ → Progress → Progress
@@ -109,8 +97,8 @@ treatFrom sizes bounds pins f sides y =
     let p = length pins in
     let z = y .scratch in
     let q = y .scanned .progress in
-    let locked = set z (locksAt c p + f) 1 in
-    treatAll (stateIn c p (turned sides f) locked) (wayTo c n p (sideOf (turned sides f) f)) (viewOf bounds pins) (cellsOf c p z f)
+    let locked = set z f 1 in
+    treatAll (stateIn c (turned sides f) locked) (wayTo c n p (sideOf (turned sides f) f)) (viewOf bounds pins) (cellsOf c p z f)
     (treated locked (y .scanned .gains) (y .scanned .recipes) (y .scanned .kinds) (shiftOf sizes sides (y .scanned .gains) f q))
 
 abbrev pub treatMove : List ℕ → List ℕ → List ℕ → ℕ → Board → Treated

@@ -1,5 +1,5 @@
 -- What the code of a move's scans does, on lists. Assumes nothing.
-use Prim.Native.Nat.{ℕ, _+_, _-_, _≤_, _<_, _^_}
+use Prim.Native.Nat.{ℕ, _+_, _-_, _*_, _≤_, _<_, _^_}
 use mathlib.Core.Bool.{cond, _&&_}
 use mathlib.Core.List.{List, [], _∷_}
 use lib.ListN.{length, getD, set}
@@ -88,18 +88,18 @@ abbrev pub countT : Way → ℕ → List ℕ → ℕ
 countT way j z = getD z (way .there + j) 0
 
 abbrev pub lockedT : Way → ℕ → List ℕ → ℕ
-lockedT way j z = getD z (way .locked + j) 0
+lockedT way j z = getD z (way .there + j + 2 * way .recipes) 0
 
 abbrev pub countF : Way → ℕ → List ℕ → ℕ
 countF way j z = getD z (way .left + j) 0 - 1
 
 abbrev pub lockedF : Way → ℕ → List ℕ → ℕ
-lockedF way j z = getD z (way .staying + j) 0
+lockedF way j z = getD z (way .left + j + 2 * way .recipes) 0
 
 -- the moved file leaves one side and joins the other, locked
 unfoldable pub recount : Way → ℕ → List ℕ → List ℕ
 recount way j z =
-    set (set (set z (way .left + j) (countF way j z)) (way .there + j) (countT way j z + 1)) (way .locked + j) (lockedT way j z + 1)
+    set (set (set z (way .left + j) (countF way j z)) (way .there + j) (countT way j z + 1)) (way .there + j + 2 * way .recipes) (lockedT way j z + 1)
 
 -- the kinds of its scans
 abbrev pub kindsNow : Way → ℕ → List ℕ → Kinds
@@ -127,16 +127,16 @@ treatAll st way look (j ∷ js) y = treatAll st way look js (treatOne st way j (
 pub record Countable (way : Way) (z : List ℕ) (j : ℕ) : Type 0 where
   pub some : 1 ≤ getD z (way .left + j) 0
   pub there : getD z (way .there + j) 0 < 65535
-  pub locked : getD z (way .locked + j) 0 < 65535
-  pub inside : (way .left + j < length z) × (way .there + j < length z) × (way .locked + j < length z) × (way .staying + j < length z)
+  pub locked : getD z (way .there + j + 2 * way .recipes) 0 < 65535
+  pub inside : (way .left + j < length z) × (way .there + j < length z) × (way .there + j + 2 * way .recipes < length z) × (way .left + j + 2 * way .recipes < length z)
 
--- and its counts lie above the locks; its pins are files
-pub record Treatable (way : Way) (look : ℕ → List ℕ) (z : List ℕ) (j : ℕ) : Type 0 where
+-- and its counts lie above all that stands below e; its pins are files
+pub record Treatable (way : Way) (look : ℕ → List ℕ) (e : ℕ) (z : List ℕ) (j : ℕ) : Type 0 where
   pub counts : Countable way z j
-  pub above : (way .locks + way .files ≤ way .left + j) × (way .locks + way .files ≤ way .there + j) × (way .locks + way .files ≤ way .locked + j)
+  pub above : (e ≤ way .left + j) × (e ≤ way .there + j)
   pub below : allBelow (way .files) (look j)
 
 -- so does each recipe of the list when its turn comes
-pub data Ready (way : Way) (look : ℕ → List ℕ) : List ℕ → List ℕ → Type 0 where
-  none : {z : List ℕ} → Ready way look [] z
-  next : {j : ℕ} {js z : List ℕ} → Treatable way look z j → Ready way look js (recount way j z) → Ready way look (j ∷ js) z
+pub data Ready (way : Way) (look : ℕ → List ℕ) (e : ℕ) : List ℕ → List ℕ → Type 0 where
+  none : {z : List ℕ} → Ready way look e [] z
+  next : {j : ℕ} {js z : List ℕ} → Treatable way look e z j → Ready way look e js (recount way j z) → Ready way look e (j ∷ js) z

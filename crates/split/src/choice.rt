@@ -2,9 +2,8 @@
 ghost use mathlib.Core.Path.{_≡_};
 ghost use mathlib.Core.Bool.{true};
 ghost use Prim.Native.Nat.{_+_, _*_, _≤_, _<_, _^_};
-ghost use lib.ListN.{length};
+ghost use lib.ListN.{length, take};
 ghost use Rattle.rules.specs.Move.{distance};
-ghost use Rattle.tables.specs.Zones.{locksAt, part};
 ghost use Rattle.split.specs.Choosing.{sizeBy, Holds};
 ghost use Rattle.split.specs.Best.{noLess, goesFirst, challenged, bestIn, isRival, NextRival};
 
@@ -43,30 +42,23 @@ fn apart(x: u64, y: u64) -> u64
 }
 
 // Whether a file of this gain and lock is a rival of the best so far: it is free, and its gain is no less, or there is none yet.
-fn is_rival(best: Best, gain: i32, lock: u16, none: usize) -> bool
-    ensures { λ r. ⌜ r ≡ isRival best gain lock none ⌝ }
+fn is_rival(best: Best, gain: i32, lock: u16, files: usize) -> bool
+    ensures { λ r. ⌜ r ≡ isRival best gain lock files ⌝ }
 {
     if lock != 0 {
         return false;
     }
-    (best.file == none) | !(gain < best.gain)
+    (best.file == files) | !(gain < best.gain)
 }
 
 // The first rival from this file on; none where there is none.
-fn next_rival(
-    best: Best,
-    scratch: &[u16],
-    gains: &[i32],
-    locks: usize,
-    from: usize,
-    none: usize,
-) -> usize
-    requires { ⌜ (length (now gains) ≡ none) × (locks + none ≤ length (now scratch)) × (from ≤ none) ⌝ }
-    ensures { λ r. ⌜ NextRival best (part locks none (now (scratch .entry))) (now (gains .entry)) none from r ⌝ }
+fn next_rival(best: Best, scratch: &[u16], gains: &[i32], from: usize, files: usize) -> usize
+    requires { ⌜ (length (now gains) ≡ files) × (files ≤ length (now scratch)) × (from ≤ files) ⌝ }
+    ensures { λ r. ⌜ NextRival best (take files (now (scratch .entry))) (now (gains .entry)) files from r ⌝ }
 {
     let mut f = from;
-    while f < none {
-        if is_rival(best, gains[f], scratch[locks + f], none) {
+    while f < files {
+        if is_rival(best, gains[f], scratch[f], files) {
             return f;
         }
         f += 1;
@@ -75,21 +67,21 @@ fn next_rival(
 }
 
 // Whether a rival of this gain and distance goes before the best so far, of lower number, or there is none yet.
-fn is_better(gain: i32, dist: u64, best: Best, none: usize) -> bool
-    requires { ⌜ noLess gain best none ≡ true ⌝ }
-    ensures { λ r. ⌜ r ≡ goesFirst gain dist best none ⌝ }
+fn is_better(gain: i32, dist: u64, best: Best, files: usize) -> bool
+    requires { ⌜ noLess gain best files ≡ true ⌝ }
+    ensures { λ r. ⌜ r ≡ goesFirst gain dist best files ⌝ }
 {
-    (best.file == none) | (best.gain < gain) | (dist < best.dist)
+    (best.file == files) | (best.gain < gain) | (dist < best.dist)
 }
 
 // The best so far, against its rival f.
-fn challenge(window: Window, best: Best, f: usize, gain: i32, after: u64, none: usize) -> Best
-    requires { ⌜ noLess gain best none ≡ true ⌝ }
+fn challenge(window: Window, best: Best, f: usize, gain: i32, after: u64, files: usize) -> Best
+    requires { ⌜ noLess gain best files ≡ true ⌝ }
     requires { ⌜ window .den * after < 2 ^ 64 ⌝ }
-    ensures { λ r. ⌜ r ≡ challenged window best f gain 0 after none ⌝ }
+    ensures { λ r. ⌜ r ≡ challenged window best f gain 0 after files ⌝ }
 {
     let dist = apart(window.den * after, window.aim);
-    if (dist <= window.span) & is_better(gain, dist, best, none) {
+    if (dist <= window.span) & is_better(gain, dist, best, files) {
         return Best {
             file: f,
             gain,
@@ -99,7 +91,7 @@ fn challenge(window: Window, best: Best, f: usize, gain: i32, after: u64, none: 
     best
 }
 
-// The best legal move, none where no move is legal; the locks of the files stand in the scratch, after the cells of this many pins.
+// The best legal move, none where no move is legal; the locks of the files are the first numbers of the scratch.
 pub(crate) fn choose(
     window: Window,
     size: u64,
@@ -107,25 +99,23 @@ pub(crate) fn choose(
     sides: &[u16],
     scratch: &[u16],
     gains: &[i32],
-    pins: usize,
 ) -> Best
-    requires { ⌜ (length (now sides) ≡ length (now sizes)) × (length (now gains) ≡ length (now sizes)) × (locksAt (length (now sizes)) pins + length (now sizes) ≤ length (now scratch)) ⌝ }
+    requires { ⌜ (length (now sides) ≡ length (now sizes)) × (length (now gains) ≡ length (now sizes)) × (length (now sizes) ≤ length (now scratch)) ⌝ }
     requires { ⌜ (window .den < 65536) × (size < 2 ^ 40) ⌝ }
     requires { ⌜ Holds size (now sizes) (now sides) ⌝ }
-    ensures { λ r. ⌜ r ≡ bestIn window size (now (sizes .entry)) (now (sides .entry)) (part (locksAt (length (now (sizes .entry))) pins) (length (now (sizes .entry))) (now (scratch .entry))) (now (gains .entry)) ⌝ }
+    ensures { λ r. ⌜ r ≡ bestIn window size (now (sizes .entry)) (now (sides .entry)) (take (length (now (sizes .entry))) (now (scratch .entry))) (now (gains .entry)) ⌝ }
 {
-    let none = sizes.len();
-    let locks = pins + 2 * none;
+    let files = sizes.len();
     let mut best = Best {
-        file: none,
+        file: files,
         gain: 0,
         dist: 0,
     };
-    let mut f = next_rival(best, scratch, gains, locks, 0, none);
-    while f < none {
+    let mut f = next_rival(best, scratch, gains, 0, files);
+    while f < files {
         let after = size_after(size, sides[f], sizes[f]);
-        best = challenge(window, best, f, gains[f], after, none);
-        f = next_rival(best, scratch, gains, locks, f + 1, none);
+        best = challenge(window, best, f, gains[f], after, files);
+        f = next_rival(best, scratch, gains, f + 1, files);
     }
     best
 }

@@ -1,25 +1,25 @@
 // One pass.
+mod checked;
 mod choice;
-mod ending;
-mod lent;
 mod moves;
 mod progress;
 mod scan;
 
+use checked::extent_of;
+pub use checked::refused;
+use checked::window_of;
 use choice::choose;
-use ending::figures_of;
-use ending::needed_for;
 use job::Job;
-pub use lent::refused;
-use lent::window_of;
 use moves::treat_move;
 use progress::Progress;
 use rules::Figures;
+use tables::ListLengths;
 use tables::end_moves;
 use tables::end_scans;
 use tables::lay_out;
 ghost use mathlib.Core.Path.{_≡_};
-ghost use Rattle.rules.specs.Job.{limitsOf, asJob, lentOf};
+ghost use Rattle.rules.specs.Job.{limitsOf, lentOf};
+ghost use Rattle.job.specs.Parts.{wholeJob};
 ghost use Rattle.rules.specs.Run.{endedOf, passEnds};
 
 // One pass, lent what document 01 says: the gain list, four move lists, two scan lists and the scratch.
@@ -41,8 +41,16 @@ pub fn pass_once(
     kinds: &mut [u16],
     scratch: &mut [u16],
 ) -> Figures
-    ensures { λ r. do ⌜ endedOf r (now (sides .exit)) (lentOf (now (gains .exit)) (now (tried .exit)) (now (gained .exit)) (now (cuts .exit)) (now (ends .exit)) (now (recipes .exit)) (now (kinds .exit)) (now (scratch .exit))) ≡ passEnds (limitsOf (← ⟦Job::MOST_FILES⟧ .entry) (← ⟦Job::MOST_RECIPES⟧ .entry) (← ⟦Job::MOST_PINS⟧ .entry) (← ⟦Job::MOST_DEN⟧ .entry)) (asJob (now (sizes .entry)) (now (sides .entry)) (now (marks .entry)) (now (bounds .entry)) (now (pins .entry)) (job .num) (job .den) (job .cap)) (lentOf (now (gains .entry)) (now (tried .entry)) (now (gained .entry)) (now (cuts .entry)) (now (ends .entry)) (now (recipes .entry)) (now (kinds .entry)) (now (scratch .entry))) ⌝ }
+    ensures { λ r. do ⌜ endedOf r (now (sides .exit)) (lentOf (now (gains .exit)) (now (tried .exit)) (now (gained .exit)) (now (cuts .exit)) (now (ends .exit)) (now (recipes .exit)) (now (kinds .exit)) (now (scratch .exit))) ≡ passEnds (limitsOf (← ⟦Job::MOST_FILES⟧ .entry) (← ⟦Job::MOST_RECIPES⟧ .entry) (← ⟦Job::MOST_PINS⟧ .entry) (← ⟦Job::MOST_DEN⟧ .entry)) (wholeJob job (now (sizes .entry)) (now (sides .entry)) (now (marks .entry)) (now (bounds .entry)) (now (pins .entry))) (lentOf (now (gains .entry)) (now (tried .entry)) (now (gained .entry)) (now (cuts .entry)) (now (ends .entry)) (now (recipes .entry)) (now (kinds .entry)) (now (scratch .entry))) ⌝ }
 {
+    let lists = ListLengths {
+        tried: tried.len(),
+        gained: gained.len(),
+        cuts: cuts.len(),
+        ends: ends.len(),
+        recipes: recipes.len(),
+        kinds: kinds.len(),
+    };
     let s = lay_out(
         job,
         sizes,
@@ -52,34 +60,22 @@ pub fn pass_once(
         pins,
         gains,
         scratch,
-        tried.len(),
-        gained.len(),
-        cuts.len(),
-        ends.len(),
-        recipes.len(),
-        kinds.len(),
+        lists,
     );
     if s.verdict.number != 0 {
         return refused(s.verdict);
     }
-    let window = window_of(job.num, job.den, s.weight, s.largest);
+    let window = window_of(job, s.weight, s.largest);
     let c = sizes.len();
     let mut p = Progress::new(s.size, s.cut);
     loop {
-        let chosen = choose(window, p.size, sizes, sides, scratch, gains, pins.len());
+        let chosen = choose(window, p.size, sizes, sides, scratch, gains);
         let f = chosen.file;
         if c <= f {
             end_moves(sides, tried, gained, cuts, ends, p.best, p.moves, c);
-            let needed = needed_for(c, bounds, pins);
-            end_scans(
-                recipes,
-                kinds,
-                scratch,
-                p.scans,
-                needed.scans,
-                needed.numbers,
-            );
-            return figures_of(s.cut, p);
+            let extent = extent_of(c, bounds, pins);
+            end_scans(recipes, kinds, scratch, p.scans, extent);
+            return p.figures(s.cut);
         }
         let at = p.moves;
         tried[at] = f as u16;

@@ -8,13 +8,16 @@ ghost use Rattle.split.specs.Scanning.{treated};
 ghost use Rattle.tables.specs.Ending.{turned};
 ghost use Rattle.split.specs.Moving.{cutBy, wayTo, Locked, shiftOf, treatFrom};
 ghost use Rattle.split.specs.Movable.{Shiftable, Movable};
+use super::checked::extent_of;
 use super::choice::size_after;
 use super::progress::Progress;
 use super::scan::Way;
 use super::scan::treat_all;
-use job::recipe_count;
 use job::wide;
+use tables::Extent;
+use tables::side_at;
 use tables::turn;
+use tables::zones_of;
 
 // The cut less a gain.
 fn cut_after(cut: usize, gain: i32) -> usize
@@ -25,32 +28,17 @@ fn cut_after(cut: usize, gain: i32) -> usize
     after as usize
 }
 
-// Where the counts of a move to this side stand.
-fn way_to(c: usize, n: usize, p: usize, side: u16) -> Way
-    requires { ⌜ (c < 65536) × (n < 65536) × (p < 65536) ⌝ }
-    ensures { λ r. ⌜ r ≡ wayTo c n p side ⌝ }
+// The way of a move to this side.
+fn way_to(extent: Extent, side: u16) -> Way
+    requires { ⌜ side ≤ 1 ⌝ }
+    ensures { λ r. ⌜ r ≡ wayTo (extent .files) (extent .recipes) (extent .pins) side ⌝ }
 {
-    let counts = p + 4 * c;
-    let both = counts + 2 * n;
-    if side == 0 {
-        return Way {
-            side,
-            files: c,
-            locks: p + 2 * c,
-            there: counts,
-            left: counts + n,
-            locked: both,
-            staying: both + n,
-        };
-    }
     Way {
         side,
-        files: c,
-        locks: p + 2 * c,
-        there: counts + n,
-        left: counts,
-        locked: both + n,
-        staying: both,
+        files: wide(extent.files),
+        recipes: wide(extent.recipes),
+        there: side_at(extent, side),
+        left: side_at(extent, 1 - side),
     }
 }
 
@@ -61,13 +49,14 @@ struct Span {
 }
 
 // The file is locked; the span of its cells.
-fn lock(scratch: &mut [u16], c: usize, p: usize, f: usize) -> Span
-    requires { ⌜ (c < 65536) × (p < 65536) × (f < c) × (countsAt c p ≤ length (now scratch)) ⌝ }
-    ensures { λ r. ⌜ Locked c p f (now (scratch .entry)) (now (scratch .exit)) (r .from) (r .to) ⌝ }
+fn lock(scratch: &mut [u16], extent: Extent, f: usize) -> Span
+    requires { ⌜ (f < extent .files) × (countsAt (extent .files) (extent .pins) ≤ length (now scratch)) ⌝ }
+    ensures { λ r. ⌜ Locked (extent .files) (extent .pins) f (now (scratch .entry)) (now (scratch .exit)) (r .from) (r .to) ⌝ }
 {
-    let from = wide(scratch[p + f]);
-    let to = wide(scratch[p + c + f]);
-    scratch[p + 2 * c + f] = 1;
+    let zones = zones_of(extent);
+    let from = zones.cells + wide(scratch[zones.starts + f]);
+    let to = zones.cells + wide(scratch[zones.ends + f]);
+    scratch[f] = 1;
     Span { from, to }
 }
 
@@ -100,8 +89,9 @@ pub(crate) fn treat_move(
 {
     let q = shift(sizes, sides, gains, f, p);
     let side = turn(sides, f);
-    let way = way_to(sizes.len(), recipe_count(bounds), pins.len(), side);
-    let cells = lock(scratch, sizes.len(), pins.len(), f);
+    let extent = extent_of(sizes.len(), bounds, pins);
+    let way = way_to(extent, side);
+    let cells = lock(scratch, extent, f);
     treat_all(
         gains,
         recipes,

@@ -4,6 +4,9 @@ ghost use mathlib.Core.Path.{_≡_};
 ghost use Prim.Native.Nat.{_+_, _<_, _^_};
 ghost use Rattle.split.specs.Scanning.{scannedBy};
 ghost use Rattle.split.specs.Moving.{begun, shiftedTo, countedOn};
+ghost use Rattle.split.specs.Playing.{figuresFrom};
+use rules::Figures;
+use rules::Verdict;
 
 pub(crate) struct Progress {
     pub size: u64,
@@ -64,5 +67,25 @@ impl Progress {
             return self;
         }
         self
+    }
+
+    // The figures of the pass, once its moves have ended.
+    pub fn figures(self, before: usize) -> Figures
+        ensures { λ r. ⌜ r ≡ figuresFrom before self ⌝ }
+    {
+        let verdict = Verdict {
+            number: 0,
+            place: 0,
+        };
+        Figures {
+            verdict,
+            before,
+            cut: self.least,
+            size: self.atbest,
+            tried: self.moves as u64,
+            kept: self.best as u64,
+            scans: self.scans as u64,
+            visits: self.visits,
+        }
     }
 }

@@ -1,7 +1,7 @@
 // The scans of a move: its recipes are treated in rising number, and only a listed scan walks a recipe.
 ghost use mathlib.Core.Path.{_≡_};
 ghost use Prim.Native.Nat.{_+_, _-_, _≤_, _<_, _^_};
-ghost use lib.ListN.{length};
+ghost use lib.ListN.{length, take};
 ghost use Rattle.rules.specs.Lists.{allBelow};
 ghost use Rattle.rules.specs.Job.{viewOf};
 ghost use Rattle.rules.specs.Move.{scanPins};
@@ -11,16 +11,14 @@ ghost use Rattle.split.specs.Scanning.{shiftedBy, RoomFor, NearVisits, F
 use super::progress::Progress;
 use job::wide;
 
-// The way of a move: the side moved to, and where the locks and the counts of recipe 0 stand in the scratch:
-// its files on the side moved to and on the side left, and the locked ones of each.
+// The way of a move: the side moved to, and where the counts of the side moved to and of the side left begin in the scratch;
+// those of the locked files stand two lists further.
 pub(crate) struct Way {
     pub side: u16,
     pub files: usize,
-    pub locks: usize,
+    pub recipes: usize,
     pub there: usize,
     pub left: usize,
-    pub locked: usize,
-    pub staying: usize,
 }
 
 // The kinds of a recipe's scans at a move: 1 or 2, and 3 or 4; 0 is none.
@@ -47,21 +45,20 @@ fn shifted(g: i32, lock: u16, side: u16, there: u16, left: u16, kind: u16) -> i3
     g
 }
 
-// One scan over the pins of its recipe; the locks of the files stand in the scratch.
+// One scan over the pins of its recipe; the locks of the files stand at the start of the scratch.
 fn scan_pins(gains: &mut [i32], sides: &[u16], scratch: &[u16], pins: &[u16], way: Way, kind: u16)
     requires { ⌜ way .side ≤ 1 ⌝ }
     requires { ⌜ allBelow (way .files) (now pins) ⌝ }
-    requires { ⌜ (length (now gains) ≡ way .files) × (length (now sides) ≡ way .files) × (way .locks + way .files ≤ length (now scratch)) ⌝ }
+    requires { ⌜ (length (now gains) ≡ way .files) × (length (now sides) ≡ way .files) × (way .files ≤ length (now scratch)) ⌝ }
     requires { ⌜ RoomFor (now gains) (length (now pins)) ⌝ }
-    ensures { λ _. ⌜ now (gains .exit) ≡ scanPins (stateOf (now (sides .entry)) (part (way .locks) (way .files) (now (scratch .entry)))) (way .side) kind (now (pins .entry)) (now (gains .entry)) ⌝ }
+    ensures { λ _. ⌜ now (gains .exit) ≡ scanPins (stateOf (now (sides .entry)) (take (way .files) (now (scratch .entry)))) (way .side) kind (now (pins .entry)) (now (gains .entry)) ⌝ }
 {
     let there = way.side;
     let left = 1 - there;
-    let locks = way.locks;
     let mut k = 0;
     while k < pins.len() {
         let f = wide(pins[k]);
-        gains[f] = shifted(gains[f], scratch[locks + f], sides[f], there, left, kind);
+        gains[f] = shifted(gains[f], scratch[f], sides[f], there, left, kind);
         k += 1;
     }
 }
@@ -81,10 +78,10 @@ fn scan_if(
 ) -> Progress
     requires { ⌜ way .side ≤ 1 ⌝ }
     requires { ⌜ allBelow (way .files) (now pins) ⌝ }
-    requires { ⌜ (length (now gains) ≡ way .files) × (length (now sides) ≡ way .files) × (way .locks + way .files ≤ length (now scratch)) ⌝ }
+    requires { ⌜ (length (now gains) ≡ way .files) × (length (now sides) ≡ way .files) × (way .files ≤ length (now scratch)) ⌝ }
     requires { ⌜ NearVisits (now gains) (p .visits) ⌝ }
-    requires { ⌜ Fits (scanIf (stateOf (now sides) (part (way .locks) (way .files) (now scratch))) (way .side) j (now pins) kind (scanned (now gains) (now recipes) (now kinds) p)) ⌝ }
-    ensures { λ r. ⌜ scanned (now (gains .exit)) (now (recipes .exit)) (now (kinds .exit)) r ≡ scanIf (stateOf (now (sides .entry)) (part (way .locks) (way .files) (now (scratch .entry)))) (way .side) j (now (pins .entry)) kind (scanned (now (gains .entry)) (now (recipes .entry)) (now (kinds .entry)) p) ⌝ }
+    requires { ⌜ Fits (scanIf (stateOf (now sides) (take (way .files) (now scratch))) (way .side) j (now pins) kind (scanned (now gains) (now recipes) (now kinds) p)) ⌝ }
+    ensures { λ r. ⌜ scanned (now (gains .exit)) (now (recipes .exit)) (now (kinds .exit)) r ≡ scanIf (stateOf (now (sides .entry)) (take (way .files) (now (scratch .entry)))) (way .side) j (now (pins .entry)) kind (scanned (now (gains .entry)) (now (recipes .entry)) (now (kinds .entry)) p) ⌝ }
 {
     if kind == 0 {
         return p;
@@ -136,8 +133,8 @@ fn recount_one(scratch: &mut [u16], j: u16, way: Way) -> Kinds
     let k = j as usize;
     let left = way.left + k;
     let there = way.there + k;
-    let locked = way.locked + k;
-    let staying = way.staying + k;
+    let locked = there + 2 * way.recipes;
+    let staying = left + 2 * way.recipes;
     let f = scratch[left] - 1;
     let t = scratch[there];
     let l = scratch[locked];
@@ -163,12 +160,12 @@ pub(crate) fn treat_all(
     way: Way,
     p: Progress,
 ) -> Progress
-    requires { ⌜ (way .side ≤ 1) × (a ≤ e) × (e ≤ way .locks) ⌝ }
-    requires { ⌜ (length (now gains) ≡ way .files) × (length (now sides) ≡ way .files) × (way .locks + way .files ≤ length (now scratch)) ⌝ }
-    requires { ⌜ Ready way (viewOf (now bounds) (now pins)) (part a (e - a) (now scratch)) (now scratch) ⌝ }
+    requires { ⌜ (way .side ≤ 1) × (way .files ≤ a) × (a ≤ e) ⌝ }
+    requires { ⌜ (length (now gains) ≡ way .files) × (length (now sides) ≡ way .files) × (e ≤ length (now scratch)) ⌝ }
+    requires { ⌜ Ready way (viewOf (now bounds) (now pins)) e (part a (e - a) (now scratch)) (now scratch) ⌝ }
     requires { ⌜ NearVisits (now gains) (p .visits) ⌝ }
-    requires { ⌜ Fits (treatAll (stateOf (now sides) (part (way .locks) (way .files) (now scratch))) way (viewOf (now bounds) (now pins)) (part a (e - a) (now scratch)) (treated (now scratch) (now gains) (now recipes) (now kinds) p) .scanned) ⌝ }
-    ensures { λ r. ⌜ treated (now (scratch .exit)) (now (gains .exit)) (now (recipes .exit)) (now (kinds .exit)) r ≡ treatAll (stateOf (now (sides .entry)) (part (way .locks) (way .files) (now (scratch .entry)))) way (viewOf (now (bounds .entry)) (now (pins .entry))) (part a (e - a) (now (scratch .entry))) (treated (now (scratch .entry)) (now (gains .entry)) (now (recipes .entry)) (now (kinds .entry)) p) ⌝ }
+    requires { ⌜ Fits (treatAll (stateOf (now sides) (take (way .files) (now scratch))) way (viewOf (now bounds) (now pins)) (part a (e - a) (now scratch)) (treated (now scratch) (now gains) (now recipes) (now kinds) p) .scanned) ⌝ }
+    ensures { λ r. ⌜ treated (now (scratch .exit)) (now (gains .exit)) (now (recipes .exit)) (now (kinds .exit)) r ≡ treatAll (stateOf (now (sides .entry)) (take (way .files) (now (scratch .entry)))) way (viewOf (now (bounds .entry)) (now (pins .entry))) (part a (e - a) (now (scratch .entry))) (treated (now (scratch .entry)) (now (gains .entry)) (now (recipes .entry)) (now (kinds .entry)) p) ⌝ }
 {
     let mut q = p;
     let mut i = a;

@@ -3,14 +3,16 @@ use mathlib.Core.Path.{_≡_, refl, sym, ap, ap₂, _∙_}
 use Prim.Native.Nat.{ℕ, _+_, _-_, _*_, _/_, _%_, _<_, _≤_, min}
 use native.Mathlib.Decide.{ℕ-discrete, decLt}
 use native.Mathlib.Nat.{add-zero, mul-one, mul-add, mul-add-div, div-eq-of-lt, mul-add-mod-self-left, mod-eq-of-lt}
+use native.Mathlib.Numerals.{add-one}
 use native.Mathlib.Omega.{arith}
 use mathlib.Core.List.{List, map}
-use lib.ListN.{length, set, length-set}
-use lib.Seq.{getD-set-same, getD-set-other, ext-getD}
+use lib.ListN.{length, getD, take, set, length-set}
+use lib.Seq.{take-suc, length-take-le, getD-set-same, getD-set-other, ext-getD}
 use Rattle.rules.specs.Lists.{upTo, onto}
+use Rattle.rules.specs.Stored.{heldIn}
 use Rattle.rules.proofs.Count.{getD-tabled, length-tabled}
-use Rattle.rules.proofs.Entries.{onto-length, onto-in, onto-stays}
-use Rattle.stored.specs.Steps.{Put, Taken, heldIn}
+use Rattle.rules.proofs.Entries.{onto-length, onto-in, onto-stays, onto-set}
+use Rattle.stored.specs.Steps.{Put, Taken}
 
 -- ---- one block's values
 
@@ -72,3 +74,20 @@ taken-all {g} {n} {old} {new} t h =
       | yes q ↦ t .taken i q ∙ sym (onto-in 0 xs old i (omega arith) ∙ getD-tabled g n i 0 q)
       | no q ↦ t .after i (omega arith) ∙ sym (onto-stays 0 xs old i (omega arith))
     ])
+
+-- ---- the first entries of one list handed over to another
+
+module _ (from old : List ℕ) {into : List ℕ} (k : ℕ) (e : into ≡ onto (take k from) old) where
+  pub handed-long : k ≤ length from → k ≤ length old → length into ≡ length old
+  handed-long h l = ap length e ∙ onto-length 0 (take k from) old (omega (arith, length-take-le k from h))
+
+  pub handed-more : k < length from → k < length old → set into k (getD from k 0) ≡ onto (take (k + 1) from) old
+  handed-more h l =
+      let xs : List ℕ = take k from in
+      let v : ℕ = getD from k 0 in
+      let n : length xs ≡ k = length-take-le k from (omega arith) in
+      ap (λ (x : List ℕ). set x k v) e
+      ∙ ap (λ (i : ℕ). set (onto xs old) i v) (sym n)
+      ∙ onto-set xs old v (omega arith)
+      ∙ ap (λ (t : List ℕ). onto t old) (sym (take-suc from k 0 h))
+      ∙ ap (λ (j : ℕ). onto (take j from) old) (sym (add-one k))

@@ -1,154 +1,263 @@
 -- What a verdict that passes tells, the job in the reader's own lists, and the answers of a reading. Assumes nothing.
-use mathlib.Core.Path.{_≡_, refl, sym, ap, _∙_}
-use Prim.Native.Nat.{ℕ, _+_, _-_, _*_, _≤_}
-use mathlib.Core.Bool.{not}
+use mathlib.Core.Path.{_≡_, refl, sym, ap, ap₂, _∙_}
+use Prim.Native.Nat.{ℕ, _+_, _-_, _*_, _<_, _≤_}
+use mathlib.Core.Bool.{true, not}
 use native.Mathlib.Decide.{ℕ-discrete}
 use native.Mathlib.Omega.{arith}
 use mathlib.Core.List.{List}
 use lib.ListN.{length, take, length-replicate}
 use lib.Dec.{ltb, eqb}
-use borrow.Author.Tests.{eqb-true, leb-true}
+use lib.Seq.{length-take-le}
+use borrow.Author.Tests.{eqb-true, eq-eqb, ne-eqb, leb-true, lt-ltb, le-ltb}
 use Rattle.rules.specs.declared.Verdict.{Verdict}
 use Rattle.rules.specs.declared.Measure.{Measure}
 use Rattle.rules.specs.declared.Header.{Header}
 use Rattle.rules.specs.declared.ReadFigures.{ReadFigures}
 use Rattle.rules.specs.Lists.{onto}
-use Rattle.rules.specs.Job.{Limits}
+use Rattle.rules.specs.Job.{Job, Limits}
 use Rattle.rules.specs.Check.{refuseIf, _orElse_, check1Of, check2Of, check4to6, «measure»}
 use Rattle.rules.specs.Report.{allRoom}
-use Rattle.rules.specs.Stored.{Room, Reading, headerOf, blocksFor, boundsAt, pinsAt, blockCount, roomy, jobOf, blockVerdict, blocksVerdict, layoutVerdict, readVerdict, written, noHeader, reading}
+use Rattle.rules.specs.Stored.{Room, Reading, blockAt, headerOf, boundsAt, pinsAt, blockCount, roomy, jobOf, blockVerdict, blocksVerdict, layoutVerdict, readVerdict, written, noHeader, reading}
 use Rattle.rules.proofs.Tests.{and-yes, not-no}
-use Rattle.rules.proofs.Verdicts.{or-assoc, or-three, zero-of, passes-both, not-refused, measure-verdict, first-three}
+use Rattle.rules.proofs.Verdicts.{or-assoc, or-three, chain-stop, chain-go, refuse-stop, refuse-go, zero-of, passes-both, not-refused, measure-verdict, first-three}
 use Rattle.rules.proofs.SoundJob.{ok1-of, ok2-of}
+use Rattle.rules.proofs.Blocks.{blocks-split}
 use Rattle.rules.proofs.Entries.{onto-take, onto-least}
 use Rattle.rules.proofs.Reading.{read-files, read-sides, read-marks, read-bounds, read-pins, read-holds, reading-verdict}
-use Rattle.stored.specs.declared.layout.Lengths.{Lengths}
+use Rattle.stored.specs.declared.header.Lengths.{Lengths}
 use Rattle.stored.specs.Room.{roomLong}
-use Rattle.stored.specs.Steps.{Taken, storedValue, storedSize, storedSide, storedMark, figuresVerdict, LayoutHolds, Writable, firstOf, readFigures}
+use Rattle.stored.specs.Steps.{Taken, TakenFiles, filesOf, storedValue, verdictOf, headerIn, figuresVerdict, openingVerdict, Allowed, Ample, Gathered, firstOf, readFigures, answerBy}
+use Rattle.stored.proofs.Blocks.{block-told}
 use Rattle.stored.proofs.Filled.{taken-all}
 
--- ---- a layout that passes
+-- ---- the stages of the verdict
 
-pub layout-tells : (most : Limits) (bytes : List ℕ) (room : Room) → layoutVerdict most bytes room .number ≡ 0 → LayoutHolds most (headerOf bytes) bytes
-unfolding layoutVerdict
-layout-tells most bytes room z =
-    let h : Header = headerOf bytes in
-    let a = passes-both (refuseIf (ltb (length bytes) 512) 20 0) _ z in
-    let b = passes-both (blockVerdict h bytes 0) _ (a .1) in
-    let c = passes-both (check1Of (h .files) (h .recipes)) _ (b .1) in
-    let d = passes-both (check2Of most (h .files) (h .recipes) (h .pins)) _ (c .1) in
-    let e = passes-both (refuseIf (not (roomy h room)) 3 0) _ (d .1) in
-    let f = passes-both (refuseIf (not (eqb (length bytes) (512 * blockCount h))) 20 0) _ (e .1) in
-    let some = ok1-of (h .files) (h .recipes) (c .0) in
-    let few = ok2-of most (h .files) (h .recipes) (h .pins) (d .0) in
-    record {
-      long = eqb-true (length bytes) (512 * blockCount h) (not-no _ (not-refused _ 19 0 (f .0)));
-      some-files = some .0;
-      some-recipes = some .1;
-      few-files = few .0;
-      few-recipes = few .1;
-      few-pins = few .2;
-    }
+module _ (most : Limits) (bytes : List ℕ) (room : Room) where
+  abbrev blocks-past : Verdict
+  blocks-past = blocksVerdict (headerOf bytes) bytes 1 (blockCount (headerOf bytes) - 1)
 
--- ---- its stages
+  abbrev length-verdict : Verdict
+  length-verdict = refuseIf (not (eqb (length bytes) (512 * blockCount (headerOf bytes)))) 20 0
 
--- the header's block and figures first, then the length and the further blocks
-pub by-stages : (most : Limits) (bytes : List ℕ) (room : Room) → (let h = headerOf bytes in
-    refuseIf (ltb (length bytes) 512) 20 0
-    orElse (blockVerdict h bytes 0 orElse figuresVerdict most h room)
-    orElse refuseIf (not (eqb (length bytes) (512 * blockCount h))) 20 0
-    orElse blocksVerdict h bytes 1 (blockCount h - 1)) ≡ layoutVerdict most bytes room
-unfolding layoutVerdict
-by-stages most bytes room =
-    let h : Header = headerOf bytes in
-    let few : Verdict = check2Of most (h .files) (h .recipes) (h .pins) in
-    let short : Verdict = refuseIf (not (roomy h room)) 3 0 in
-    let rest : Verdict = refuseIf (not (eqb (length bytes) (512 * blockCount h))) 20 0 orElse blocksVerdict h bytes 1 (blockCount h - 1) in
-    ap (λ (v : Verdict). refuseIf (ltb (length bytes) 512) 20 0 orElse v)
-    (or-assoc (blockVerdict h bytes 0) (figuresVerdict most h room) rest
-    ∙ ap (λ (v : Verdict). blockVerdict h bytes 0 orElse v) (or-three (check1Of (h .files) (h .recipes)) few short rest))
+  -- block 0 and its header, each further block, then 4 to 6
+  pub by-stages : (openingVerdict most bytes room orElse blocks-past orElse check4to6 (jobOf bytes)) ≡ readVerdict most bytes room
+  unfolding readVerdict layoutVerdict openingVerdict
+  by-stages =
+      let h : Header = headerOf bytes in
+      let a : Verdict = refuseIf (ltb (length bytes) 512) 20 0 in
+      let b : Verdict = blockVerdict h bytes 0 in
+      let f : Verdict = figuresVerdict most h room in
+      sym (or-assoc (openingVerdict most bytes room) blocks-past (check4to6 (jobOf bytes)))
+      ∙ ap (λ (v : Verdict). v orElse check4to6 (jobOf bytes))
+      (or-three a b (f orElse length-verdict) blocks-past
+      ∙ ap (λ (v : Verdict). a orElse b orElse v)
+      (or-assoc f length-verdict blocks-past ∙ or-three (check1Of (h .files) (h .recipes)) (check2Of most (h .files) (h .recipes) (h .pins)) (refuseIf (not (roomy h room)) 3 0) (length-verdict orElse blocks-past)))
 
--- ---- the entries that are written
+  pub opening-tells : openingVerdict most bytes room .number ≡ 0 → (length bytes ≡ 512 * blockCount (headerOf bytes)) × Allowed most (headerOf bytes)
+  unfolding openingVerdict
+  opening-tells z =
+      let h : Header = headerOf bytes in
+      let a = passes-both (refuseIf (ltb (length bytes) 512) 20 0) _ z in
+      let b = passes-both (blockVerdict h bytes 0) _ (a .1) in
+      let c = passes-both (figuresVerdict most h room) length-verdict (b .1) in
+      let d = passes-both (check1Of (h .files) (h .recipes)) _ (c .0) in
+      let e = passes-both (check2Of most (h .files) (h .recipes) (h .pins)) _ (d .1) in
+      let some = ok1-of (h .files) (h .recipes) (d .0) in
+      let few = ok2-of most (h .files) (h .recipes) (h .pins) (e .0) in (
+        eqb-true (length bytes) (512 * blockCount h) (not-no _ (not-refused _ 19 0 (c .1))),
+        record { some-files = some .0; some-recipes = some .1; few-files = few .0; few-recipes = few .1; few-pins = few .2 },
+      )
 
-module _ {bytes : List ℕ} {h : Header} {room : Room} (r : Writable bytes h room) where
-  pub files-there : 512 * (1 + blocksFor 126 (h .files)) ≤ length bytes
-  files-there = omega (arith, r .long)
+-- ---- the further blocks, kind after kind
 
-  pub bounds-there : {b : ℕ} → b ≡ boundsAt h → 512 * (b + blocksFor 253 (h .recipes + 1)) ≤ length bytes
-  bounds-there e = omega (arith, r .long)
+-- m blocks of files, n of bounds, and the rest of pins
+pub by-kinds : (h : Header) (bytes : List ℕ) {b p e : ℕ} → b ≡ boundsAt h → p ≡ pinsAt h → e ≡ blockCount h
+    → (blocksVerdict h bytes 1 (b - 1) orElse blocksVerdict h bytes b (p - b) orElse blocksVerdict h bytes p (e - p)) ≡ blocksVerdict h bytes 1 (blockCount h - 1)
+by-kinds h bytes {b} {p} {e} i j k =
+    let f : blockCount h - 1 ≡ b - 1 + (p - b + (e - p)) = omega arith in
+    let g : 1 + (b - 1) ≡ b = omega arith in
+    let w : b + (p - b) ≡ p = omega arith in
+    sym (rw f (blocks-split h bytes 1 (b - 1) (p - b + (e - p)) ∙ rw (g, blocks-split h bytes b (p - b) (e - p), w) refl))
 
-  pub pins-there : {p : ℕ} → p ≡ pinsAt h → 512 * (p + blocksFor 253 (h .pins)) ≤ length bytes
-  pins-there e = omega (arith, r .long)
+-- ---- the entries that are taken
 
-pub job-written : (bytes : List ℕ) (h : Header) {old new : Room} {b p : ℕ} → Writable bytes h old → b ≡ boundsAt h → p ≡ pinsAt h
-    → Taken (storedSize bytes) (h .files) (old .sizes) (new .sizes) → Taken (storedSide bytes) (h .files) (old .sides) (new .sides) → Taken (storedMark bytes) (h .files) (old .marks) (new .marks)
+all-written : (bytes : List ℕ) {h : Header} {old new : Room} {b p : ℕ} → h ≡ headerOf bytes → Ample (h .files) (h .recipes) (h .pins) old → b ≡ boundsAt h → p ≡ pinsAt h
+    → TakenFiles bytes (h .files) (filesOf (old .sizes) (old .sides) (old .marks)) (filesOf (new .sizes) (new .sides) (new .marks))
     → Taken (storedValue bytes b) (h .recipes + 1) (old .bounds) (new .bounds) → Taken (storedValue bytes p) (h .pins) (old .pins) (new .pins)
     → new ≡ written (jobOf bytes) old
 unfolding jobOf
-job-written bytes h r f g s d m b p = λ i. record {
-  sizes = (rw (r .header) at (taken-all s (r .sizes))) i;
-  sides = (rw (r .header) at (taken-all d (r .sides))) i;
-  marks = (rw (r .header) at (taken-all m (r .marks))) i;
-  bounds = (rw (f, r .header) at (taken-all b (r .bounds))) i;
-  pins = (rw (g, r .header) at (taken-all p (r .pins))) i;
+all-written bytes e r f g t b p = λ i. record {
+  sizes = (rw e at (taken-all (t .sizes) (r .sizes))) i;
+  sides = (rw e at (taken-all (t .sides) (r .sides))) i;
+  marks = (rw e at (taken-all (t .marks) (r .marks))) i;
+  bounds = (rw (f, e) at (taken-all b (r .bounds))) i;
+  pins = (rw (g, e) at (taken-all p (r .pins))) i;
 }
 
--- the first entries of the lists that were written into are the job
-pub first-written : (bytes : List ℕ) (room : Room) → firstOf (headerOf bytes) (written (jobOf bytes) room) ≡ jobOf bytes
+-- the first entries of lists that are written into are the job
+pub first-written : (bytes : List ℕ) (old : Room) → firstOf (headerOf bytes) (written (jobOf bytes) old) ≡ jobOf bytes
 unfolding jobOf
-first-written bytes room =
+first-written bytes old =
     λ i. record {
-      sizes = first (jobOf bytes .sizes) (room .sizes) (read-files bytes) i;
-      sides = first (jobOf bytes .sides) (room .sides) (read-sides bytes) i;
-      marks = first (jobOf bytes .marks) (room .marks) (read-marks bytes) i;
-      bounds = first (jobOf bytes .bounds) (room .bounds) (read-bounds bytes) i;
-      pins = first (jobOf bytes .pins) (room .pins) (read-pins bytes) i;
+      sizes = first (jobOf bytes .sizes) (old .sizes) (read-files bytes) i;
+      sides = first (jobOf bytes .sides) (old .sides) (read-sides bytes) i;
+      marks = first (jobOf bytes .marks) (old .marks) (read-marks bytes) i;
+      bounds = first (jobOf bytes .bounds) (old .bounds) (read-bounds bytes) i;
+      pins = first (jobOf bytes .pins) (old .pins) (read-pins bytes) i;
       num = headerOf bytes .num;
       den = headerOf bytes .den;
       cap = headerOf bytes .cap;
     }
   where
-    first : (xs old : List ℕ) {n : ℕ} → length xs ≡ n → take n (onto xs old) ≡ xs
-    first xs old q = ap (λ (k : ℕ). take k (onto xs old)) (sym q) ∙ onto-take xs old
+    first : (xs ys : List ℕ) {n : ℕ} → length xs ≡ n → take n (onto xs ys) ≡ xs
+    first xs ys q = ap (λ (k : ℕ). take k (onto xs ys)) (sym q) ∙ onto-take xs ys
+
+pub job-taken : (bytes : List ℕ) {h : Header} {old new : Room} {b p : ℕ} → h ≡ headerOf bytes → Ample (h .files) (h .recipes) (h .pins) old → b ≡ boundsAt h → p ≡ pinsAt h
+    → TakenFiles bytes (h .files) (filesOf (old .sizes) (old .sides) (old .marks)) (filesOf (new .sizes) (new .sides) (new .marks))
+    → Taken (storedValue bytes b) (h .recipes + 1) (old .bounds) (new .bounds) → Taken (storedValue bytes p) (h .pins) (old .pins) (new .pins)
+    → Gathered bytes h new
+job-taken bytes {old = old} e r f g t b p =
+    rw (e, all-written bytes e r f g t b p) (record {
+      enough = record {
+        sizes = omega (arith, read-files bytes, onto-least (jobOf bytes .sizes) (old .sizes));
+        sides = omega (arith, read-sides bytes, onto-least (jobOf bytes .sides) (old .sides));
+        marks = omega (arith, read-marks bytes, onto-least (jobOf bytes .marks) (old .marks));
+        bounds = omega (arith, read-bounds bytes, onto-least (jobOf bytes .bounds) (old .bounds));
+        pins = omega (arith, read-pins bytes, onto-least (jobOf bytes .pins) (old .pins));
+      };
+      job = first-written bytes old;
+    })
 
 -- ---- the reader's own lists, one entry for each that the limits allow
 
--- k is the header that the reader has in hand
-module _ {most : Limits} {bytes : List ℕ} {k : Header} (e : k ≡ headerOf bytes) (l : LayoutHolds most (headerOf bytes) bytes) where
-  pub own-ready : Writable bytes k (allRoom most)
-  own-ready = rw e (record {
-    header = refl;
-    long = l .long;
-    sizes = omega (arith, length-replicate {A = ℕ} (most .files) 0, l .few-files);
-    sides = omega (arith, length-replicate {A = ℕ} (most .files) 0, l .few-files);
-    marks = omega (arith, length-replicate {A = ℕ} (most .files) 0, l .few-files);
-    bounds = omega (arith, length-replicate {A = ℕ} (most .recipes + 1) 0, l .few-recipes);
-    pins = omega (arith, length-replicate {A = ℕ} (most .pins) 0, l .few-pins);
-  })
+pub own-room : (most : Limits) → Ample (most .files) (most .recipes) (most .pins) (allRoom most)
+own-room most = record {
+  sizes = omega (arith, length-replicate {A = ℕ} (most .files) 0);
+  sides = omega (arith, length-replicate {A = ℕ} (most .files) 0);
+  marks = omega (arith, length-replicate {A = ℕ} (most .files) 0);
+  bounds = omega (arith, length-replicate {A = ℕ} (most .recipes + 1) 0);
+  pins = omega (arith, length-replicate {A = ℕ} (most .pins) 0);
+}
 
-  pub own-filled : {own : Room} → own ≡ written (jobOf bytes) (allRoom most) → Writable bytes k own
-  own-filled w = rw (e, w) (record {
-    header = refl;
-    long = l .long;
-    sizes = omega (arith, read-files bytes, onto-least (jobOf bytes .sizes) (allRoom most .sizes));
-    sides = omega (arith, read-sides bytes, onto-least (jobOf bytes .sides) (allRoom most .sides));
-    marks = omega (arith, read-marks bytes, onto-least (jobOf bytes .marks) (allRoom most .marks));
-    bounds = omega (arith, read-bounds bytes, onto-least (jobOf bytes .bounds) (allRoom most .bounds));
-    pins = omega (arith, read-pins bytes, onto-least (jobOf bytes .pins) (allRoom most .pins));
-  })
+module _ {most : Limits} {h : Header} (c : Allowed most h) where
+  pub room-enough : {r : Room} → Ample (most .files) (most .recipes) (most .pins) r → Ample (h .files) (h .recipes) (h .pins) r
+  room-enough w = record {
+    sizes = omega (arith, w .sizes, c .few-files);
+    sides = omega (arith, w .sides, c .few-files);
+    marks = omega (arith, w .marks, c .few-files);
+    bounds = omega (arith, w .bounds, c .few-recipes);
+    pins = omega (arith, w .pins, c .few-pins);
+  }
 
-  own-job : {own : Room} → own ≡ written (jobOf bytes) (allRoom most) → firstOf k own ≡ jobOf bytes
-  own-job w = rw (e, w) (first-written bytes (allRoom most))
+  -- its job passes 1 to 3
+  pub own-verdict : {r : Room} {m : Measure} → Ample (h .files) (h .recipes) (h .pins) r → m ≡ «measure» most (firstOf h r) → m .verdict ≡ check4to6 (firstOf h r)
+  own-verdict {r} w q =
+      let sizes = length-take-le (h .files) (r .sizes) (w .sizes) in
+      let sides = length-take-le (h .files) (r .sides) (w .sides) in
+      let marks = length-take-le (h .files) (r .marks) (w .marks) in
+      let bounds = length-take-le (h .recipes + 1) (r .bounds) (w .bounds) in
+      let pins = length-take-le (h .pins) (r .pins) (w .pins) in
+      ap (λ (x : Measure). x .verdict) q ∙ measure-verdict most (firstOf h r)
+      ∙ first-three most (firstOf h r)
+      (omega (arith, sizes, c .some-files)) (omega (arith, bounds, c .some-recipes)) (omega (arith, sizes, c .few-files))
+      (omega (arith, bounds, c .few-recipes)) (omega (arith, pins, c .few-pins))
+      (sides ∙ sym sizes) (marks ∙ sym sizes)
 
-  pub own-verdict : {own : Room} {m : Measure} → own ≡ written (jobOf bytes) (allRoom most) → m ≡ «measure» most (firstOf k own) → m .verdict ≡ check4to6 (jobOf bytes)
-  own-verdict w q =
-      ap (λ (x : Measure). x .verdict) (rw (own-job w) at q) ∙ measure-verdict most (jobOf bytes)
-      ∙ first-three most (jobOf bytes)
-      (omega (arith, read-files bytes, l .some-files)) (omega (arith, read-bounds bytes, l .some-recipes)) (omega (arith, read-files bytes, l .few-files))
-      (omega (arith, read-bounds bytes, l .few-recipes)) (omega (arith, read-pins bytes, l .few-pins))
-      (read-sides bytes ∙ sym (read-files bytes)) (read-marks bytes ∙ sym (read-files bytes))
+-- ---- the answers
 
--- ---- the answers: a verdict looks only at the lengths of the lent lists
+pub answer-yes : (v : Verdict) (h : Header) → v .number ≡ 0 → answerBy v h ≡ readFigures v h
+answer-yes v h z = simp (eq-eqb (v .number) 0 z)
+
+pub answer-no : (v : Verdict) (h : Header) → (v .number ≡ 0 → ⊥) → answerBy v h ≡ readFigures v noHeader
+answer-no v h n = simp (ne-eqb (v .number) 0 n)
+
+answer-verdict : {o : ReadFigures} (v : Verdict) (h : Header) → o ≡ answerBy v h → o .verdict ≡ v
+answer-verdict v h e = elim (ℕ-discrete (v .number) 0) [
+  | yes z ↦ ap (λ (x : ReadFigures). x .verdict) (e ∙ answer-yes v h z)
+  | no n ↦ ap (λ (x : ReadFigures). x .verdict) (e ∙ answer-no v h n)
+]
+
+answer-header : {o : ReadFigures} (v : Verdict) (h : Header) → o ≡ answerBy v h → o .verdict .number ≡ 0 → o .header ≡ h
+answer-header v h e z = ap (λ (x : ReadFigures). x .header) (e ∙ answer-yes v h (zero-of (answer-verdict v h e) z))
+
+pub answer-gathered : {bytes : List ℕ} {o : ReadFigures} (v : Verdict) (h : Header) {own : Room} → o ≡ answerBy v h → Gathered bytes h own → o .verdict .number ≡ 0 → Gathered bytes (o .header) own
+answer-gathered v h e g z = rw (answer-header v h e z) g
+
+-- a refused answer is that of a verdict, whatever the header
+pub refused-by : {v : Verdict} {w : Verdict} (h : Header) → v ≡ w → (v .number ≡ 0 → ⊥) → readFigures v noHeader ≡ answerBy w h
+refused-by {v} {w} h e n = rw e (sym (answer-no w h (λ z. n (zero-of (sym e) z))))
+
+-- ---- block 0
+
+module _ (most : Limits) (bytes : List ℕ) (room : Room) where
+  pub short-opening : {v : Verdict} → length bytes < 512 → v ≡ refuseIf true 20 0 → v ≡ openingVerdict most bytes room
+  unfolding openingVerdict
+  short-opening l e = refuse-stop 19 0 (blockVerdict (headerOf bytes) bytes 0 orElse figuresVerdict most (headerOf bytes) room orElse length-verdict most bytes room) (lt-ltb (length bytes) 512 l) e
+
+  module _ (l : 512 ≤ length bytes) {block : List ℕ} (b : block ≡ blockAt bytes 0) {v : Verdict} (e : v ≡ verdictOf block 0 1 6) where
+    zeroth : v ≡ blockVerdict (headerOf bytes) bytes 0
+    zeroth = block-told (headerOf bytes) bytes 0 b e
+
+    pub stopped-zeroth : (v .number ≡ 0 → ⊥) → v ≡ openingVerdict most bytes room
+    unfolding openingVerdict
+    stopped-zeroth n = refuse-go 20 0 (le-ltb (length bytes) 512 l) (chain-stop (figuresVerdict most (headerOf bytes) room orElse length-verdict most bytes room) zeroth n)
+
+    header-taken : {h : Header} → h ≡ headerIn block → h ≡ headerOf bytes
+    unfolding headerOf
+    header-taken q = q ∙ ap (λ (x : List ℕ). headerIn x) b
+
+    pub all-opened : {h : Header} {f t o : Verdict} {k : ℕ} {r : ReadFigures} → v .number ≡ 0 → h ≡ headerIn block → f ≡ figuresVerdict most h room → k ≡ blockCount h
+        → t ≡ refuseIf (not (eqb (length bytes) (512 * k))) 20 0 → o ≡ (f orElse t) → r ≡ answerBy o h → r ≡ answerBy (openingVerdict most bytes room) (headerOf bytes)
+    unfolding openingVerdict
+    all-opened {h} {f} {t} {o} {k} z q y c w x a =
+        let i : h ≡ headerOf bytes = header-taken q in
+        let y' : f ≡ figuresVerdict most (headerOf bytes) room = rw i at y in
+        let c' : k ≡ blockCount (headerOf bytes) = rw i at c in
+        let w' : t ≡ length-verdict most bytes room = rw c' at w in
+        let u : o ≡ openingVerdict most bytes room = refuse-go 20 0 (le-ltb (length bytes) 512 l) (chain-go zeroth z (x ∙ ap₂ _orElse_ y' w')) in
+        a ∙ ap₂ answerBy u i
+
+-- ---- reading
+
+module _ (most : Limits) (bytes : List ℕ) (room : Room) where
+  by-answer : answerBy (readVerdict most bytes room) (headerOf bytes) ≡ reading most bytes room .answer
+  by-answer =
+      let v : Verdict = readVerdict most bytes room in
+      elim (ℕ-discrete (v .number) 0) [
+        | yes z ↦ answer-yes v (headerOf bytes) z ∙ sym (ap (λ (x : Reading). x .answer) (read-holds most bytes room .reads z))
+        | no n ↦ answer-no v (headerOf bytes) n ∙ sym (ap (λ (x : Reading). x .answer) (read-holds most bytes room .refused n))
+      ]
+
+  pub stopped-opening : {o : ReadFigures} → o ≡ answerBy (openingVerdict most bytes room) (headerOf bytes) → (o .verdict .number ≡ 0 → ⊥) → o ≡ reading most bytes room .answer
+  stopped-opening e n =
+      let v : Verdict = openingVerdict most bytes room in
+      let k : v .number ≡ 0 → ⊥ = λ z. n (zero-of (sym (answer-verdict v (headerOf bytes) e)) z) in
+      e ∙ answer-no v (headerOf bytes) k ∙ refused-by (headerOf bytes) (chain-stop (blocks-past most bytes room orElse check4to6 (jobOf bytes)) refl k ∙ by-stages most bytes room) k ∙ by-answer
+
+  module _ {o : ReadFigures} (e : o ≡ answerBy (openingVerdict most bytes room) (headerOf bytes)) (z : o .verdict .number ≡ 0) where
+    pub opened-header : o .header ≡ headerOf bytes
+    opened-header = answer-header (openingVerdict most bytes room) (headerOf bytes) e z
+
+    pub opened-tells : (length bytes ≡ 512 * blockCount (o .header)) × Allowed most (o .header)
+    opened-tells = rw opened-header (opening-tells most bytes room (zero-of (answer-verdict (openingVerdict most bytes room) (headerOf bytes) e) z))
+
+    past : {v : Verdict} → v ≡ (blocks-past most bytes room orElse check4to6 (jobOf bytes)) → v ≡ readVerdict most bytes room
+    past w = chain-go (answer-verdict (openingVerdict most bytes room) (headerOf bytes) e) z w ∙ by-stages most bytes room
+
+    module _ {v : Verdict} (f : v ≡ blocksVerdict (o .header) bytes 1 (blockCount (o .header) - 1)) where
+      blocks-of : v ≡ blocks-past most bytes room
+      blocks-of = rw opened-header at f
+
+      pub stopped-further : {r : ReadFigures} → (v .number ≡ 0 → ⊥) → r ≡ readFigures v noHeader → r ≡ reading most bytes room .answer
+      stopped-further n q = q ∙ refused-by (headerOf bytes) (past (chain-stop (check4to6 (jobOf bytes)) blocks-of n)) n ∙ by-answer
+
+      pub all-taken : {r : ReadFigures} {s : Verdict} {own : Room} → v .number ≡ 0 → Gathered bytes (o .header) own → s ≡ check4to6 (firstOf (o .header) own) → r ≡ answerBy s (o .header)
+          → r ≡ reading most bytes room .answer
+      all-taken y g c q =
+          let k = past (chain-go blocks-of y (rw (g .job) at c)) in
+          rw (← by-answer, ← k, ← opened-header) q
+
+-- ---- the lent lists: a verdict looks only at their lengths
 
 abbrev lengthsOf : Room → Lengths
 lengthsOf r = record { sizes = length (r .sizes); sides = length (r .sides); marks = length (r .marks); bounds = length (r .bounds); pins = length (r .pins) }
@@ -157,25 +266,9 @@ by-length : (most : Limits) (bytes : List ℕ) (room : Room) → readVerdict mos
 unfolding readVerdict layoutVerdict
 by-length most bytes room = simp length-replicate
 
-module _ (most : Limits) (bytes : List ℕ) (room : Room) where
-  pub refused-answer : {v : Verdict} → v ≡ readVerdict most bytes room → (v .number ≡ 0 → ⊥) → readFigures v noHeader ≡ reading most bytes room .answer
-  refused-answer e z = rw (e, read-holds most bytes room .refused (λ n. z (zero-of (sym e) n)))
-
-  pub read-answer : {v : Verdict} {k : Header} → v ≡ readVerdict most bytes room → v .number ≡ 0 → k ≡ headerOf bytes → readFigures v k ≡ reading most bytes room .answer
-  read-answer e z q = rw (e, q, read-holds most bytes room .reads (zero-of e z))
-
-same-answer : (most : Limits) (bytes : List ℕ) (room : Room) → reading most bytes (roomLong (lengthsOf room)) .answer ≡ reading most bytes room .answer
-same-answer most bytes room =
-    let lent : Room = roomLong (lengthsOf room) in
-    let e : readVerdict most bytes room ≡ readVerdict most bytes lent = sym (by-length most bytes room) in
-    elim (ℕ-discrete (readVerdict most bytes room .number) 0) [
-      | yes z ↦ sym (read-answer most bytes lent e z refl) ∙ read-answer most bytes room refl z refl
-      | no n ↦ sym (refused-answer most bytes lent e n) ∙ refused-answer most bytes room refl n
-    ]
-
 module _ (most : Limits) (bytes : List ℕ) (room : Room) {r : ReadFigures} (e : r ≡ reading most bytes (roomLong (lengthsOf room)) .answer) where
   answered : r ≡ reading most bytes room .answer
-  answered = e ∙ same-answer most bytes room
+  answered = e ∙ sym (by-answer most bytes (roomLong (lengthsOf room))) ∙ ap (λ (v : Verdict). answerBy v (headerOf bytes)) (by-length most bytes room) ∙ by-answer most bytes room
 
   told : r .verdict ≡ readVerdict most bytes room
   told = ap (λ (x : ReadFigures). x .verdict) answered ∙ reading-verdict most bytes room
@@ -183,25 +276,28 @@ module _ (most : Limits) (bytes : List ℕ) (room : Room) {r : ReadFigures} (e :
   pub refused-room : (r .verdict .number ≡ 0 → ⊥) → (r ≡ reading most bytes room .answer) × (room ≡ reading most bytes room .room)
   refused-room z = (answered, sym (ap (λ (x : Reading). x .room) (read-holds most bytes room .refused (λ n. z (zero-of (sym told) n)))))
 
-  pub read-room : {new : Room} → r .verdict .number ≡ 0 → new ≡ written (jobOf bytes) room → (r ≡ reading most bytes room .answer) × (new ≡ reading most bytes room .room)
-  read-room z w = (answered, w ∙ sym (ap (λ (x : Reading). x .room) (read-holds most bytes room .reads (zero-of told z))))
+  module _ (z : r .verdict .number ≡ 0) where
+    reads : reading most bytes room ≡ record { answer = readFigures (readVerdict most bytes room) (headerOf bytes); room = written (jobOf bytes) room }
+    reads = read-holds most bytes room .reads (zero-of told z)
 
-  pub read-ready : r .verdict .number ≡ 0 → Writable bytes (r .header) room
-  unfolding readVerdict
-  read-ready z =
-      let h : Header = headerOf bytes in
-      let n = zero-of told z in
-      let q : r .header ≡ h = ap (λ (x : ReadFigures). x .header) (answered ∙ ap (λ (x : Reading). x .answer) (read-holds most bytes room .reads n)) in
-      let room5 = and-yes _ _ (read-holds most bytes room .enough n) in
-      let room4 = and-yes _ _ (room5 .0) in
-      let room3 = and-yes _ _ (room4 .0) in
-      let room2 = and-yes _ _ (room3 .0) in
-      rw q (record {
-        header = refl;
-        long = layout-tells most bytes room (passes-both (layoutVerdict most bytes room) (check4to6 (jobOf bytes)) n .0) .long;
-        sizes = leb-true (h .files) (length (room .sizes)) (room2 .0);
-        sides = leb-true (h .files) (length (room .sides)) (room2 .1);
-        marks = leb-true (h .files) (length (room .marks)) (room3 .1);
-        bounds = leb-true (h .recipes + 1) (length (room .bounds)) (room4 .1);
-        pins = leb-true (h .pins) (length (room .pins)) (room5 .1);
-      })
+    read-header : r .header ≡ headerOf bytes
+    read-header = ap (λ (x : ReadFigures). x .header) (answered ∙ ap (λ (x : Reading). x .answer) reads)
+
+    -- every entry has a place in the lent lists
+    pub lent-enough : Ample (r .header .files) (r .header .recipes) (r .header .pins) room
+    lent-enough =
+        let h : Header = headerOf bytes in
+        let room5 = and-yes _ _ (read-holds most bytes room .enough (zero-of told z)) in
+        let room4 = and-yes _ _ (room5 .0) in
+        let room3 = and-yes _ _ (room4 .0) in
+        let room2 = and-yes _ _ (room3 .0) in
+        rw read-header (record {
+          sizes = leb-true (h .files) (length (room .sizes)) (room2 .0);
+          sides = leb-true (h .files) (length (room .sides)) (room2 .1);
+          marks = leb-true (h .files) (length (room .marks)) (room3 .1);
+          bounds = leb-true (h .recipes + 1) (length (room .bounds)) (room4 .1);
+          pins = leb-true (h .pins) (length (room .pins)) (room5 .1);
+        })
+
+    pub handed-over : {own new : Room} → Gathered bytes (r .header) own → new ≡ written (firstOf (r .header) own) room → (r ≡ reading most bytes room .answer) × (new ≡ reading most bytes room .room)
+    handed-over g q = (answered, q ∙ ap (λ (j : Job). written j room) (g .job) ∙ sym (ap (λ (x : Reading). x .room) reads))

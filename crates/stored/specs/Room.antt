@@ -3,7 +3,7 @@ use Prim.Native.Nat.{ℕ}
 use mathlib.Core.List.{List}
 use lib.ListN.{replicate}
 use Rattle.rules.specs.Stored.{Room}
-use Rattle.stored.specs.declared.layout.Lengths.{Lengths}
+use Rattle.stored.specs.declared.header.Lengths.{Lengths}
 
 abbrev pub roomOf : List ℕ → List ℕ → List ℕ → List ℕ → List ℕ → Room
 roomOf sizes sides marks bounds pins = record { sizes = sizes; sides = sides; marks = marks; bounds = bounds; pins = pins }

@@ -1,7 +1,7 @@
 -- What the reader's inner steps promise one another; the promise of reading itself cites nothing here. Assumes nothing.
 use mathlib.Core.Path.{_≡_}
-use Prim.Native.Nat.{ℕ, _+_, _-_, _*_, _%_, _/_, _<_, _≤_, min}
-use mathlib.Core.Bool.{Bool, not, _&&_}
+use Prim.Native.Nat.{ℕ, _+_, _-_, _*_, _%_, _/_, _<_, _≤_}
+use mathlib.Core.Bool.{Bool, not, cond, _&&_}
 use mathlib.Core.List.{List}
 use lib.ListN.{length, getD, take}
 use lib.Dec.{leb, ltb, eqb}
@@ -9,8 +9,8 @@ use Rattle.rules.specs.declared.Verdict.{Verdict}
 use Rattle.rules.specs.declared.Header.{Header}
 use Rattle.rules.specs.declared.ReadFigures.{ReadFigures}
 use Rattle.rules.specs.Job.{Job, Limits, asJob}
-use Rattle.rules.specs.Check.{refuseIf, _orElse_, check1Of, check2Of}
-use Rattle.rules.specs.Stored.{Room, word, valueIn, value, headerOf, blockCheck, laidOut, blockCount, roomy}
+use Rattle.rules.specs.Check.{isDone, refuseIf, _orElse_, check1Of, check2Of}
+use Rattle.rules.specs.Stored.{Room, word, valueIn, value, headerOf, blockCheck, laidOut, blockCount, blockVerdict, jobOf, roomy, noHeader}
 
 -- value v is beyond the n that the block has, and is not zero
 abbrev pub leftOver : List ℕ → ℕ → ℕ → Bool
@@ -36,10 +36,6 @@ headerIn block = record {
   den = valueIn block 4;
   cap = valueIn block 5;
 }
-
--- the things in block k of a kind that has x of them, m to a block
-abbrev pub heldIn : ℕ → ℕ → ℕ → ℕ
-heldIn m x k = min m (x - m * k)
 
 -- the n entries from a on are those of f, the others are as they were
 pub record Put (f : ℕ → ℕ) (a n : ℕ) (old new : List ℕ) : Type 0 where
@@ -68,6 +64,21 @@ storedSide bytes i = value bytes (1 + i / 126) (2 * (i % 126) + 1) % 2
 abbrev pub storedMark : List ℕ → ℕ → ℕ
 storedMark bytes i = value bytes (1 + i / 126) (2 * (i % 126) + 1) / 2
 
+-- the three lists of files
+pub record Files : Type 0 where
+  pub sizes : List ℕ
+  pub sides : List ℕ
+  pub marks : List ℕ
+
+abbrev pub filesOf : List ℕ → List ℕ → List ℕ → Files
+filesOf sizes sides marks = record { sizes = sizes; sides = sides; marks = marks }
+
+-- the first n entries are those of the stored files
+pub record TakenFiles (bytes : List ℕ) (n : ℕ) (old new : Files) : Type 0 where
+  pub sizes : Taken (storedSize bytes) n (old .sizes) (new .sizes)
+  pub sides : Taken (storedSide bytes) n (old .sides) (new .sides)
+  pub marks : Taken (storedMark bytes) n (old .marks) (new .marks)
+
 -- 1 to 3, in the order of layoutVerdict
 abbrev pub figuresVerdict : Limits → Header → Room → Verdict
 figuresVerdict most h room =
@@ -75,24 +86,30 @@ figuresVerdict most h room =
     orElse check2Of most (h .files) (h .recipes) (h .pins)
     orElse refuseIf (not (roomy h room)) 3 0
 
--- what a layout that passes tells
-pub record LayoutHolds (most : Limits) (h : Header) (bytes : List ℕ) : Type 0 where
-  pub long : length bytes ≡ 512 * blockCount h
+-- block 0 and what follows from its header, in the order of layoutVerdict
+unfoldable pub openingVerdict : Limits → List ℕ → Room → Verdict
+openingVerdict most bytes room =
+    let h = headerOf bytes in
+    refuseIf (ltb (length bytes) 512) 20 0
+    orElse blockVerdict h bytes 0
+    orElse figuresVerdict most h room
+    orElse refuseIf (not (eqb (length bytes) (512 * blockCount h))) 20 0
+
+-- the figures are within the limits
+pub record Allowed (most : Limits) (h : Header) : Type 0 where
   pub some-files : 0 < h .files
   pub some-recipes : 0 < h .recipes
   pub few-files : h .files ≤ most .files
   pub few-recipes : h .recipes ≤ most .recipes
   pub few-pins : h .pins ≤ most .pins
 
--- the header's entries are all there, and the lists have room for them
-pub record Writable (bytes : List ℕ) (h : Header) (r : Room) : Type 0 where
-  pub header : h ≡ headerOf bytes
-  pub long : length bytes ≡ 512 * blockCount h
-  pub sizes : h .files ≤ length (r .sizes)
-  pub sides : h .files ≤ length (r .sides)
-  pub marks : h .files ≤ length (r .marks)
-  pub bounds : h .recipes + 1 ≤ length (r .bounds)
-  pub pins : h .pins ≤ length (r .pins)
+-- the lists have an entry for each of the c files, n recipes and p pins
+pub record Ample (c n p : ℕ) (r : Room) : Type 0 where
+  pub sizes : c ≤ length (r .sizes)
+  pub sides : c ≤ length (r .sides)
+  pub marks : c ≤ length (r .marks)
+  pub bounds : n + 1 ≤ length (r .bounds)
+  pub pins : p ≤ length (r .pins)
 
 -- the job of the first entries
 abbrev pub firstOf : Header → Room → Job
@@ -100,5 +117,14 @@ firstOf h r =
     asJob (take (h .files) (r .sizes)) (take (h .files) (r .sides)) (take (h .files) (r .marks)) (take (h .recipes + 1) (r .bounds)) (take (h .pins) (r .pins))
     (h .num) (h .den) (h .cap)
 
+-- the stored job stands in the first entries of the lists
+pub record Gathered (bytes : List ℕ) (h : Header) (r : Room) : Type 0 where
+  pub enough : Ample (h .files) (h .recipes) (h .pins) r
+  pub job : firstOf h r ≡ jobOf bytes
+
 abbrev pub readFigures : Verdict → Header → ReadFigures
 readFigures v h = record { verdict = v; header = h }
+
+-- a refused answer has no header
+abbrev pub answerBy : Verdict → Header → ReadFigures
+answerBy v h = cond (isDone v) (readFigures v h) (readFigures v noHeader)

@@ -1,51 +1,42 @@
 // Reading a stored job: document 01, "The stored job".
 mod block;
 mod entries;
-mod layout;
-mod places;
+mod header;
 
 ghost use mathlib.Core.Path.{_≡_};
 ghost use Rattle.rules.specs.Job.{limitsOf};
 ghost use Rattle.rules.specs.Check.{check4to6};
-ghost use Rattle.rules.specs.Stored.{headerOf, jobOf, noHeader, reading};
+ghost use Rattle.rules.specs.Stored.{reading};
 ghost use Rattle.stored.specs.Room.{roomOf, roomLong};
-ghost use Rattle.stored.specs.Steps.{LayoutHolds, readFigures};
-use block::header_of;
-use entries::write_job;
+ghost use Rattle.stored.specs.Steps.{Allowed, Ample, Gathered, firstOf};
+use entries::hand_over;
+use entries::take_blocks;
+use header::Lengths;
+use header::answer_by;
+use header::opening;
+use header::refused;
 use job::Job;
-use layout::Lengths;
-use layout::layout_verdict;
 use rules::Header;
 use rules::ReadFigures;
 use rules::Verdict;
 
-// 4 to 6, of the job in lists of the reader's own, so that a refusal changes no lent list.
-fn sound_verdict(bytes: &[u8], h: Header) -> Verdict
-    requires { do ⌜ (h ≡ headerOf (now bytes)) × LayoutHolds (limitsOf (← ⟦Job::MOST_FILES⟧) (← ⟦Job::MOST_RECIPES⟧) (← ⟦Job::MOST_PINS⟧) (← ⟦Job::MOST_DEN⟧)) (headerOf (now bytes)) (now bytes) ⌝ }
-    ensures { λ r. ⌜ r ≡ check4to6 (jobOf (now (bytes .entry))) ⌝ }
+// 4 to 6, of the job in the first entries of the lists.
+fn sound_verdict(
+    h: Header,
+    sizes: &[u16],
+    sides: &[u16],
+    marks: &[u16],
+    bounds: &[u16],
+    pins: &[u16],
+) -> Verdict
+    requires { do ⌜ Allowed (limitsOf (← ⟦Job::MOST_FILES⟧) (← ⟦Job::MOST_RECIPES⟧) (← ⟦Job::MOST_PINS⟧) (← ⟦Job::MOST_DEN⟧)) h ⌝ }
+    requires { ⌜ Ample (h .files) (h .recipes) (h .pins) (roomOf (now sizes) (now sides) (now marks) (now bounds) (now pins)) ⌝ }
+    ensures { λ r. ⌜ r ≡ check4to6 (firstOf h (roomOf (now (sizes .entry)) (now (sides .entry)) (now (marks .entry)) (now (bounds .entry)) (now (pins .entry)))) ⌝ }
 {
-    let figures = Job {
-        num: h.num,
-        den: h.den,
-        cap: h.cap,
-    };
+    let figures = Job::new(h.num, h.den, h.cap);
     let c = h.files as usize;
     let n = h.recipes as usize + 1;
     let p = h.pins as usize;
-    let mut sizes = [0u16; Job::MOST_FILES];
-    let mut sides = [0u16; Job::MOST_FILES];
-    let mut marks = [0u16; Job::MOST_FILES];
-    let mut bounds = [0u16; Job::MOST_RECIPES + 1];
-    let mut pins = [0u16; Job::MOST_PINS];
-    write_job(
-        bytes,
-        h,
-        &mut sizes,
-        &mut sides,
-        &mut marks,
-        &mut bounds,
-        &mut pins,
-    );
     let m = job::measure(
         figures,
         &sizes[..c],
@@ -57,34 +48,33 @@ fn sound_verdict(bytes: &[u8], h: Header) -> Verdict
     m.verdict
 }
 
-fn refused(verdict: Verdict) -> ReadFigures
-    ensures { λ r. ⌜ r ≡ readFigures verdict noHeader ⌝ }
-{
-    let header = Header {
-        files: 0,
-        recipes: 0,
-        pins: 0,
-        num: 0,
-        den: 0,
-        cap: 0,
-    };
-    ReadFigures { verdict, header }
-}
-
-// What reading answers, by the lengths of the lent lists.
-fn answer_of(bytes: &[u8], lent: Lengths) -> ReadFigures
+// The stored job in lists of the reader's own, and what reading answers, by the lengths of the lent lists.
+fn take_job(
+    bytes: &[u8],
+    lent: Lengths,
+    sizes: &mut [u16],
+    sides: &mut [u16],
+    marks: &mut [u16],
+    bounds: &mut [u16],
+    pins: &mut [u16],
+) -> ReadFigures
+    requires { do ⌜ Ample (← ⟦Job::MOST_FILES⟧) (← ⟦Job::MOST_RECIPES⟧) (← ⟦Job::MOST_PINS⟧) (roomOf (now sizes) (now sides) (now marks) (now bounds) (now pins)) ⌝ }
     ensures { λ r. do ⌜ r ≡ reading (limitsOf (← ⟦Job::MOST_FILES⟧ .entry) (← ⟦Job::MOST_RECIPES⟧ .entry) (← ⟦Job::MOST_PINS⟧ .entry) (← ⟦Job::MOST_DEN⟧ .entry)) (now (bytes .entry)) (roomLong lent) .answer ⌝ }
+    ensures { λ r. ⌜ (r .verdict .number ≡ 0 → Gathered (now (bytes .entry)) (r .header) (roomOf (now (sizes .exit)) (now (sides .exit)) (now (marks .exit)) (now (bounds .exit)) (now (pins .exit)))) ⌝ }
 {
-    let laid = layout_verdict(bytes, lent);
-    if laid.number != 0 {
-        return refused(laid);
+    let opened = opening(bytes, lent);
+    if opened.verdict.number != 0 {
+        return opened;
     }
-    let header = header_of(bytes);
-    let verdict = sound_verdict(bytes, header);
-    if verdict.number != 0 {
-        return refused(verdict);
+    let header = opened.header;
+    let further = take_blocks(bytes, header, sizes, sides, marks, bounds, pins);
+    if further.number != 0 {
+        return refused(further);
     }
-    ReadFigures { verdict, header }
+    answer_by(
+        sound_verdict(header, sizes, sides, marks, bounds, pins),
+        header,
+    )
 }
 
 // The answer and the five lent lists are those of the reading, for every input.
@@ -106,10 +96,31 @@ pub fn read(
         bounds: bounds.len(),
         pins: pins.len(),
     };
-    let figures = answer_of(bytes, lent);
+    let mut own_sizes = [0u16; Job::MOST_FILES];
+    let mut own_sides = [0u16; Job::MOST_FILES];
+    let mut own_marks = [0u16; Job::MOST_FILES];
+    let mut own_bounds = [0u16; Job::MOST_RECIPES + 1];
+    let mut own_pins = [0u16; Job::MOST_PINS];
+    let figures = take_job(
+        bytes,
+        lent,
+        &mut own_sizes,
+        &mut own_sides,
+        &mut own_marks,
+        &mut own_bounds,
+        &mut own_pins,
+    );
     if figures.verdict.number != 0 {
         return figures;
     }
-    write_job(bytes, figures.header, sizes, sides, marks, bounds, pins);
+    let h = figures.header;
+    let c = h.files as usize;
+    let n_bounds = h.recipes as usize + 1;
+    let p = h.pins as usize;
+    hand_over(&own_sizes, c, sizes);
+    hand_over(&own_sides, c, sides);
+    hand_over(&own_marks, c, marks);
+    hand_over(&own_bounds, n_bounds, bounds);
+    hand_over(&own_pins, p, pins);
     figures
 }

@@ -21,6 +21,7 @@ use Rattle.job.specs.declared.figures.Survey.{Survey}
 use Rattle.job.specs.Survey.{surveyOf}
 use Rattle.tables.specs.Zones.{countsAt}
 use Rattle.tables.specs.Building.{Buildable}
+use Rattle.tables.specs.declared.lent.ListLengths.{ListLengths}
 use Rattle.tables.specs.LentFits.{fitsOf, WordOn}
 use Rattle.tables.proofs.LentWord.{word-late}
 
@@ -89,16 +90,17 @@ buildable {most} {job} n s =
     })
 
 -- of six of the lent lists only the lengths are told
-module _ (job : Job) (gains : List ℤ) (z : List ℕ) (tried gained cuts ends recipes kinds : ℕ) where
+module _ (job : Job) (gains : List ℤ) (z : List ℕ) (l : ListLengths) where
   abbrev pub fitWord : Bool
-  fitWord = fitsOf (fileCount job) (recipeCount job) (pinCount job) (length gains) tried gained cuts ends recipes kinds (length z)
+  fitWord = fitsOf (fileCount job) (recipeCount job) (pinCount job) (length gains) (length z) l
 
   -- some lists of these lengths
   abbrev some : Lent
-  some = lentOf gains (replicate tried 0) (replicate gained (pos 0)) (replicate cuts 0) (replicate ends 0) (replicate recipes 0) (replicate kinds 0) z
+  some =
+      lentOf gains (replicate (l .tried) 0) (replicate (l .gained) (pos 0)) (replicate (l .cuts) 0) (replicate (l .ends) 0) (replicate (l .recipes) 0) (replicate (l .kinds) 0) z
 
   some-fit : fits job some ≡ fitWord
-  some-fit = rw (length-replicate {A = ℕ} tried 0, length-replicate gained (pos 0), length-replicate {A = ℕ} cuts 0, length-replicate {A = ℕ} ends 0, length-replicate {A = ℕ} recipes 0, length-replicate {A = ℕ} kinds 0) refl
+  some-fit = rw (length-replicate {A = ℕ} (l .tried) 0, length-replicate (l .gained) (pos 0), length-replicate {A = ℕ} (l .cuts) 0, length-replicate {A = ℕ} (l .ends) 0, length-replicate {A = ℕ} (l .recipes) 0, length-replicate {A = ℕ} (l .kinds) 0) refl
 
   pub builders-ask : (most : Limits) → Narrow most → check most job fitWord .number ≡ 0
       → Buildable (job .bounds) (job .pins) (length (job .sides))

@@ -1,7 +1,7 @@
--- The four counts of recipe after recipe. Assumes nothing.
+-- The counts of recipe after recipe, for each side. Assumes nothing.
 use mathlib.Core.Path.{_≡_, ap, _∙_}
 use mathlib.Core.Logic.{_≢_}
-use Prim.Native.Nat.{ℕ, _+_, _*_, _≤_, _<_}
+use Prim.Native.Nat.{ℕ, zero, suc, _+_, _*_, _≤_, _<_}
 use mathlib.Core.List.{List, []}
 use native.Mathlib.Omega.{arith}
 use lib.ListN.{length, getD, set, length-set}
@@ -9,62 +9,79 @@ use lib.Seq.{getD-set-other}
 use borrow.Author.Count.{below-more}
 use Rattle.rules.specs.Split.{countOn}
 use Rattle.rules.specs.Move.{State}
-use Rattle.rules.proofs.Locked.{lockedOn}
-use Rattle.tables.specs.Zones.{CountsOf, Counts}
-use Rattle.tables.specs.Counting.{counted}
+use Rattle.rules.specs.Move.{lockedOn}
+use Rattle.tables.specs.Zones.{sideAt, CountsOf, Counts}
+use Rattle.tables.specs.Counting.{countedSide, counted}
 use Rattle.tables.proofs.Parts.{at-set}
 
-module _ (st : State) (n j : ℕ) (r z : List ℕ) (h : j < n) (e : length z ≡ 4 * n) where
+-- ---- one side of a recipe
+
+module _ (st : State) (n u i : ℕ) (r z : List ℕ) where
   abbrev one : List ℕ
-  one = set z j (countOn (st .sides) 0 r)
+  one = set z i (countOn (st .sides) u r)
 
-  abbrev two : List ℕ
-  two = set one (n + j) (countOn (st .sides) 1 r)
+  side-long : length (countedSide st n u i r z) ≡ length z
+  side-long = length-set one (i + 2 * n) _ ∙ length-set z i _
 
-  abbrev three : List ℕ
-  three = set two (2 * n + j) (lockedOn st 0 r)
+  -- every other place stays
+  side-off : (k : ℕ) → k ≢ i → k ≢ i + 2 * n → getD (countedSide st n u i r z) k 0 ≡ getD z k 0
+  side-off k a b = getD-set-other one (i + 2 * n) k _ 0 b ∙ getD-set-other z i k _ 0 a
 
-  one-long : length one ≡ 4 * n
-  one-long = length-set z j _ ∙ e
+  module _ (some : 0 < n) (h : i + 2 * n < length z) where
+    side-on : (k : ℕ) → k ≡ i → getD (countedSide st n u i r z) k 0 ≡ countOn (st .sides) u r
+    side-on k e = getD-set-other one (i + 2 * n) k _ 0 (λ q. omega arith) ∙ at-set z i k _ e (omega arith)
 
-  two-long : length two ≡ 4 * n
-  two-long = length-set one (n + j) _ ∙ one-long
+    side-locked : (k : ℕ) → k ≡ i + 2 * n → getD (countedSide st n u i r z) k 0 ≡ lockedOn st u r
+    side-locked k e = at-set one (i + 2 * n) k _ e (omega (arith, length-set z i (countOn (st .sides) u r)))
 
-  three-long : length three ≡ 4 * n
-  three-long = length-set two (2 * n + j) _ ∙ two-long
+-- ---- both sides
+
+module _ (st : State) (n j : ℕ) (r z : List ℕ) (h : j < n) (e : length z ≡ 4 * n) where
+  abbrev first : List ℕ
+  first = countedSide st n 0 j r z
+
+  first-long : length first ≡ 4 * n
+  first-long = side-long st n 0 j r z ∙ e
 
   counted-long : length (counted st n j r z) ≡ 4 * n
   unfolding counted
-  counted-long = length-set three (3 * n + j) _ ∙ three-long
+  counted-long = side-long st n 1 (n + j) r first ∙ first-long
 
   -- the counts of another recipe stay
-  counted-off : (k : ℕ) → k ≢ j → k ≢ n + j → k ≢ 2 * n + j → k ≢ 3 * n + j → getD (counted st n j r z) k 0 ≡ getD z k 0
+  counted-off : (k : ℕ) → k ≢ j → k ≢ j + 2 * n → k ≢ n + j → k ≢ n + j + 2 * n → getD (counted st n j r z) k 0 ≡ getD z k 0
   unfolding counted
-  counted-off k a b c d =
-      getD-set-other three (3 * n + j) k _ 0 d ∙ getD-set-other two (2 * n + j) k _ 0 c ∙ getD-set-other one (n + j) k _ 0 b ∙ getD-set-other z j k _ 0 a
+  counted-off k a b c d = side-off st n 1 (n + j) r first k c d ∙ side-off st n 0 j r z k a b
 
   counts-stay : (rs : List (List ℕ)) (i : ℕ) → i < n → i ≢ j → CountsOf rs st 0 n z i → CountsOf rs st 0 n (counted st n j r z) i
-  counts-stay rs i l d s =
-      record {
-        onA = counted-off (0 + i) (λ q. d (omega arith)) (λ q. omega arith) (λ q. omega arith) (λ q. omega arith) ∙ s .onA;
-        onB = counted-off (0 + n + i) (λ q. omega arith) (λ q. d (omega arith)) (λ q. omega arith) (λ q. omega arith) ∙ s .onB;
-        lockedA = counted-off (0 + 2 * n + i) (λ q. omega arith) (λ q. omega arith) (λ q. d (omega arith)) (λ q. omega arith) ∙ s .lockedA;
-        lockedB = counted-off (0 + 3 * n + i) (λ q. omega arith) (λ q. omega arith) (λ q. omega arith) (λ q. d (omega arith)) ∙ s .lockedB;
-      }
+  counts-stay rs i l d s = record { on = on; locked = locked }
+    where
+      on : (u : ℕ) → u ≤ 1 → getD (counted st n j r z) (sideAt 0 n u + i) 0 ≡ countOn (st .sides) u (getD rs i [])
+      on zero m = counted-off (0 + i) (λ q. d (omega arith)) (λ q. omega arith) (λ q. omega arith) (λ q. omega arith) ∙ s .on 0 m
+      on (suc zero) m = counted-off (0 + n + i) (λ q. omega arith) (λ q. omega arith) (λ q. d (omega arith)) (λ q. omega arith) ∙ s .on 1 m
+      on (suc (suc u)) m = absurd (omega arith)
+
+      locked : (u : ℕ) → u ≤ 1 → getD (counted st n j r z) (sideAt 0 n u + i + 2 * n) 0 ≡ lockedOn st u (getD rs i [])
+      locked zero m = counted-off (0 + i + 2 * n) (λ q. omega arith) (λ q. d (omega arith)) (λ q. omega arith) (λ q. omega arith) ∙ s .locked 0 m
+      locked (suc zero) m = counted-off (0 + n + i + 2 * n) (λ q. omega arith) (λ q. omega arith) (λ q. omega arith) (λ q. d (omega arith)) ∙ s .locked 1 m
+      locked (suc (suc u)) m = absurd (omega arith)
 
   counts-set : (rs : List (List ℕ)) → r ≡ getD rs j [] → CountsOf rs st 0 n (counted st n j r z) j
   unfolding counted
-  counts-set rs q =
-      record {
-        onA =
-            getD-set-other three (3 * n + j) (0 + j) _ 0 (λ q. omega arith) ∙ getD-set-other two (2 * n + j) (0 + j) _ 0 (λ q. omega arith)
-            ∙ getD-set-other one (n + j) (0 + j) _ 0 (λ q. omega arith) ∙ at-set z j (0 + j) _ (omega arith) (omega arith) ∙ ap (countOn (st .sides) 0) q;
-        onB =
-            getD-set-other three (3 * n + j) (0 + n + j) _ 0 (λ q. omega arith) ∙ getD-set-other two (2 * n + j) (0 + n + j) _ 0 (λ q. omega arith)
-            ∙ at-set one (n + j) (0 + n + j) _ (omega arith) (omega (arith, one-long)) ∙ ap (countOn (st .sides) 1) q;
-        lockedA = getD-set-other three (3 * n + j) (0 + 2 * n + j) _ 0 (λ q. omega arith) ∙ at-set two (2 * n + j) (0 + 2 * n + j) _ (omega arith) (omega (arith, two-long)) ∙ ap (lockedOn st 0) q;
-        lockedB = at-set three (3 * n + j) (0 + 3 * n + j) _ (omega arith) (omega (arith, three-long)) ∙ ap (lockedOn st 1) q;
-      }
+  counts-set rs q = record { on = on; locked = locked }
+    where
+      on : (u : ℕ) → u ≤ 1 → getD (counted st n j r z) (sideAt 0 n u + j) 0 ≡ countOn (st .sides) u (getD rs j [])
+      on zero m =
+          side-off st n 1 (n + j) r first (0 + j) (λ q. omega arith) (λ q. omega arith) ∙ side-on st n 0 j r z (omega arith) (omega arith) (0 + j) (omega arith)
+          ∙ ap (countOn (st .sides) 0) q
+      on (suc zero) m = side-on st n 1 (n + j) r first (omega arith) (omega (arith, first-long)) (0 + n + j) (omega arith) ∙ ap (countOn (st .sides) 1) q
+      on (suc (suc u)) m = absurd (omega arith)
+
+      locked : (u : ℕ) → u ≤ 1 → getD (counted st n j r z) (sideAt 0 n u + j + 2 * n) 0 ≡ lockedOn st u (getD rs j [])
+      locked zero m =
+          side-off st n 1 (n + j) r first (0 + j + 2 * n) (λ q. omega arith) (λ q. omega arith) ∙ side-locked st n 0 j r z (omega arith) (omega arith) (0 + j + 2 * n) (omega arith)
+          ∙ ap (lockedOn st 0) q
+      locked (suc zero) m = side-locked st n 1 (n + j) r first (omega arith) (omega (arith, first-long)) (0 + n + j + 2 * n) (omega arith) ∙ ap (lockedOn st 1) q
+      locked (suc (suc u)) m = absurd (omega arith)
 
 -- the first j recipes are counted
 pub record CountedTo (rs : List (List ℕ)) (st : State) (n j : ℕ) (z : List ℕ) : Type 0 where
@@ -87,9 +104,3 @@ counted-more {rs} {st} {n} {j} {z} r s h q =
 
 pub counted-end : {rs : List (List ℕ)} {st : State} {n j : ℕ} {z : List ℕ} → CountedTo rs st n j z → n ≤ j → Counts rs st 0 n z
 counted-end s h = record { each = λ i l. s .each i (omega arith) }
-
--- the four stores of the code
-pub counted-is : (st : State) (n j : ℕ) (r z : List ℕ) {a b c d : ℕ} → a ≡ countOn (st .sides) 0 r → b ≡ countOn (st .sides) 1 r → c ≡ lockedOn st 0 r → d ≡ lockedOn st 1 r
-    → set (set (set (set z j a) (n + j) b) (2 * n + j) c) (3 * n + j) d ≡ counted st n j r z
-unfolding counted
-counted-is st n j r z e f g h = λ i. set (set (set (set z j (e i)) (n + j) (f i)) (2 * n + j) (g i)) (3 * n + j) (h i)

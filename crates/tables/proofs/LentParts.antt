@@ -4,12 +4,17 @@ use Prim.Native.Nat.{ℕ, _+_, _-_, _*_, _≤_, _<_}
 use mathlib.Core.List.{List, _++_}
 use native.Mathlib.Omega.{arith}
 use lib.ListN.{length, getD, take, drop}
-use lib.Seq.{length-take-le, take-take, take-at, drop-at, drop-drop, take-all, getD-take, getD-drop}
+use lib.Seq.{length-take-le, take-take, take-at, drop-at, drop-drop, take-all, getD-drop}
 use borrow.Rule.Slice.PartMut.{putMid, same-len-mid, take-put, drop-put}
 use Rattle.rules.specs.Move.{State}
-use Rattle.tables.specs.Zones.{startAt, endAt, locksAt, countsAt, part, Cells, Counts}
-use Rattle.tables.specs.Filling.{InTurn}
-use Rattle.tables.proofs.Parts.{part-length, front-entry, front-part}
+use Rattle.rules.specs.Split.{recipesOf}
+use Rattle.tables.specs.Zones.{cellsAt, startsAt, endsAt, roomAt, countsAt, sideAt, part, Cells, Counts}
+use Rattle.tables.specs.Building.{viewsOf, Buildable}
+use Rattle.tables.specs.Filling.{startAt, endAt, startOf, Filled}
+use Rattle.tables.proofs.Parts.{part-length, part-entry, front-entry, front-part}
+use Rattle.tables.proofs.Filling.{start-within}
+use Rattle.tables.proofs.Placing.{recipes-many}
+use Rattle.tables.proofs.Sides.{side-within, side-from}
 
 -- ---- `putMid a (e - a) xs ys`: the entries of xs from a up to e were lent and came back as ys
 
@@ -36,163 +41,214 @@ module _ {A : Type 0} where
 
 -- ---- cells and counts, carried from their zone to the scratch
 
--- cells stand where the entries up to the locks are the same
-pub cells-same : {rs : List (List ℕ)} {c p : ℕ} {z z' : List ℕ} → ((i : ℕ) → i < locksAt c p → getD z' i 0 ≡ getD z i 0)
-    → ((a k : ℕ) → a + k ≤ locksAt c p → part a k z' ≡ part a k z) → Cells rs c p z → Cells rs c p z'
+-- cells stand where the entries of their zone are the same
+pub cells-same : {rs : List (List ℕ)} {c p : ℕ} {z z' : List ℕ} → ((i : ℕ) → cellsAt c ≤ i → i < roomAt c p → getD z' i 0 ≡ getD z i 0)
+    → ((a k : ℕ) → cellsAt c ≤ a → a + k ≤ roomAt c p → part a k z' ≡ part a k z) → Cells rs c p z → Cells rs c p z'
 cells-same {rs} {c} {p} {z} {z'} same parts d =
-    let from : (f : ℕ) → f < c → getD z' (startAt p f) 0 ≡ getD z (startAt p f) 0 = λ f h. same (startAt p f) (omega arith) in
-    let to : (f : ℕ) → f < c → getD z' (endAt c p f) 0 ≡ getD z (endAt c p f) 0 = λ f h. same (endAt c p f) (omega arith) in
+    let from : (f : ℕ) → f < c → getD z' (startsAt c p + f) 0 ≡ getD z (startsAt c p + f) 0 = λ f h. same (startsAt c p + f) (omega arith) (omega arith) in
+    let to : (f : ℕ) → f < c → getD z' (endsAt c p + f) 0 ≡ getD z (endsAt c p + f) 0 = λ f h. same (endsAt c p + f) (omega arith) (omega arith) in
     record {
       order = λ f h. rw (from f h, to f h) (d .order f h);
       inside = λ f h. rw (to f h) (d .inside f h);
       hold = λ f h.
-          ap₂ (λ (a e : ℕ). part a (e - a) z') (from f h) (to f h)
-          ∙ parts (getD z (startAt p f) 0) (getD z (endAt c p f) 0 - getD z (startAt p f) 0) (omega (arith, d .order f h, d .inside f h))
+          ap₂ (λ (a e : ℕ). part (cellsAt c + a) (e - a) z') (from f h) (to f h)
+          ∙ parts (cellsAt c + getD z (startsAt c p + f) 0) (getD z (endsAt c p + f) 0 - getD z (startsAt c p + f) 0) (omega arith) (omega (arith, d .order f h, d .inside f h))
           ∙ d .hold f h;
     }
+
+-- the cells of a zone that is filled, in a list that has the zone where they begin
+module _ {bounds pins : List ℕ} {c : ℕ} (able : Buildable bounds pins c) (z : List ℕ) {y : List ℕ} (here : part (cellsAt c) (length pins + 2 * c) z ≡ y)
+    (s : Filled pins c (recipesOf (viewsOf bounds pins)) y) where
+  abbrev mine : ℕ → List ℕ
+  mine = recipesOf (viewsOf bounds pins)
+
+  same : take (length pins + 2 * c) (drop (cellsAt c) z) ≡ take (length pins + 2 * c) y
+  same = here ∙ sym (take-all (length pins + 2 * c) y (omega (arith, s .long)))
+
+  entry : (i k : ℕ) → i < length pins + 2 * c → k ≡ cellsAt c + i → getD z k 0 ≡ getD y i 0
+  entry i k h e = ap (λ (j : ℕ). getD z j 0) e ∙ sym (getD-drop (cellsAt c) z i 0) ∙ front-entry (length pins + 2 * c) (drop (cellsAt c) z) y same i h
+
+  pub starts-from : (f : ℕ) → f < c → getD z (startsAt c (length pins) + f) 0 ≡ startOf pins f
+  starts-from f h = entry (startAt (length pins) f) _ (omega arith) (omega arith) ∙ s .starts f h
+
+  ends-from : (f : ℕ) → f < c → getD z (endsAt c (length pins) + f) 0 ≡ startOf pins f + length (mine f)
+  ends-from f h = entry (endAt c (length pins) f) _ (omega arith) (omega arith) ∙ s .ends f h
+
+  within : (f : ℕ) → f < c → startOf pins f + length (mine f) ≤ length pins
+  within f h = omega (arith, recipes-many bounds pins c able f, start-within c pins f (able .files) h)
+
+  pub cells-from : Cells (viewsOf bounds pins) c (length pins) z
+  cells-from =
+      record {
+        order = λ f h. omega (arith, starts-from f h, ends-from f h);
+        inside = λ f h. omega (arith, ends-from f h, within f h);
+        hold = λ f h.
+            let e : getD z (endsAt c (length pins) + f) 0 - getD z (startsAt c (length pins) + f) 0 ≡ length (mine f) = omega (arith, starts-from f h, ends-from f h) in
+            ap₂ (λ (a k : ℕ). part (cellsAt c + a) k z) (starts-from f h) e
+            ∙ ap (take (length (mine f))) (sym (drop-drop (startOf pins f) (cellsAt c) z))
+            ∙ front-part (length pins + 2 * c) (drop (cellsAt c) z) y same (startOf pins f) (length (mine f)) (omega (arith, within f h))
+            ∙ s .hold f h;
+      }
 
 -- the counts of a zone, in a list that has the zone at `at`
 pub counts-from : {rs : List (List ℕ)} {st : State} {n : ℕ} {y : List ℕ} (at : ℕ) (z : List ℕ) → part at (4 * n) z ≡ y → Counts rs st 0 n y → Counts rs st at n z
 counts-from {n} {y} at z here c =
     let entry : (i k : ℕ) → i < 4 * n → k ≡ at + i → getD z k 0 ≡ getD y i 0 = λ i k h e.
-    ap (λ (j : ℕ). getD z j 0) e ∙ sym (getD-drop at z i 0) ∙ sym (getD-take (4 * n) (drop at z) i 0 h) ∙ ap (λ (l : List ℕ). getD l i 0) here in
+    ap (λ (j : ℕ). getD z j 0) e ∙ sym (part-entry at (4 * n) z i h) ∙ ap (λ (l : List ℕ). getD l i 0) here in
     record {
       each = λ j l.
           let o = c .each j l in
           record {
-            onA = entry (0 + j) (at + j) (omega arith) (omega arith) ∙ o .onA;
-            onB = entry (0 + n + j) (at + n + j) (omega arith) (omega arith) ∙ o .onB;
-            lockedA = entry (0 + 2 * n + j) (at + 2 * n + j) (omega arith) (omega arith) ∙ o .lockedA;
-            lockedB = entry (0 + 3 * n + j) (at + 3 * n + j) (omega arith) (omega arith) ∙ o .lockedB;
+            on = λ u h. entry (sideAt 0 n u + j) (sideAt at n u + j) (omega (arith, side-within 0 n u)) (omega (arith, side-from at n u)) ∙ o .on u h;
+            locked = λ u h. entry (sideAt 0 n u + j + 2 * n) (sideAt at n u + j + 2 * n) (omega (arith, side-within 0 n u)) (omega (arith, side-from at n u)) ∙ o .locked u h;
           };
     }
 
--- ---- the scratch z, its zones lent one after the other: z₁ the cells with starts and ends, z₂ the locks, z₃ the counts
+-- ---- the scratch z, its zones lent one after the other: z₁ the locks, z₂ the cells with starts and ends, z₃ the counts
 
-abbrev roomAt : ℕ → ℕ → ℕ
-roomAt c p = locksAt c p + c
+-- where the code has the zones begin: a the cells, b the room, d the counts, and e their end
+pub record Begins (c p n a b d e : ℕ) : Type 0 where
+  pub cells : a ≡ cellsAt c
+  pub room : b ≡ roomAt c p
+  pub counts : d ≡ countsAt c p
+  pub end : e ≡ countsAt c p + 4 * n
 
--- where the counts begin and end, as the code adds it up
-abbrev from : ℕ → ℕ → ℕ
-from c p = roomAt c p + c
-
-abbrev to : ℕ → ℕ → ℕ → ℕ
-to c p n = from c p + 4 * n
-
-abbrev oneZone : ℕ → ℕ → List ℕ → List ℕ → List ℕ
-oneZone c p z z₁ = putMid 0 (locksAt c p - 0) z z₁
+abbrev oneZone : ℕ → List ℕ → List ℕ → List ℕ
+oneZone a z z₁ = putMid 0 (a - 0) z z₁
 
 abbrev twoZones : ℕ → ℕ → List ℕ → List ℕ → List ℕ → List ℕ
-twoZones c p z z₁ z₂ = putMid (locksAt c p) (roomAt c p - locksAt c p) (oneZone c p z z₁) z₂
+twoZones a b z z₁ z₂ = putMid a (b - a) (oneZone a z z₁) z₂
 
-abbrev pub threeZones : ℕ → ℕ → ℕ → List ℕ → List ℕ → List ℕ → List ℕ → List ℕ
-threeZones c p n z z₁ z₂ z₃ = putMid (from c p) (to c p n - from c p) (twoZones c p z z₁ z₂) z₃
+abbrev pub threeZones : ℕ → ℕ → ℕ → ℕ → List ℕ → List ℕ → List ℕ → List ℕ → List ℕ
+threeZones a b d e z z₁ z₂ z₃ = putMid d (e - d) (twoZones a b z z₁ z₂) z₃
 
 -- each comes back as long as it was lent
-pub record TwoZones (c p n : ℕ) (z z₁ z₂ : List ℕ) : Type 0 where
+pub record OneZone (c p n a b d e : ℕ) (z z₁ : List ℕ) : Type 0 where
+  pub begins : Begins c p n a b d e
   pub fits : countsAt c p + 4 * n ≤ length z
-  pub first : length z₁ ≡ length (part 0 (locksAt c p - 0) z)
-  pub second : length z₂ ≡ length (part (locksAt c p) (roomAt c p - locksAt c p) (oneZone c p z z₁))
+  pub first : length z₁ ≡ length (part 0 (a - 0) z)
 
-pub record ThreeZones (c p n : ℕ) (z z₁ z₂ z₃ : List ℕ) : Type 0 where
-  pub before : TwoZones c p n z z₁ z₂
-  pub third : length z₃ ≡ length (part (from c p) (to c p n - from c p) (twoZones c p z z₁ z₂))
+pub record TwoZones (c p n a b d e : ℕ) (z z₁ z₂ : List ℕ) : Type 0 where
+  pub before : OneZone c p n a b d e z z₁
+  pub second : length z₂ ≡ length (part a (b - a) (oneZone a z z₁))
 
--- the zones that are lent for the cells and for the locks
-module _ (c p n : ℕ) (z : List ℕ) (fits : countsAt c p + 4 * n ≤ length z) where
-  pub cells-room : length (part 0 (locksAt c p - 0) z) ≡ p + 2 * c
-  cells-room = part-length 0 (locksAt c p - 0) z (omega arith) ∙ omega arith
+pub record ThreeZones (c p n a b d e : ℕ) (z z₁ z₂ z₃ : List ℕ) : Type 0 where
+  pub before : TwoZones c p n a b d e z z₁ z₂
+  pub third : length z₃ ≡ length (part d (e - d) (twoZones a b z z₁ z₂))
 
-  pub locks-room : (z₁ : List ℕ) → length z₁ ≡ length (part 0 (locksAt c p - 0) z) → length (part (locksAt c p) (roomAt c p - locksAt c p) (oneZone c p z z₁)) ≡ c
-  locks-room z₁ first =
-      let e = same-len-mid 0 (locksAt c p - 0) z z₁ first in
-      part-length (locksAt c p) (roomAt c p - locksAt c p) (oneZone c p z z₁) (omega (arith, e)) ∙ omega arith
+-- the zone that is lent for the locks
+pub locks-room : {c p n a b d e : ℕ} (z : List ℕ) → Begins c p n a b d e → countsAt c p + 4 * n ≤ length z → length (part 0 (a - 0) z) ≡ c
+locks-room {a = a} z g fits = part-length 0 (a - 0) z (omega (arith, g .cells)) ∙ omega (arith, g .cells)
 
-module _ {c p n : ℕ} {z z₁ z₂ : List ℕ} (l : TwoZones c p n z z₁ z₂) where
-  one-long : length (oneZone c p z z₁) ≡ length z
-  one-long = same-len-mid 0 (locksAt c p - 0) z z₁ (l .first)
+module _ {c p n a b d e : ℕ} {z z₁ : List ℕ} (l : OneZone c p n a b d e z z₁) where
+  one-long : length (oneZone a z z₁) ≡ length z
+  one-long = same-len-mid 0 (a - 0) z z₁ (l .first)
 
-  two-long : length (twoZones c p z z₁ z₂) ≡ length z
-  two-long = same-len-mid (locksAt c p) (roomAt c p - locksAt c p) (oneZone c p z z₁) z₂ (l .second) ∙ one-long
+  first-in : a ≤ length z
+  first-in = omega (arith, l .fits, l .begins)
 
-  first-in : locksAt c p ≤ length z
-  first-in = omega (arith, l .fits)
+  first-long : length z₁ ≡ a - 0
+  first-long = l .first ∙ part-length 0 (a - 0) z (omega (arith, first-in))
 
-  second-in : roomAt c p ≤ length (oneZone c p z z₁)
-  second-in = omega (arith, l .fits, one-long)
+  pub second-in : (a ≤ b) × (b ≤ length (oneZone a z z₁))
+  second-in = omega (arith, l .fits, l .begins, one-long)
 
-  third-in : to c p n ≤ length (twoZones c p z z₁ z₂)
-  third-in = omega (arith, l .fits, two-long)
+  second-fits : length (part a (b - a) (oneZone a z z₁)) ≡ b - a
+  second-fits = part-length a (b - a) (oneZone a z z₁) (omega (arith, second-in))
 
-  first-long : length z₁ ≡ locksAt c p - 0
-  first-long = l .first ∙ part-length 0 (locksAt c p - 0) z (omega (arith, first-in))
+  -- the zone that is lent for the cells
+  pub cells-room : length (part a (b - a) (oneZone a z z₁)) ≡ p + 2 * c
+  cells-room = second-fits ∙ omega (arith, l .begins)
 
-  second-long : length z₂ ≡ roomAt c p - locksAt c p
-  second-long = l .second ∙ part-length (locksAt c p) (roomAt c p - locksAt c p) (oneZone c p z z₁) (omega (arith, second-in))
+module _ {c p n a b d e : ℕ} {z z₁ z₂ : List ℕ} (l : TwoZones c p n a b d e z z₁ z₂) where
+  two-long : length (twoZones a b z z₁ z₂) ≡ length z
+  two-long = same-len-mid a (b - a) (oneZone a z z₁) z₂ (l .second) ∙ one-long (l .before)
 
-  third-fits : length (part (from c p) (to c p n - from c p) (twoZones c p z z₁ z₂)) ≡ to c p n - from c p
-  third-fits = part-length (from c p) (to c p n - from c p) (twoZones c p z z₁ z₂) (omega (arith, third-in))
+  second-long : length z₂ ≡ b - a
+  second-long = l .second ∙ second-fits (l .before)
+
+  pub third-in : (d ≤ e) × (e ≤ length (twoZones a b z z₁ z₂))
+  third-in = omega (arith, l .before .fits, l .before .begins, two-long)
+
+  third-fits : length (part d (e - d) (twoZones a b z z₁ z₂)) ≡ e - d
+  third-fits = part-length d (e - d) (twoZones a b z z₁ z₂) (omega (arith, third-in))
 
   -- the zone that is lent for the counts
-  pub counts-room : length (part (from c p) (to c p n - from c p) (twoZones c p z z₁ z₂)) ≡ 4 * n
-  counts-room = third-fits ∙ omega arith
+  pub counts-room : length (part d (e - d) (twoZones a b z z₁ z₂)) ≡ 4 * n
+  counts-room = third-fits ∙ omega (arith, l .before .begins)
 
-module _ {c p n : ℕ} {z z₁ z₂ z₃ : List ℕ} (l : ThreeZones c p n z z₁ z₂ z₃) where
-  abbrev was : List ℕ
-  was = twoZones c p z z₁ z₂
+module _ {c p n a b d e : ℕ} {z z₁ z₂ z₃ : List ℕ} (l : ThreeZones c p n a b d e z z₁ z₂ z₃) where
+  abbrev g : Begins c p n a b d e
+  g = l .before .before .begins
+
+  abbrev one : List ℕ
+  one = oneZone a z z₁
+
+  abbrev two : List ℕ
+  two = twoZones a b z z₁ z₂
 
   abbrev all : List ℕ
-  all = threeZones c p n z z₁ z₂ z₃
+  all = threeZones a b d e z z₁ z₂ z₃
 
-  third-long : length z₃ ≡ to c p n - from c p
+  -- what each lending leaves below and beyond its zone
+  first-beyond : (m : ℕ) → a ≤ m → drop m one ≡ drop m z
+  first-beyond = put-beyond 0 a z z₁ (omega arith) (first-in (l .before .before)) (first-long (l .before .before))
+
+  second-below : (m : ℕ) → m ≤ a → take m two ≡ take m one
+  second-below = put-below a b one z₂ (second-in (l .before .before) .0) (second-in (l .before .before) .1) (second-long (l .before))
+
+  second-beyond : (m : ℕ) → b ≤ m → drop m two ≡ drop m one
+  second-beyond = put-beyond a b one z₂ (second-in (l .before .before) .0) (second-in (l .before .before) .1) (second-long (l .before))
+
+  third-long : length z₃ ≡ e - d
   third-long = l .third ∙ third-fits (l .before)
 
+  third-below : (m : ℕ) → m ≤ d → take m all ≡ take m two
+  third-below = put-below d e two z₃ (third-in (l .before) .0) (third-in (l .before) .1) third-long
+
   pub zones-long : length all ≡ length z
-  zones-long = same-len-mid (from c p) (to c p n - from c p) was z₃ (l .third) ∙ two-long (l .before)
+  zones-long = same-len-mid d (e - d) two z₃ (l .third) ∙ two-long (l .before)
 
   pub zones-fit : countsAt c p + 4 * n ≤ length all
-  zones-fit = omega (arith, l .before .fits, zones-long)
+  zones-fit = omega (arith, l .before .before .fits, zones-long)
 
   pub zones-beyond : drop (countsAt c p + 4 * n) all ≡ drop (countsAt c p + 4 * n) z
   zones-beyond =
       let m = countsAt c p + 4 * n in
-      put-beyond (from c p) (to c p n) was z₃ (omega arith) (third-in (l .before)) third-long m (omega arith)
-      ∙ put-beyond (locksAt c p) (roomAt c p) (oneZone c p z z₁) z₂ (omega arith) (second-in (l .before)) (second-long (l .before)) m (omega arith)
-      ∙ put-beyond 0 (locksAt c p) z z₁ (omega arith) (first-in (l .before)) (first-long (l .before)) m (omega arith)
+      put-beyond d e two z₃ (third-in (l .before) .0) (third-in (l .before) .1) third-long m (omega (arith, g))
+      ∙ second-beyond m (omega (arith, g)) ∙ first-beyond m (omega (arith, g))
 
   -- the later zones leave the earlier ones
-  front : take (locksAt c p) all ≡ take (locksAt c p) z₁
-  front =
-      let k : locksAt c p ≡ locksAt c p - 0 = omega arith in
-      put-below (from c p) (to c p n) was z₃ (omega arith) (third-in (l .before)) third-long (locksAt c p) (omega arith)
-      ∙ put-below (locksAt c p) (roomAt c p) (oneZone c p z z₁) z₂ (omega arith) (second-in (l .before)) (second-long (l .before)) (locksAt c p) (omega arith)
-      ∙ ap (λ (j : ℕ). take j (oneZone c p z z₁)) k
-      ∙ put-here 0 (locksAt c p) z z₁ (omega arith) (first-in (l .before)) (first-long (l .before))
-      ∙ sym (take-all (locksAt c p) z₁ (omega (arith, first-long (l .before))))
-
-  pub zones-cells : {rs : List (List ℕ)} → Cells rs c p z₁ → Cells rs c p all
-  zones-cells = cells-same (front-entry (locksAt c p) all z₁ front) (front-part (locksAt c p) all z₁ front)
-
-  pub zones-starts : (pins : List ℕ) → length pins ≡ p → InTurn pins c z₁ → InTurn pins c all
-  zones-starts pins e t f h = front-entry (locksAt c p) all z₁ front (startAt (length pins) f) (omega arith) ∙ t f h
-
-  pub zones-locks : part (locksAt c p) c all ≡ z₂
+  pub zones-locks : take c all ≡ z₁
   zones-locks =
-      let k : c ≡ roomAt c p - locksAt c p = omega arith in
-      front-part (from c p) all was (put-below (from c p) (to c p n) was z₃ (omega arith) (third-in (l .before)) third-long (from c p) (omega arith)) (locksAt c p) c (omega arith)
-      ∙ ap (λ (j : ℕ). part (locksAt c p) j was) k
-      ∙ put-here (locksAt c p) (roomAt c p) (oneZone c p z z₁) z₂ (omega arith) (second-in (l .before)) (second-long (l .before))
+      let k : c ≡ a - 0 = omega (arith, g) in
+      third-below c (omega (arith, g)) ∙ second-below c (omega (arith, g)) ∙ ap (λ (j : ℕ). take j one) k
+      ∙ put-here 0 a z z₁ (omega arith) (first-in (l .before .before)) (first-long (l .before .before))
 
-  -- the numbers between locks and counts are lent to no step
-  pub zones-room : part (locksAt c p + c) c all ≡ part (locksAt c p + c) c z
+  zones-middle : part (cellsAt c) (p + 2 * c) all ≡ z₂
+  zones-middle =
+      let k : p + 2 * c ≡ b - a = omega (arith, g) in
+      front-part d all two (third-below d (omega arith)) (cellsAt c) (p + 2 * c) (omega (arith, g))
+      ∙ ap₂ (λ (i j : ℕ). part i j two) (sym (g .cells)) k
+      ∙ put-here a b one z₂ (second-in (l .before .before) .0) (second-in (l .before .before) .1) (second-long (l .before))
+
+  -- the numbers between ends and counts are lent to no step
+  pub zones-room : part (roomAt c p) c all ≡ part (roomAt c p) c z
   zones-room =
-      front-part (from c p) all was (put-below (from c p) (to c p n) was z₃ (omega arith) (third-in (l .before)) third-long (from c p) (omega arith)) (roomAt c p) c (omega arith)
-      ∙ ap (take c) (put-beyond (locksAt c p) (roomAt c p) (oneZone c p z z₁) z₂ (omega arith) (second-in (l .before)) (second-long (l .before)) (roomAt c p) (omega arith)
-      ∙ put-beyond 0 (locksAt c p) z z₁ (omega arith) (first-in (l .before)) (first-long (l .before)) (roomAt c p) (omega arith))
+      front-part d all two (third-below d (omega arith)) (roomAt c p) c (omega (arith, g))
+      ∙ ap (take c) (second-beyond (roomAt c p) (omega (arith, g)) ∙ first-beyond (roomAt c p) (omega (arith, g)))
 
   pub zones-counts : {rs : List (List ℕ)} {st : State} → Counts rs st 0 n z₃ → Counts rs st (countsAt c p) n all
   zones-counts =
-      let a : countsAt c p ≡ from c p = omega arith in
-      let k : 4 * n ≡ to c p n - from c p = omega arith in
+      let k : 4 * n ≡ e - d = omega (arith, g) in
       counts-from (countsAt c p) all
-      (ap₂ (λ (i j : ℕ). part i j all) a k ∙ put-here (from c p) (to c p n) was z₃ (omega arith) (third-in (l .before)) third-long)
+      (ap₂ (λ (i j : ℕ). part i j all) (sym (g .counts)) k ∙ put-here d e two z₃ (third-in (l .before) .0) (third-in (l .before) .1) third-long)
+
+-- the cells, where the middle zone is filled
+module _ {bounds pins : List ℕ} {c n a b d e : ℕ} {z z₁ z₂ z₃ : List ℕ} (l : ThreeZones c (length pins) n a b d e z z₁ z₂ z₃) (able : Buildable bounds pins c)
+    (s : Filled pins c (recipesOf (viewsOf bounds pins)) z₂) where
+  pub zones-starts : (f : ℕ) → f < c → getD (threeZones a b d e z z₁ z₂ z₃) (startsAt c (length pins) + f) 0 ≡ startOf pins f
+  zones-starts = starts-from able (threeZones a b d e z z₁ z₂ z₃) (zones-middle l) s
+
+  pub zones-cells : Cells (viewsOf bounds pins) c (length pins) (threeZones a b d e z z₁ z₂ z₃)
+  zones-cells = cells-from able (threeZones a b d e z z₁ z₂ z₃) (zones-middle l) s

@@ -1,4 +1,5 @@
 pub mod Parts
+pub mod Sides
 pub mod Filled
 pub mod TakenBack
 pub mod Buildable

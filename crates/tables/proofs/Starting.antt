@@ -6,8 +6,7 @@ use mathlib.Core.List.{List, [], _∷_}
 use native.Mathlib.Omega.{arith}
 use native.Mathlib.Nat.{add-zero, zero-add, suc-add, add-suc}
 use lib.Dec.{eqb}
-use lib.ListN.{length, getD, drop}
-use lib.Seq.{getD-take, getD-drop}
+use lib.ListN.{length, getD}
 use lib.IntN.{ℤ, pos, _-ℤ_}
 use mir.Syntax.{w32}
 use mir.Val.{SFits, toZ, ofZ}
@@ -20,9 +19,11 @@ use Rattle.rules.specs.Theorems.{Binary}
 use Rattle.rules.proofs.Count.{getD-tabled, length-tabled}
 use Rattle.rules.proofs.Signed.{abs-diff}
 use Rattle.rules.proofs.Machine.{abs-fits}
-use Rattle.rules.proofs.Steps.{recipesFrom, recipesOf}
-use Rattle.tables.specs.Zones.{startAt, endAt, countsAt, sideAt, part, stateOf, Cells, Counts}
+use Rattle.rules.specs.Split.{recipesFrom, recipesOf}
+use Rattle.tables.specs.Zones.{cellsAt, startsAt, endsAt, countsAt, sideAt, part, stateOf, Cells, Counts}
 use Rattle.tables.specs.Counting.{gainBy, startGain}
+use Rattle.tables.proofs.Parts.{part-entry}
+use Rattle.tables.proofs.Sides.{side-within}
 
 -- ---- a difference of two counts, in the machine
 
@@ -102,14 +103,14 @@ module _ (sides marks : List ℕ) (rs : List (List ℕ)) (c p n : ℕ) (z : List
     (binary : Binary sides) (cells : Cells rs c p z) (counts : Counts rs (stateOf sides marks) (countsAt c p) n z) where
   -- the counts of side u as a table
   table : (u : ℕ) → u ≤ 1 → (j : ℕ) → j < length rs → getD (part (sideAt (countsAt c p) n u) n z) j 0 ≡ countOn sides u (getD rs j [])
-  table zero h j l = getD-take n (drop (countsAt c p) z) j 0 (omega arith) ∙ getD-drop (countsAt c p) z j 0 ∙ counts .each j (omega arith) .onA
-  table (suc zero) h j l = getD-take n (drop (countsAt c p + n) z) j 0 (omega arith) ∙ getD-drop (countsAt c p + n) z j 0 ∙ counts .each j (omega arith) .onB
-  table (suc (suc u)) h j l = absurd (omega arith)
+  table u h j l = part-entry (sideAt (countsAt c p) n u) n z j (omega arith) ∙ counts .each j (omega arith) .on u h
 
   -- file f's cells, from s up to e
-  module _ (f s e : ℕ) (h : f < c) (at : s ≡ getD z (startAt p f) 0) (to : e ≡ getD z (endAt c p f) 0) where
+  module _ (f s e : ℕ) (h : f < c) (at : s ≡ cellsAt c + getD z (startsAt c p + f) 0) (to : e ≡ cellsAt c + getD z (endsAt c p + f) 0) where
     held : part s (e - s) z ≡ recipesOf rs f
-    held = rw (at, to) (cells .hold f h)
+    held =
+        let k : e - s ≡ getD z (endsAt c p + f) 0 - getD z (startsAt c p + f) 0 = omega arith in
+        ap₂ (λ (i n : ℕ). part i n z) at k ∙ cells .hold f h
 
     -- what the code works out is entry f of the starting gains
     pub start-gain-is : (mine theirs : ℕ) → mine ≡ sideAt (countsAt c p) n (sideOf sides f) → theirs ≡ sideAt (countsAt c p) n (other (sideOf sides f))
@@ -126,17 +127,9 @@ pub start-gains-long : (rs : List (List ℕ)) (c : ℕ) (sides marks : List ℕ)
 unfolding gainsAfter
 start-gains-long rs c sides marks = length-tabled _ c
 
--- the counts of a side begin no later than the second list
-pub side-within : (at n u : ℕ) → sideAt at n u ≤ at + n
-side-within at n u = go (eqb u 0)
-  where
-    go : (b : Bool) → cond b at (at + n) ≤ at + n
-    go true = omega arith
-    go false = omega arith
-
 -- what the gain of a file asks: its cells, and the counts of both sides, stand in the scratch
 pub gain-asks : {rs : List (List ℕ)} {c p : ℕ} {z : List ℕ} (n f side : ℕ) {s e own other : ℕ} → Cells rs c p z → f < c → p < 65535 → countsAt c p + 4 * n ≤ length z
-    → s ≡ getD z (startAt p f) 0 → e ≡ getD z (endAt c p f) 0 → own ≡ sideAt (countsAt c p) n side → other ≡ sideAt (countsAt c p) n (1 - side)
+    → s ≡ cellsAt c + getD z (startsAt c p + f) 0 → e ≡ cellsAt c + getD z (endsAt c p + f) 0 → own ≡ sideAt (countsAt c p) n side → other ≡ sideAt (countsAt c p) n (1 - side)
     → ((s ≤ e) × (e ≤ length z) × (e - s < 65536)) × ((own + n ≤ length z) × (other + n ≤ length z))
 gain-asks {c = c} {p = p} n f side d h few fits x y u v =
     let a = d .order f h in

@@ -7,14 +7,16 @@ use lib.Dec.{eqb}
 use lib.IntN.{ℤ, pos}
 use Rattle.rules.specs.Lists.{diff}
 use Rattle.rules.specs.Split.{countOn}
-use Rattle.rules.specs.Move.{State}
-use Rattle.rules.proofs.Locked.{lockedOn}
+use Rattle.rules.specs.Move.{State, lockedOn}
 use Rattle.tables.specs.Zones.{part}
 
--- the four counts of recipe j, whose files are r, in a zone for n recipes
+-- the counts of side u at place i and 2n further, of a recipe whose files are r
+abbrev pub countedSide : State → ℕ → ℕ → ℕ → List ℕ → List ℕ → List ℕ
+countedSide st n u i r z = set (set z i (countOn (st .sides) u r)) (i + 2 * n) (lockedOn st u r)
+
+-- those of recipe j, for each side, in a zone for n recipes
 unfoldable pub counted : State → ℕ → ℕ → List ℕ → List ℕ → List ℕ
-counted st n j r z =
-    set (set (set (set z j (countOn (st .sides) 0 r)) (n + j) (countOn (st .sides) 1 r)) (2 * n + j) (lockedOn st 0 r)) (3 * n + j) (lockedOn st 1 r)
+counted st n j r z = countedSide st n 1 (n + j) r (countedSide st n 0 j r z)
 
 -- one up for each recipe with a count of 1 on the file's own side, one down for each with none on the other
 unfoldable pub gainBy : List ℕ → List ℕ → List ℕ → ℤ

@@ -4,23 +4,22 @@ use mathlib.Core.Logic.{_≢_}
 use Prim.Native.Nat.{ℕ, _+_, _*_, _<_}
 use mathlib.Core.Bool.{Bool}
 use mathlib.Core.List.{List}
-use lib.ListN.{length, getD, drop}
+use lib.ListN.{length, getD, take, drop}
 use lib.IntN.{ℤ}
 use Rattle.rules.specs.Job.{Job, Limits, recipeCount}
 use Rattle.rules.specs.Pass.{startGains}
 use Rattle.job.specs.declared.figures.Survey.{Survey}
 use Rattle.job.specs.Survey.{surveyOf}
-use Rattle.tables.specs.Zones.{startAt, locksAt, countsAt, part, stateOf, Cells, Counts}
+use Rattle.tables.specs.Zones.{startsAt, roomAt, countsAt, part, stateOf, Cells, Counts}
 use Rattle.tables.specs.Building.{viewsOf}
 use Rattle.tables.specs.Filling.{startOf}
 
 -- what is built before the first move, in the scratch z that was z₀
 pub record Prepared (bounds pins sides marks z₀ z : List ℕ) (gains : List ℤ) (n : ℕ) : Type 0 where
-  pub starts : (f : ℕ) → f < length sides → getD z (startAt (length pins) f) 0 ≡ startOf pins f
+  pub locks : take (length sides) z ≡ marks
+  pub starts : (f : ℕ) → f < length sides → getD z (startsAt (length sides) (length pins) + f) 0 ≡ startOf pins f
   pub cells : Cells (viewsOf bounds pins) (length sides) (length pins) z
-  pub locks : part (locksAt (length sides) (length pins)) (length sides) z ≡ marks
-  pub room : part (locksAt (length sides) (length pins) + length sides) (length sides) z
-      ≡ part (locksAt (length sides) (length pins) + length sides) (length sides) z₀
+  pub room : part (roomAt (length sides) (length pins)) (length sides) z ≡ part (roomAt (length sides) (length pins)) (length sides) z₀
   pub counts : Counts (viewsOf bounds pins) (stateOf sides marks) (countsAt (length sides) (length pins)) n z
   pub long : length z ≡ length z₀
   pub beyond : drop (countsAt (length sides) (length pins) + 4 * n) z ≡ drop (countsAt (length sides) (length pins) + 4 * n) z₀

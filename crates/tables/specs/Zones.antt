@@ -1,7 +1,7 @@
 -- The scratch area of a pass, one list cut into neighbouring zones, and what each holds. Assumes nothing.
 --
--- For C files, N recipes and P pins: P cells, the recipes of file after file; C starts and C ends, where a file's cells begin and end;
--- C locks; C numbers of room; 4N counts of a recipe's files: on A, on B, locked on A, locked on B.
+-- For C files, N recipes and P pins: C locks; P cells, the recipes of file after file; C starts and C ends, where a file's cells begin and end,
+-- counted from the first cell; C numbers of room; 4N counts of a recipe's files: on A, on B, locked on A, locked on B; 16 numbers of room.
 use mathlib.Core.Path.{_≡_}
 use Prim.Native.Nat.{ℕ, _+_, _-_, _*_, _≤_, _<_}
 use mathlib.Core.Bool.{cond}
@@ -10,20 +10,29 @@ use lib.ListN.{getD, take, drop}
 use lib.Dec.{eqb}
 use Rattle.rules.specs.Split.{countOn}
 use Rattle.rules.specs.Move.{State}
-use Rattle.rules.proofs.Locked.{lockedOn}
-use Rattle.rules.proofs.Steps.{recipesOf}
+use Rattle.rules.specs.Move.{lockedOn}
+use Rattle.rules.specs.Split.{recipesOf}
+use Rattle.tables.specs.declared.zones.Extent.{Extent}
+use Rattle.tables.specs.declared.zones.Zones.{Zones}
 
-abbrev pub startAt : ℕ → ℕ → ℕ
-startAt p f = p + f
+-- where each zone begins; the locks are the first
+abbrev pub cellsAt : ℕ → ℕ
+cellsAt c = c
 
-abbrev pub endAt : ℕ → ℕ → ℕ → ℕ
-endAt c p f = p + c + f
+abbrev pub startsAt : ℕ → ℕ → ℕ
+startsAt c p = cellsAt c + p
 
-abbrev pub locksAt : ℕ → ℕ → ℕ
-locksAt c p = p + 2 * c
+abbrev pub endsAt : ℕ → ℕ → ℕ
+endsAt c p = startsAt c p + c
+
+abbrev pub roomAt : ℕ → ℕ → ℕ
+roomAt c p = endsAt c p + c
 
 abbrev pub countsAt : ℕ → ℕ → ℕ
-countsAt c p = p + 4 * c
+countsAt c p = roomAt c p + c
+
+abbrev pub zonesOf : ℕ → ℕ → Zones
+zonesOf c p = record { cells = cellsAt c; starts = startsAt c p; ends = endsAt c p; room = roomAt c p; counts = countsAt c p }
 
 -- where the counts of side u stand, of the two lists of n counts from `at` on
 abbrev pub sideAt : ℕ → ℕ → ℕ → ℕ
@@ -32,25 +41,31 @@ sideAt at n u = cond (eqb u 0) at (at + n)
 abbrev pub part : ℕ → ℕ → List ℕ → List ℕ
 part at n z = take n (drop at z)
 
+-- the extent of a job with c files, n recipes and p pins
+abbrev pub extentOf : ℕ → ℕ → ℕ → Extent
+extentOf c n p = record { files = c; recipes = n; pins = p }
+
 abbrev pub stateOf : List ℕ → List ℕ → State
 stateOf sides locks = record { sides = sides; locks = locks }
 
 -- the state that the sides and the scratch show
-abbrev pub stateIn : ℕ → ℕ → List ℕ → List ℕ → State
-stateIn c p sides z = stateOf sides (part (locksAt c p) c z)
+abbrev pub stateIn : ℕ → List ℕ → List ℕ → State
+stateIn c sides z = stateOf sides (take c z)
 
--- the cells of file f are its recipes, in rising number
+-- the cells of file f, as they stand in the scratch
+abbrev pub cellsOf : ℕ → ℕ → List ℕ → ℕ → List ℕ
+cellsOf c p z f = part (cellsAt c + getD z (startsAt c p + f) 0) (getD z (endsAt c p + f) 0 - getD z (startsAt c p + f) 0) z
+
+-- they are its recipes, in rising number
 pub record Cells (rs : List (List ℕ)) (c p : ℕ) (z : List ℕ) : Type 0 where
-  pub order : (f : ℕ) → f < c → getD z (startAt p f) 0 ≤ getD z (endAt c p f) 0
-  pub inside : (f : ℕ) → f < c → getD z (endAt c p f) 0 ≤ p
-  pub hold : (f : ℕ) → f < c → part (getD z (startAt p f) 0) (getD z (endAt c p f) 0 - getD z (startAt p f) 0) z ≡ recipesOf rs f
+  pub order : (f : ℕ) → f < c → getD z (startsAt c p + f) 0 ≤ getD z (endsAt c p + f) 0
+  pub inside : (f : ℕ) → f < c → getD z (endsAt c p + f) 0 ≤ p
+  pub hold : (f : ℕ) → f < c → cellsOf c p z f ≡ recipesOf rs f
 
--- the four counts of recipe j, in a zone of counts for n recipes that begins at `at`
+-- the counts of recipe j, of its files on each side and of the locked ones among them, in a zone of counts for n recipes that begins at `at`
 pub record CountsOf (rs : List (List ℕ)) (st : State) (at n : ℕ) (z : List ℕ) (j : ℕ) : Type 0 where
-  pub onA : getD z (at + j) 0 ≡ countOn (st .sides) 0 (getD rs j [])
-  pub onB : getD z (at + n + j) 0 ≡ countOn (st .sides) 1 (getD rs j [])
-  pub lockedA : getD z (at + 2 * n + j) 0 ≡ lockedOn st 0 (getD rs j [])
-  pub lockedB : getD z (at + 3 * n + j) 0 ≡ lockedOn st 1 (getD rs j [])
+  pub on : (u : ℕ) → u ≤ 1 → getD z (sideAt at n u + j) 0 ≡ countOn (st .sides) u (getD rs j [])
+  pub locked : (u : ℕ) → u ≤ 1 → getD z (sideAt at n u + j + 2 * n) 0 ≡ lockedOn st u (getD rs j [])
 
 pub record Counts (rs : List (List ℕ)) (st : State) (at n : ℕ) (z : List ℕ) : Type 0 where
   pub each : (j : ℕ) → j < n → CountsOf rs st at n z j

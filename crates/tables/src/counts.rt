@@ -4,10 +4,13 @@ ghost use Prim.Native.Nat.{_+_, _*_, _-_, _≤_, _<_, _^_};
 ghost use lib.ListN.{length};
 ghost use Rattle.rules.specs.Pass.{startGains};
 ghost use Rattle.rules.specs.Theorems.{Binary};
-ghost use Rattle.rules.proofs.Locked.{lockedOn};
-ghost use Rattle.tables.specs.Zones.{countsAt, sideAt, stateOf, Cells, Counts};
+ghost use Rattle.rules.specs.Move.{lockedOn};
+ghost use Rattle.tables.specs.Zones.{countsAt, extentOf, stateOf, Cells, Counts};
 ghost use Rattle.tables.specs.Building.{viewsOf, Buildable};
-ghost use Rattle.tables.specs.Counting.{counted, gainBy, startGain};
+ghost use Rattle.tables.specs.Counting.{countedSide, counted, gainBy, startGain};
+use super::zones::Extent;
+use super::zones::side_at;
+use super::zones::zones_of;
 use job::bit;
 use job::count_on;
 use job::entry_at;
@@ -27,15 +30,30 @@ fn locked_on(recipe: &[u16], sides: &[u16], locks: &[u16], u: u16) -> usize
     n
 }
 
-// The four counts of recipe j.
+// The counts of side u, at this place and 2n further.
+fn count_side(
+    zone: &mut [u16],
+    sides: &[u16],
+    locks: &[u16],
+    recipe: &[u16],
+    u: u16,
+    at: usize,
+    n: usize,
+)
+    requires { ⌜ (length (now recipe) < 65536) × (n < 65536) × (at + 2 * n < length (now zone)) ⌝ }
+    ensures { λ _. ⌜ now (zone .exit) ≡ countedSide (stateOf (now (sides .entry)) (now (locks .entry))) n u at (now (recipe .entry)) (now (zone .entry)) ⌝ }
+{
+    zone[at] = count_on(recipe, sides, u) as u16;
+    zone[at + 2 * n] = locked_on(recipe, sides, locks, u) as u16;
+}
+
+// The counts of recipe j, for each side.
 fn count_recipe(zone: &mut [u16], sides: &[u16], locks: &[u16], recipe: &[u16], j: usize, n: usize)
-    requires { ⌜ (length (now recipe) < 65536) × (j < n) × (length (now zone) ≡ 4 * n) ⌝ }
+    requires { ⌜ (length (now recipe) < 65536) × (j < n) × (n < 65536) × (length (now zone) ≡ 4 * n) ⌝ }
     ensures { λ _. ⌜ now (zone .exit) ≡ counted (stateOf (now (sides .entry)) (now (locks .entry))) n j (now (recipe .entry)) (now (zone .entry)) ⌝ }
 {
-    zone[j] = count_on(recipe, sides, 0) as u16;
-    zone[n + j] = count_on(recipe, sides, 1) as u16;
-    zone[2 * n + j] = locked_on(recipe, sides, locks, 0) as u16;
-    zone[3 * n + j] = locked_on(recipe, sides, locks, 1) as u16;
+    count_side(zone, sides, locks, recipe, 0, j, n);
+    count_side(zone, sides, locks, recipe, 1, n + j, n);
 }
 
 // The zone is 4N counts: files on A, on B, locked on A, locked on B.
@@ -70,17 +88,6 @@ fn gain_by(list: &[u16], own: &[u16], other: &[u16]) -> i32
     (up as i32) - (down as i32)
 }
 
-// Where the counts of side u stand, of the two lists of n counts from `at` on.
-pub(crate) fn side_at(at: usize, n: usize, u: u16) -> usize
-    requires { ⌜ at + n < 2 ^ 63 ⌝ }
-    ensures { λ r. ⌜ r ≡ sideAt at n u ⌝ }
-{
-    if u == 0 {
-        return at;
-    }
-    at + n
-}
-
 // The gain that a file starts with, of its mark and its cells from s up to e; the n counts of its own side and of the other stand from there on.
 fn start_gain(
     scratch: &[u16],
@@ -113,25 +120,24 @@ pub(crate) fn start_gains(
     scratch: &[u16],
     bounds: &[u16],
     pins: &[u16],
-    n: usize,
+    extent: Extent,
 )
     requires { ⌜ Buildable (now bounds) (now pins) (length (now sides)) ⌝ }
-    requires { ⌜ (length (now gains) ≡ length (now sides)) × (length (now marks) ≡ length (now sides)) × (n ≡ length (now bounds) - 1) ⌝ }
-    requires { ⌜ countsAt (length (now sides)) (length (now pins)) + 4 * n ≤ length (now scratch) ⌝ }
+    requires { ⌜ (length (now gains) ≡ length (now sides)) × (length (now marks) ≡ length (now sides)) × (extent ≡ extentOf (length (now sides)) (length (now bounds) - 1) (length (now pins))) ⌝ }
+    requires { ⌜ countsAt (length (now sides)) (length (now pins)) + 4 * (length (now bounds) - 1) ≤ length (now scratch) ⌝ }
     requires { ⌜ Binary (now sides) ⌝ }
     requires { ⌜ Cells (viewsOf (now bounds) (now pins)) (length (now sides)) (length (now pins)) (now scratch) ⌝ }
-    requires { ⌜ Counts (viewsOf (now bounds) (now pins)) (stateOf (now sides) (now marks)) (countsAt (length (now sides)) (length (now pins))) n (now scratch) ⌝ }
+    requires { ⌜ Counts (viewsOf (now bounds) (now pins)) (stateOf (now sides) (now marks)) (countsAt (length (now sides)) (length (now pins))) (length (now bounds) - 1) (now scratch) ⌝ }
     ensures { λ _. ⌜ now (gains .exit) ≡ startGains (viewsOf (now (bounds .entry)) (now (pins .entry))) (length (now (sides .entry))) (stateOf (now (sides .entry)) (now (marks .entry))) ⌝ }
 {
-    let c = sides.len();
-    let p = pins.len();
-    let counts = p + 4 * c;
+    let zones = zones_of(extent);
+    let n = wide(extent.recipes);
     let mut f = 0;
-    while f < c {
-        let s = wide(scratch[p + f]);
-        let e = wide(scratch[p + c + f]);
-        let own = side_at(counts, n, sides[f]);
-        let other = side_at(counts, n, 1 - sides[f]);
+    while f < sides.len() {
+        let s = zones.cells + wide(scratch[zones.starts + f]);
+        let e = zones.cells + wide(scratch[zones.ends + f]);
+        let own = side_at(extent, sides[f]);
+        let other = side_at(extent, 1 - sides[f]);
         gains[f] = start_gain(scratch, marks[f], s, e, own, other, n);
         f += 1;
     }

@@ -1,11 +1,16 @@
-// After the last move: entries made zero, and moves taken back, each by turning its file over; places outside a list stay as they are.
-// A move that the list of moves does not have is taken for one of file 0, as an entry that is not there reads as 0.
+// After the last move: moves taken back, each by turning its file over, and entries made zero.
+// A move that the list of moves does not have is taken for one of file 0, as an entry that is not there reads as 0; zeros are put only
+// where the list has all the places, and a list without them stays as it is.
 ghost use mathlib.Core.Path.{_≡_};
-ghost use Prim.Native.Nat.{_-_};
+ghost use Prim.Native.Nat.{_-_, _*_};
 ghost use lib.IntN.{pos};
 ghost use Rattle.rules.specs.Split.{sideOf};
+ghost use Rattle.rules.specs.Job.{scratchNumbers};
 ghost use Rattle.tables.specs.Clearing.{clearedIn};
 ghost use Rattle.tables.specs.Ending.{turned, backTo};
+use super::zones::Extent;
+use super::zones::numbers_for;
+use super::zones::scans_for;
 use job::entry_at;
 use job::wide;
 
@@ -55,17 +60,18 @@ pub fn end_moves(
     clear(ends, moves, files);
 }
 
-// The scan lists end in zeros, from the number of scans up to `most`; the first `numbers` of the scratch are zeros.
+// The scan lists end in zeros, from the number of scans up to 4N; all numbers of the scratch that the extent asks are zeros.
 pub fn end_scans(
     recipes: &mut [u16],
     kinds: &mut [u16],
     scratch: &mut [u16],
     scans: usize,
-    most: usize,
-    numbers: usize,
+    extent: Extent,
 )
-    ensures { λ _. ⌜ (now (recipes .exit) ≡ clearedIn scans most 0 (now (recipes .entry))) × (now (kinds .exit) ≡ clearedIn scans most 0 (now (kinds .entry))) × (now (scratch .exit) ≡ clearedIn 0 numbers 0 (now (scratch .entry))) ⌝ }
+    ensures { λ _. ⌜ (now (recipes .exit) ≡ clearedIn scans (4 * extent .recipes) 0 (now (recipes .entry))) × (now (kinds .exit) ≡ clearedIn scans (4 * extent .recipes) 0 (now (kinds .entry))) × (now (scratch .exit) ≡ clearedIn 0 (scratchNumbers (extent .pins) (extent .files) (extent .recipes)) 0 (now (scratch .entry))) ⌝ }
 {
+    let most = scans_for(extent);
+    let numbers = numbers_for(extent);
     clear(recipes, scans, most);
     clear(kinds, scans, most);
     clear(scratch, 0, numbers);

@@ -4,6 +4,7 @@ mod counts;
 mod ending;
 mod lent;
 mod start;
+mod zones;
 
 pub use ending::end_moves;
 pub use ending::end_scans;
@@ -11,11 +12,19 @@ pub use ending::turn;
 use job::Job;
 use job::Survey;
 use job::recipe_count;
+pub use lent::ListLengths;
 use lent::lists_fit;
 use start::prepare;
+pub use zones::Extent;
+pub use zones::MOST_NUMBERS;
+pub use zones::MOST_SCANS;
+pub use zones::Zones;
+pub use zones::side_at;
+pub use zones::zones_of;
 ghost use Prim.Native.Nat.{_-_};
 ghost use lib.ListN.{length};
-ghost use Rattle.rules.specs.Job.{limitsOf, asJob};
+ghost use Rattle.rules.specs.Job.{limitsOf};
+ghost use Rattle.job.specs.Parts.{wholeJob};
 ghost use Rattle.tables.specs.LentFits.{fitsOf};
 ghost use Rattle.tables.specs.LayingOut.{LaysOut};
 
@@ -30,27 +39,17 @@ pub fn lay_out(
     pins: &[u16],
     gains: &mut [i32],
     scratch: &mut [u16],
-    tried: usize,
-    gained: usize,
-    cuts: usize,
-    ends: usize,
-    recipes: usize,
-    kinds: usize,
+    lists: ListLengths,
 ) -> Survey
-    ensures { λ r. do ⌜ LaysOut (limitsOf (← ⟦Job::MOST_FILES⟧ .entry) (← ⟦Job::MOST_RECIPES⟧ .entry) (← ⟦Job::MOST_PINS⟧ .entry) (← ⟦Job::MOST_DEN⟧ .entry)) (asJob (now (sizes .entry)) (now (sides .entry)) (now (marks .entry)) (now (bounds .entry)) (now (pins .entry)) (job .num) (job .den) (job .cap)) (fitsOf (length (now (sizes .entry))) (length (now (bounds .entry)) - 1) (length (now (pins .entry))) (length (now (gains .entry))) tried gained cuts ends recipes kinds (length (now (scratch .entry)))) (now (gains .entry)) (now (scratch .entry)) (now (gains .exit)) (now (scratch .exit)) r ⌝ }
+    ensures { λ r. do ⌜ LaysOut (limitsOf (← ⟦Job::MOST_FILES⟧ .entry) (← ⟦Job::MOST_RECIPES⟧ .entry) (← ⟦Job::MOST_PINS⟧ .entry) (← ⟦Job::MOST_DEN⟧ .entry)) (wholeJob job (now (sizes .entry)) (now (sides .entry)) (now (marks .entry)) (now (bounds .entry)) (now (pins .entry))) (fitsOf (length (now (sizes .entry))) (length (now (bounds .entry)) - 1) (length (now (pins .entry))) (length (now (gains .entry))) (length (now (scratch .entry))) lists) (now (gains .entry)) (now (scratch .entry)) (now (gains .exit)) (now (scratch .exit)) r ⌝ }
 {
     let fit = lists_fit(
         sizes.len(),
         recipe_count(bounds),
         pins.len(),
         gains.len(),
-        tried,
-        gained,
-        cuts,
-        ends,
-        recipes,
-        kinds,
         scratch.len(),
+        lists,
     );
     let s = job::survey(job, sizes, sides, marks, bounds, pins, fit);
     let v = s.verdict;

@@ -1,4 +1,4 @@
-// What stands before the first move is built: cells, locks and counts in the scratch, and the starting gains.
+// What stands before the first move is built: locks, cells and counts in the scratch, and the starting gains.
 ghost use mathlib.Core.Path.{_≡_};
 ghost use Prim.Native.Nat.{_+_, _-_, _*_, _≤_};
 ghost use lib.ListN.{length};
@@ -9,6 +9,8 @@ ghost use Rattle.tables.specs.LayingOut.{Prepared};
 use super::cells::build_cells;
 use super::counts::fill_counts;
 use super::counts::start_gains;
+use super::zones::Extent;
+use super::zones::zones_of;
 use job::recipe_count;
 
 // The entries of one list put into another of the same length.
@@ -38,14 +40,19 @@ pub(crate) fn prepare(
     requires { ⌜ Binary (now sides) ⌝ }
     ensures { λ _. ⌜ Prepared (now (bounds .entry)) (now (pins .entry)) (now (sides .entry)) (now (marks .entry)) (now (scratch .entry)) (now (scratch .exit)) (now (gains .exit)) (length (now (bounds .entry)) - 1) ⌝ }
 {
-    let c = sides.len();
     let n = recipe_count(bounds);
-    let locks = pins.len() + 2 * c;
-    let room = locks + c;
-    let counts = room + c;
+    let extent = Extent {
+        files: sides.len() as u16,
+        recipes: n as u16,
+        pins: pins.len() as u16,
+    };
+    let zones = zones_of(extent);
+    let cells = zones.cells;
+    let room = zones.room;
+    let counts = zones.counts;
     let end = counts + 4 * n;
-    build_cells(&mut scratch[0..locks], bounds, pins, c);
-    copy(&mut scratch[locks..room], marks);
+    copy(&mut scratch[0..cells], marks);
+    build_cells(&mut scratch[cells..room], bounds, pins, sides.len());
     fill_counts(&mut scratch[counts..end], sides, marks, bounds, pins, n);
-    start_gains(gains, sides, marks, scratch, bounds, pins, n);
+    start_gains(gains, sides, marks, scratch, bounds, pins, extent);
 }

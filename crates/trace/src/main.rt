@@ -1,4 +1,4 @@
-// One pass over a stored job, shown move by move: the job on standard input, the trace on standard output, in one write.
+// One pass over a stored job, shown move by move: the job on standard input, the trace on standard output.
 use libc::STDOUT_FILENO;
 
 fn main() {

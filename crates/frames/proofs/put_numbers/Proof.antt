@@ -1,27 +1,26 @@
-use mathlib.Core.Path.{_≡_}
-use Prim.Native.Nat.{_+_, _*_, _-_, _≤_}
+use Prim.Native.Nat.{_-_}
 use native.Mathlib.Omega.{arith}
-use lib.ListN.{length, drop, length-set}
-use lib.Seq.{drop-drop, drop-set-lt}
+use lib.ListN.{length}
 use borrow.Author.Needs.{needs}
 use Rattle.blocks.proofs.Counted.{counts}
+use Rattle.frames.proofs.Putting.{Putting, putting-none, putting-more, putting-full, putting-end}
 use Rattle.frames.proofs.put_numbers.Statement.{statement}
 use Rattle.frames.proofs.put_numbers.Tie as tie
 
 abbrev Inv-loop : tie.InvT-loop
-Inv-loop bytes room₀ i₀ room i = (length room ≡ length room₀) × (2 * i ≤ length bytes) × (i ≤ length room) × (drop i room ≡ drop i room₀)
+Inv-loop bytes room₀ i₀ room i = Putting bytes room₀ room i
 
 abbrev μ-loop : tie.MeasureT-loop
 μ-loop bytes room₀ i₀ room i = length bytes - i
 
 loop-holds : tie.Need-loop-holds Inv-loop μ-loop
-loop-holds c = search needs
+loop-holds c = putting-none _ _
 
 same-length : tie.Need-same-length Inv-loop μ-loop
-same-length c = search needs
+same-length c = c .before .before .loop .inv .same
 
 returns : tie.Need-returns Inv-loop μ-loop
-returns c = (counts _ _ (omega arith), search needs)
+returns c = (counts _ _ (c .before .before .loop .inv .held), putting-full (c .before .before .loop .inv) (omega arith))
 
 mul-number-of : tie.Need-mul-number-of Inv-loop μ-loop
 mul-number-of c = search needs
@@ -54,17 +53,13 @@ loop-less : tie.Need-loop-less Inv-loop μ-loop
 loop-less c = search needs
 
 loop-again : tie.Need-loop-again Inv-loop μ-loop
-loop-again c =
-    let l = c .before .before .before .before .before .loop in
-    let a = c .before .before .before .before .before .before .before .before .args in
-    let e = drop-set-lt (l .i + 1) (l .room) (l .i) (c .number-of .result) (omega arith) in
-    (search needs, omega arith, simp length-set (omega arith), cc (e, drop-drop 1 (l .i) (l .room), drop-drop 1 (l .i) (a .room .now)))
+loop-again c = putting-more (c .before .before .before .before .before .loop .inv) _ (omega arith) (omega arith) (c .number-of .ensures)
 
 same-length-2 : tie.Need-same-length-2 Inv-loop μ-loop
-same-length-2 c = search needs
+same-length-2 c = c .before .loop .inv .same
 
 returns-2 : tie.Need-returns-2 Inv-loop μ-loop
-returns-2 c = (counts _ _ (omega arith), search needs)
+returns-2 c = (counts _ _ (c .before .loop .inv .held), putting-end (c .before .loop .inv) (omega arith))
 
 pub put-numbers-spec : {M : Type 1} → statement M
 put-numbers-spec =

@@ -31,7 +31,7 @@ returns-2 : tie.Need-returns-2
 unfolding check totalsOf
 returns-2 c =
     chain-go (c .before .before .before .before .check1to6 .ensures ∙ lists-only _ _ _) (c .before .before .if1 .left)
-    (c .check7to9 .ensures _ (record { num = refl; den = refl; totals = c .before .totals-of .ensures .is }))
+    (c .check7to9 .ensures _ (record { job-is = refl; totals = c .before .totals-of .ensures .is }))
 
 pub check-spec : {M : Type 1} → statement M
 check-spec =

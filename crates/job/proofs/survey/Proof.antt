@@ -35,7 +35,7 @@ returns-2 c =
     let t = c .before .before .before in
     survey-refused _ _ _
     (chain-go (t .before .before .before .check1to6 .ensures ∙ lists-only _ _ _) (t .before .if1 .left)
-    (c .before .before .check7to9 .ensures _ (record { num = refl; den = refl; totals = t .totals-of .ensures .is })))
+    (c .before .before .check7to9 .ensures _ (record { job-is = refl; totals = t .totals-of .ensures .is })))
     (c .if2 .taken)
 
 cut-requires : tie.Need-cut-requires
@@ -47,7 +47,7 @@ returns-3 c =
     let t = c .before .before .before .before in
     survey-done _ _ _
     (chain-go (t .before .before .before .check1to6 .ensures ∙ lists-only _ _ _) (t .before .if1 .left)
-    (c .before .before .before .check7to9 .ensures _ (record { num = refl; den = refl; totals = t .totals-of .ensures .is })))
+    (c .before .before .before .check7to9 .ensures _ (record { job-is = refl; totals = t .totals-of .ensures .is })))
     _ _ (c .before .if2 .left) (c .cut .ensures) (t .totals-of .ensures .is)
 
 pub survey-spec : {M : Type 1} → statement M

@@ -37,23 +37,23 @@ returns c =
     let e = refusal-printed (c .before .before .before .before .before .before .before .before .before .before .before .before .before .before .before .before .before .before .before .before .args .traced) (limitsOf _ _ _ _) _ (r .result) _ (r .ensures .0) (r .ensures .1) _ (c .before .before .before .before .before .before .before .before .before .before .before .before .before .before .before .before .before .before .before .before .args .out .now) _ (c .before .before .before .before .if1 .taken) (p .0) in
     (e .0, ((λ long. p .1 (either-room (c .before .before .before .before .before .before .before .before .before .before .before .before .before .before .before .before .before .before .before .before .args .traced) _ _ _ (omega arith) long), e .1), omega arith))
 
-slice-aggregate-print-first : tie.Need-slice-aggregate-print-first
-slice-aggregate-print-first c = search needs
+slice-aggregate-print-job : tie.Need-slice-aggregate-print-job
+slice-aggregate-print-job c = search needs
 
-slice-aggregate-print-first-2 : tie.Need-slice-aggregate-print-first-2
-slice-aggregate-print-first-2 c = search needs
+slice-aggregate-print-job-2 : tie.Need-slice-aggregate-print-job-2
+slice-aggregate-print-job-2 c = search needs
 
-slice-aggregate-print-first-3 : tie.Need-slice-aggregate-print-first-3
-slice-aggregate-print-first-3 c = search needs
+slice-aggregate-print-job-3 : tie.Need-slice-aggregate-print-job-3
+slice-aggregate-print-job-3 c = search needs
 
-slice-aggregate-print-first-4 : tie.Need-slice-aggregate-print-first-4
-slice-aggregate-print-first-4 c = search needs
+slice-aggregate-print-job-4 : tie.Need-slice-aggregate-print-job-4
+slice-aggregate-print-job-4 c = search needs
 
-slice-aggregate-print-first-5 : tie.Need-slice-aggregate-print-first-5
-slice-aggregate-print-first-5 c = search needs
+slice-aggregate-print-job-5 : tie.Need-slice-aggregate-print-job-5
+slice-aggregate-print-job-5 c = search needs
 
-print-first-requires : tie.Need-print-first-requires
-print-first-requires c κs =
+print-job-requires : tie.Need-print-job-requires
+print-job-requires c κs =
     let r = c .before .before .before .before .before .before .before .before .before .before .before .before .before .before .read in
     let z = c .before .before .before .before .before .before .if1 .left in
     (room-read true (limitsOf _ _ _ _) _ (r .result) _ (r .ensures .0) (r .ensures .1) z, few-read true (limitsOf _ _ _ _) _ (r .result) _ (r .ensures .0) (r .ensures .1) z)
@@ -64,7 +64,7 @@ same-length-2 c = search needs
 returns-2 : tie.Need-returns-2
 returns-2 c =
     let r = c .before .before .before .before .before .before .before .before .before .before .before .before .before .before .before .before .before .before .read in
-    let p = c .before .before .before .print-first .ensures in
+    let p = c .before .before .before .print-job .ensures in
     let e = run-read (c .before .before .before .before .before .before .before .before .before .before .before .before .before .before .before .before .before .before .before .before .before .before .before .before .before .before .args .traced) (limitsOf _ _ _ _) _ (r .result) _ (r .ensures .0) (r .ensures .1) (c .before .before .before .before .before .before .before .before .before .before .if1 .left) _ (c .before .before .before .before .before .before .before .before .before .before .before .before .before .before .before .before .before .before .before .before .before .before .before .before .before .before .args .out .now) _ (p .0) in
     (e .0, ((p .1, e .1), omega arith))
 
@@ -81,11 +81,11 @@ answer-spec =
     print-refusal-requires
     same-length
     returns
-    slice-aggregate-print-first
-    slice-aggregate-print-first-2
-    slice-aggregate-print-first-3
-    slice-aggregate-print-first-4
-    slice-aggregate-print-first-5
-    print-first-requires
+    slice-aggregate-print-job
+    slice-aggregate-print-job-2
+    slice-aggregate-print-job-3
+    slice-aggregate-print-job-4
+    slice-aggregate-print-job-5
+    print-job-requires
     same-length-2
     returns-2)

@@ -7,6 +7,7 @@ use lib.ListN.{length}
 use Rattle.rules.specs.Check.{refuseIf}
 use Rattle.rules.specs.Report.{refusal}
 use Rattle.rules.proofs.Verdicts.{zero-of}
+use Rattle.report.specs.Bytes.{figureBytes}
 use Rattle.report.proofs.Laying.{counts-text, laid-onto}
 use Rattle.report.proofs.Printings.{room-tells, refusal-enough, not-printed, is-printed}
 use borrow.Author.Needs.{needs}
@@ -27,7 +28,7 @@ returns c =
     let a = c .before .before .before .before .before .before .before .args in
     let l = c .before .before .before .before .put-refusal .ensures .0 in
     let v = c .before .before .refuse-if .ensures ∙ ap (λ (k : ℕ). refuseIf (not (leb k (length (a .out .now)))) 3 0) (counts-text l) in
-    (not-printed _ _ v (c .if1 .taken) refl, λ long. refusal-enough 256 _ (refusal (a .told)) (a .out .now) (counts-text l) (c .before .before .before .before .put-refusal .ensures .1) long v)
+    (not-printed _ _ v (c .if1 .taken) refl, λ long. refusal-enough figureBytes _ (refusal (a .told)) (a .out .now) (counts-text l) (c .before .before .before .before .put-refusal .ensures .1) long v)
 
 put-refusal-requires-2 : tie.Need-put-refusal-requires-2
 put-refusal-requires-2 c κs = search needs

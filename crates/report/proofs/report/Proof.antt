@@ -1,10 +1,10 @@
 use mathlib.Core.Path.{_≡_, sym, _∙_}
-use Prim.Native.Nat.{_+_}
 use native.Mathlib.Omega.{arith}
 use lib.ListN.{length}
 use Rattle.rules.specs.Job.{Limits}
 use Rattle.rules.specs.Report.{figureLines, ofSizes, reporting}
 use Rattle.rules.proofs.Reports.{reporting-refusal}
+use Rattle.report.specs.Bytes.{reportBytes}
 use Rattle.report.specs.Steps.{lengthsVerdict}
 use Rattle.report.proofs.Printings.{Told, lengths-tell, lengths-enough, told-none, told-short, told-whole, told-enough, reporting-told}
 use borrow.Author.Needs.{needs}
@@ -47,7 +47,7 @@ returns-3 : tie.Need-returns-3
 returns-3 c =
     let t = told _ (c .before .before .before .before .before .before .before .before .before .before .before .before .before .before) (c .before .before .before .before .before .before .before .before .before .if1 .left) in
     let l = c .before .before .before .before .put-figures .ensures in
-    (told-short t (c .before .before .before .before .before .before .before .before .lengths-verdict .ensures) (c .before .before .before .before .before .before .if2 .left) (l .0) (c .before .before .room-verdict .ensures) (c .if3 .taken), λ same long. told-enough t (c .before .before .before .before .before .before .before .before .lengths-verdict .ensures) (c .before .before .before .before .before .before .if2 .left) (l .0) (c .before .before .room-verdict .ensures) (256 + length (c .before .before .before .before .before .before .before .before .before .before .before .before .before .before .args .sides .now)) (l .1) long)
+    (told-short t (c .before .before .before .before .before .before .before .before .lengths-verdict .ensures) (c .before .before .before .before .before .before .if2 .left) (l .0) (c .before .before .room-verdict .ensures) (c .if3 .taken), λ same long. told-enough t (c .before .before .before .before .before .before .before .before .lengths-verdict .ensures) (c .before .before .before .before .before .before .if2 .left) (l .0) (c .before .before .room-verdict .ensures) (reportBytes (length (c .before .before .before .before .before .before .before .before .before .before .before .before .before .before .args .sides .now))) (l .1) long)
 
 put-figures-requires-2 : tie.Need-put-figures-requires-2
 put-figures-requires-2 c κs = lengths-tell _ _ _ (c .before .before .before .before .before .before .before .before .before .lengths-verdict .ensures) (c .before .before .before .before .before .before .before .if2 .left)

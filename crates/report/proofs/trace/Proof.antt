@@ -1,5 +1,4 @@
 use mathlib.Core.Path.{_≡_, sym, _∙_}
-use Prim.Native.Nat.{_+_, _*_}
 use mathlib.Core.Bool.{Bool}
 use native.Mathlib.Omega.{arith}
 use lib.ListN.{length}
@@ -7,6 +6,7 @@ use Rattle.rules.specs.Job.{Limits}
 use Rattle.rules.specs.Report.{ofSizes}
 use Rattle.rules.specs.Trace.{Listing, listingOf, holdsPass, passLines, tracing}
 use Rattle.rules.proofs.Reports.{tracing-refusal}
+use Rattle.report.specs.Bytes.{traceBytes}
 use Rattle.report.specs.Tracing.{passVerdict}
 use Rattle.report.proofs.Printings.{Told, pass-tells, pass-enough, told-none, told-short, told-whole, told-enough, tracing-told}
 use borrow.Author.Needs.{needs}
@@ -55,7 +55,7 @@ returns-3 : tie.Need-returns-3
 returns-3 c =
     let t = told _ (c .before .before .before .before .before .before .before .before .before .before .before .before .before .before .before .before .before .before .before) (c .before .before .before .before .before .before .before .before .before .if1 .left) in
     let l = c .before .before .before .before .put-pass .ensures in
-    (told-short t (c .before .before .before .before .before .before .before .before .pass-verdict .ensures) (c .before .before .before .before .before .before .if2 .left) (l .0) (c .before .before .room-verdict .ensures) (c .if3 .taken), λ same hold long. told-enough t (c .before .before .before .before .before .before .before .before .pass-verdict .ensures) (c .before .before .before .before .before .before .if2 .left) (l .0) (c .before .before .room-verdict .ensures) (512 + 128 * length (c .before .before .before .before .before .before .before .before .before .before .before .before .before .before .before .before .before .before .before .args .sizes .now) + 64 * length (c .before .before .before .before .before .before .before .before .before .before .before .before .before .before .before .before .before .before .before .args .recipes .now)) (l .1) long)
+    (told-short t (c .before .before .before .before .before .before .before .before .pass-verdict .ensures) (c .before .before .before .before .before .before .if2 .left) (l .0) (c .before .before .room-verdict .ensures) (c .if3 .taken), λ same hold long. told-enough t (c .before .before .before .before .before .before .before .before .pass-verdict .ensures) (c .before .before .before .before .before .before .if2 .left) (l .0) (c .before .before .room-verdict .ensures) (traceBytes (length (c .before .before .before .before .before .before .before .before .before .before .before .before .before .before .before .before .before .before .before .args .sizes .now)) (length (c .before .before .before .before .before .before .before .before .before .before .before .before .before .before .before .before .before .before .before .args .recipes .now))) (l .1) long)
 
 put-pass-requires-2 : tie.Need-put-pass-requires-2
 put-pass-requires-2 c κs = pass-tells _ (c .before .before .before .before .before .before .before .before .before .before .before .before .before .before .before .before .before .before .before .before .args .sizes .now) (c .before .before .before .before .before .before .before .before .before .before .before .before .before .before .before .before .before .before .before .before .args .sides .now) (held (c .before .before .before .before .before .before .before .before .before .before .before .before .before .before .before .before .before .before .before .before)) (c .before .before .before .before .before .before .before .before .before .pass-verdict .ensures) (c .before .before .before .before .before .before .before .if2 .left)

@@ -3,7 +3,8 @@ use mathlib.Core.Path.{sym, _∙_}
 use Prim.Native.Nat.{ℕ}
 use mathlib.Core.List.{List}
 use native.Mathlib.Omega.{arith}
-use Rattle.rules.specs.Job.{Job, Limits, limitsOf, asJob, Lent, lentOf}
+use Rattle.rules.specs.Job.{Job, Limits, limitsOf, Lent, lentOf}
+use Rattle.job.specs.Parts.{wholeJob}
 use Rattle.tables.proofs.Accepted.{Narrow}
 use Rattle.runs.proofs.PassAfterPass.{Alike}
 use Rattle.runs.proofs.RunOn.{Onward, before-first, toGo, Turned, turn-made, alike, run-ended}
@@ -23,12 +24,12 @@ narrow = record { files = omega arith; recipes = omega arith; pins = omega arith
 
 abbrev Inv-loop : tie.InvT-loop
 Inv-loop job sizes sides₀ marks bounds pins gains₀ tried₀ gained₀ cuts₀ ends₀ recipes₀ kinds₀ scratch₀ sum₀ sides gains tried gained cuts ends recipes kinds scratch sum =
-    Onward most (asJob sizes sides₀ marks bounds pins (job .num) (job .den) (job .cap)) (lentOf gains₀ tried₀ gained₀ cuts₀ ends₀ recipes₀ kinds₀ scratch₀) sum sides
+    Onward most (wholeJob job sizes sides₀ marks bounds pins) (lentOf gains₀ tried₀ gained₀ cuts₀ ends₀ recipes₀ kinds₀ scratch₀) sum sides
     (lentOf gains tried gained cuts ends recipes kinds scratch)
 
 abbrev μ-loop : tie.MeasureT-loop
 μ-loop job sizes sides₀ marks bounds pins gains₀ tried₀ gained₀ cuts₀ ends₀ recipes₀ kinds₀ scratch₀ sum₀ sides gains tried gained cuts ends recipes kinds scratch sum =
-    toGo (asJob sizes sides₀ marks bounds pins (job .num) (job .den) (job .cap)) sum
+    toGo (wholeJob job sizes sides₀ marks bounds pins) sum
 
 -- ---- what the function came with
 
@@ -44,7 +45,7 @@ entry a = a .before .before .before .before .before .before .before .before .bef
 abbrev jobOf : At → Job
 jobOf a =
     let s = entry a .args in
-    asJob (s .sizes .now) (s .sides .now) (s .marks .now) (s .bounds .now) (s .pins .now) (s .job .num) (s .job .den) (s .job .cap)
+    wholeJob (s .job) (s .sizes .now) (s .sides .now) (s .marks .now) (s .bounds .now) (s .pins .now)
 
 abbrev lent : At → Lent
 lent a =

@@ -7,7 +7,9 @@ use lib.IntN.{ℤ}
 use lib.ListN.{length, set}
 use mir.Syntax.{w32}
 use mir.Val.{toZ, ofZ}
-use Rattle.rules.specs.Job.{Job, Limits, Lent, asJob, lentOf}
+use Rattle.rules.specs.Job.{Job, Limits, Lent, lentOf}
+use Rattle.job.specs.declared.Job.{Job as Figures}
+use Rattle.job.specs.Parts.{wholeJob}
 use Rattle.rules.specs.Pass.{tries}
 use Rattle.split.specs.declared.progress.Progress.{Progress}
 use Rattle.split.specs.Scanning.{Treated, treated}
@@ -19,16 +21,16 @@ use Rattle.split.proofs.Bounds.{BoardLong}
 use Rattle.split.proofs.MoveNow.{MoveFits}
 use Rattle.split.proofs.OneMove.{steps-move}
 use Rattle.split.proofs.Played.{same-below, file-fits, count-fits, place-fits, gain-place-fits, one-less, Underway, under-long, sides-stay, gains-stay, choosable, playing-next, playing-gain, playing-safe, playing-fits, playing-more, playing-goes, playing-end}
-use Rattle.split.proofs.PassOnce.{first-under, few-numbers, pass-ends}
+use Rattle.split.proofs.PassOnce.{first-under, few-numbers, extent-known, pass-ends}
 use Rattle.split.proofs.Accepting.{Accepting, accepting, cut-is, begins-as, sums-small, playable, pass-refused, pass-done}
 use Rattle.split.proofs.pass_once.Statement.{statement}
 use Rattle.split.proofs.pass_once.Tie as tie
 
 abbrev Inv-loop : tie.InvT-loop
 Inv-loop sizes sides₀ marks bounds pins gains₀ tried₀ gained₀ cuts₀ ends₀ recipes₀ kinds₀ scratch₀ s window c p₀ sides gains tried gained cuts ends recipes kinds scratch p =
-    (num den cap : ℕ) (l : Lent)
-    → Underway (asJob sizes sides₀ marks bounds pins num den cap) l window (board sides₀ tried₀ gained₀ cuts₀ ends₀ scratch₀ gains₀ recipes₀ kinds₀ p₀)
-    → Underway (asJob sizes sides₀ marks bounds pins num den cap) l window (board sides tried gained cuts ends scratch gains recipes kinds p)
+    (figures : Figures) (l : Lent)
+    → Underway (wholeJob figures sizes sides₀ marks bounds pins) l window (board sides₀ tried₀ gained₀ cuts₀ ends₀ scratch₀ gains₀ recipes₀ kinds₀ p₀)
+    → Underway (wholeJob figures sizes sides₀ marks bounds pins) l window (board sides tried gained cuts ends scratch gains recipes kinds p)
 
 abbrev μ-loop : tie.MeasureT-loop
 μ-loop sizes sides₀ marks bounds pins gains₀ tried₀ gained₀ cuts₀ ends₀ recipes₀ kinds₀ scratch₀ s window c p₀ sides gains tried gained cuts ends recipes kinds scratch p =
@@ -51,8 +53,7 @@ module _ (t : tie.After-lay-out Inv-loop μ-loop) where
 
   abbrev job : Job
   job =
-      asJob (s .args .sizes .now) (s .args .sides .now) (s .args .marks .now) (s .args .bounds .now) (s .args .pins .now)
-      (s .args .job .num) (s .args .job .den) (s .args .job .cap)
+      wholeJob (s .args .job) (s .args .sizes .now) (s .args .sides .now) (s .args .marks .now) (s .args .bounds .now) (s .args .pins .now)
 
   abbrev lists : Lent
   lists =
@@ -125,7 +126,7 @@ module _ (a : At) where
       board (a .loop .sides) (a .loop .tried) (a .loop .gained) (a .loop .cuts) (a .loop .ends) (a .loop .scratch) (a .loop .gains) (a .loop .recipes) (a .loop .kinds) (a .loop .p)
 
   now : Underway (job here) (lists here) (a .before .before .window-of .result) stands
-  now = a .loop .inv (args .args .job .num) (args .args .job .den) (args .args .job .cap) (lists here) (begins (a .before))
+  now = a .loop .inv (args .args .job) (lists here) (begins (a .before))
 
 -- ---- once the move is chosen
 
@@ -138,7 +139,7 @@ module _ (k : Chosen) where
 
 -- ---- once no move is left and the lists are ended
 
-module _ (e : tie.After-figures-of Inv-loop μ-loop) where
+module _ (e : tie.After-figures Inv-loop μ-loop) where
   abbrev last : At
   last = e .before .before .before .before .before .before .before .before .before .before .before .before .before .before .before .before .before .before .before .before .before .before .before .before .before .before .before .before .before .before .before .before
 
@@ -209,7 +210,7 @@ new-requires : tie.Need-new-requires Inv-loop μ-loop
 new-requires c κs = tt
 
 loop-holds : tie.Need-loop-holds Inv-loop μ-loop
-loop-holds c num den cap l u = u
+loop-holds c figures l u = u
 
 choose-requires : tie.Need-choose-requires Inv-loop μ-loop
 choose-requires c κs = let o = choosable (now (c .before .before .before)) in ((o .sides, o .gains, o .locks), ((o .den, o .size), o .holds))
@@ -217,14 +218,14 @@ choose-requires c κs = let o = choosable (now (c .before .before .before)) in (
 end-moves-requires : tie.Need-end-moves-requires Inv-loop μ-loop
 end-moves-requires c κs = tt
 
-needed-for-requires : tie.Need-needed-for-requires Inv-loop μ-loop
-needed-for-requires c κs = few-numbers (plays (c .before .before .before .before .before .before .before .before .before .before .before .before .before .before .before .before .before .before .before .before .before))
+extent-of-requires : tie.Need-extent-of-requires Inv-loop μ-loop
+extent-of-requires c κs = few-numbers (plays (c .before .before .before .before .before .before .before .before .before .before .before .before .before .before .before .before .before .before .before .before .before))
 
 end-scans-requires : tie.Need-end-scans-requires Inv-loop μ-loop
 end-scans-requires c κs = tt
 
-figures-of-requires : tie.Need-figures-of-requires Inv-loop μ-loop
-figures-of-requires c κs = tt
+figures-requires : tie.Need-figures-requires Inv-loop μ-loop
+figures-requires c κs = tt
 
 same-length-4 : tie.Need-same-length-4 Inv-loop μ-loop
 same-length-4 c = moved c .end-moves .kept .0 ∙ sides-stay (now (last c))
@@ -258,7 +259,7 @@ returns-2 c =
     let known = survey (here (last c)) in
     let clear = clear (last c .before) in
     pass-done known clear
-    (pass-ends (now (last c) .playable) (over c) (cut-is known clear) (c .figures-of .ensures) (moved c .end-moves .ensures) (c .before .before .before .before .before .before .before .before .before .before .before .needed-for .ensures) (scans c .end-scans .ensures))
+    (pass-ends (now (last c) .playable) (over c) (cut-is known clear) (c .figures .ensures) (moved c .end-moves .ensures) (extent-known (c .before .before .before .before .before .before .before .before .before .before .before .extent-of .ensures)) (scans c .end-scans .ensures))
 
 -- its entries
 module _ (i : tie.Else2 Inv-loop μ-loop) where
@@ -311,15 +312,15 @@ loop-less c =
     one-less (playing-next (now (at k)) (k .choose .ensures) h .early) (playing-more (now (at k)) (k .choose .ensures) h {b' = leaves c} (made c))
 
 -- whatever pass was underway when the moves began
-module _ (n : tie.After-counted Inv-loop μ-loop) (num den cap : ℕ) (l : Lent) where
+module _ (n : tie.After-counted Inv-loop μ-loop) (figures : Figures) (l : Lent) where
   abbrev any : Job
-  any = let g = args (a (t n)) .args in asJob (g .sizes .now) (g .sides .now) (g .marks .now) (g .bounds .now) (g .pins .now) num den cap
+  any = let g = args (a (t n)) .args in wholeJob figures (g .sizes .now) (g .sides .now) (g .marks .now) (g .bounds .now) (g .pins .now)
 
   goes : Underway any l (a (t n) .before .before .window-of .result) (starts (a (t n) .before)) → Underway any l (a (t n) .before .before .window-of .result) (leaves n)
-  goes u = playing-goes (a (t n) .loop .inv num den cap l u) (choice (t n) .choose .ensures) (goesOn (t n) .if2 .left) {b' = leaves n} (made n)
+  goes u = playing-goes (a (t n) .loop .inv figures l u) (choice (t n) .choose .ensures) (goesOn (t n) .if2 .left) {b' = leaves n} (made n)
 
 loop-again : tie.Need-loop-again Inv-loop μ-loop
-loop-again c num den cap l u = goes c num den cap l u
+loop-again c figures l u = goes c figures l u
 
 pub pass-once-spec : {M : Type 1} → statement M
 pass-once-spec =
@@ -338,9 +339,9 @@ pass-once-spec =
     loop-holds
     choose-requires
     end-moves-requires
-    needed-for-requires
+    extent-of-requires
     end-scans-requires
-    figures-of-requires
+    figures-requires
     same-length-4
     same-length-5
     same-length-6

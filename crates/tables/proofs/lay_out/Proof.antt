@@ -3,7 +3,8 @@ use mathlib.Core.Path.{refl}
 use mathlib.Core.Bool.{Bool}
 use native.Mathlib.Omega.{arith}
 use borrow.Author.Needs.{needs}
-use Rattle.rules.specs.Job.{Job, Limits, asJob}
+use Rattle.rules.specs.Job.{Job, Limits}
+use Rattle.job.specs.Parts.{wholeJob}
 use Rattle.tables.proofs.Accepted.{Surveyed, surveyed, let-through, fitWord, builders-ask}
 use Rattle.tables.proofs.lay_out.Statement.{statement}
 use Rattle.tables.proofs.lay_out.Tie as tie
@@ -16,13 +17,10 @@ module _ (t : tie.After-survey) where
 
   abbrev job : Job
   job =
-      asJob (s .args .sizes .now) (s .args .sides .now) (s .args .marks .now) (s .args .bounds .now) (s .args .pins .now)
-      (s .args .job .num) (s .args .job .den) (s .args .job .cap)
+      wholeJob (s .args .job) (s .args .sizes .now) (s .args .sides .now) (s .args .marks .now) (s .args .bounds .now) (s .args .pins .now)
 
   abbrev word : Bool
-  word =
-      fitWord job (s .args .gains .now) (s .args .scratch .now) (s .args .tried) (s .args .gained) (s .args .cuts) (s .args .ends)
-      (s .args .recipes) (s .args .kinds)
+  word = fitWord job (s .args .gains .now) (s .args .scratch .now) (s .args .lists)
 
   -- the job's own limits, and what the survey tells by them
   abbrev known : (most : Limits) × Surveyed most job word (t .survey .result)
@@ -49,7 +47,7 @@ prepare-requires c κs =
     let e = c .before .before in
     let t = e .before .before .before in
     let x = s t .args in
-    builders-ask (job t) (x .gains .now) (x .scratch .now) (x .tried) (x .gained) (x .cuts) (x .ends) (x .recipes) (x .kinds)
+    builders-ask (job t) (x .gains .now) (x .scratch .now) (x .lists)
     (known t .0) (known t .1 .narrow) (let-through (known t .0) (job t) (word t) (known t .1 .answered) (e .if1 .left))
 
 same-length : tie.Need-same-length

@@ -1,28 +1,19 @@
-use mathlib.Core.Path.{ap, ap₂}
-use Prim.Native.Nat.{ℕ}
-use mathlib.Core.Bool.{_||_}
-use lib.Dec.{leb, ltb}
+use borrow.Author.Tests.{le-leb, lt-leb}
 use borrow.Author.Needs.{needs}
 use Rattle.job.proofs.pins.is_bad_pin.Statement.{statement}
 use Rattle.job.proofs.pins.is_bad_pin.Tie as tie
 
-mul-wide : tie.Need-mul-wide
-mul-wide c = search needs
-
-shared-slice-read-wide : tie.Need-shared-slice-read-wide
-shared-slice-read-wide c = search needs
-
-wide-requires : tie.Need-wide-requires
-wide-requires c κs = search needs
-
-first-same-requires : tie.Need-first-same-requires
-first-same-requires c κs = search needs
-
 returns : tie.Need-returns
-returns c =
-    let a = c .before .before .before .before .args in
-    ap₂ _||_ (ap (leb (a .files)) (c .before .wide .ensures)) (ap (λ (i : ℕ). ltb i (a .k)) (c .first-same .ensures))
+returns c = rw (le-leb _ _ (c .if1 .taken))
+
+mul-result : tie.Need-mul-result
+mul-result c = search needs
+
+shared-slice-read-result : tie.Need-shared-slice-read-result
+shared-slice-read-result c = search needs
+
+returns-2 : tie.Need-returns-2
+returns-2 c = rw (lt-leb _ _ (c .before .if1 .left))
 
 pub is-bad-pin-spec : {M : Type 1} → statement M
-is-bad-pin-spec =
-    tie.close (tie.spec mul-wide shared-slice-read-wide wide-requires first-same-requires returns)
+is-bad-pin-spec = tie.close (tie.spec returns mul-result shared-slice-read-result returns-2)

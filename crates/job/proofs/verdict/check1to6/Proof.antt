@@ -1,7 +1,9 @@
 use native.Mathlib.Omega.{arith}
+use lib.ListN.{length}
+use Rattle.rules.specs.Job.{limitsOf}
 use Rattle.rules.specs.Check.{check1, check2, check3, check1to6}
 use Rattle.rules.proofs.Verdicts.{three-stop, three-go, three-pass}
-use Rattle.rules.proofs.SoundJob.{ok1, ok3}
+use Rattle.rules.proofs.SoundJob.{ok1, ok2-of, ok3}
 use Rattle.job.specs.Parts.{ofLists}
 use Rattle.job.proofs.verdict.check1to6.Statement.{statement}
 use Rattle.job.proofs.verdict.check1to6.Tie as tie
@@ -40,7 +42,7 @@ check4to6-requires c κs =
     let a = v3 .before .before .before .before .before .before .before .before .before .args in
     let p = three-pass (o .or-else2 .ensures) (o .before .or-else .ensures) (v3 .before .before .check1 .ensures) (v3 .before .check2 .ensures) (v3 .check3 .ensures) (c .if1 .left) in
     let r = ok1 (ofLists (a .sizes .now) (a .sides .now) (a .marks .now) (a .bounds .now) (a .pins .now)) (rw (← v3 .before .before .before .recipe-count .ensures) (p .0)) in
-    (omega (arith, r .1), ok3 _ _ (p .1))
+    ((omega (arith, r .1), ok2-of (limitsOf _ _ _ 0) (length (a .sizes .now)) (v3 .before .before .before .recipe-count .result) (length (a .pins .now)) (p .1) .0), ok3 _ _ (p .2))
 
 returns-2 : tie.Need-returns-2
 unfolding check1to6 check1 check2 check3

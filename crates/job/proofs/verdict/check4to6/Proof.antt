@@ -1,3 +1,4 @@
+use native.Mathlib.Omega.{arith}
 use Rattle.rules.specs.Check.{check4, badPin, check5, check6, check4to6}
 use Rattle.rules.proofs.Verdicts.{chain-stop, chain-go, zero-of}
 use borrow.Author.Needs.{needs}
@@ -12,7 +13,7 @@ unfolding check4to6 check4
 returns c = chain-stop _ (c .before .before .check4 .ensures) (c .if1 .taken)
 
 check5-requires : tie.Need-check5-requires
-check5-requires c κs = zero-of (c .before .before .check4 .ensures) (c .if1 .left)
+check5-requires c κs = (omega arith, zero-of (c .before .before .check4 .ensures) (c .if1 .left))
 
 returns-2 : tie.Need-returns-2
 unfolding check4to6 check4 badPin check5

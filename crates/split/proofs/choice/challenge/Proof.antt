@@ -23,7 +23,7 @@ returns c =
     let d = c .before .before .before .apart .result in
     let g = toZ-ofZ (s .fits .gain) in
     rw g
-    (challenge-won (s .args .window) (s .args .best) (s .args .f) (s .args .gain) (s .args .after) (s .args .none) d (c .before .before .before .apart .ensures)
+    (challenge-won (s .args .window) (s .args .best) (s .args .f) (s .args .gain) (s .args .after) (s .args .files) d (c .before .before .before .apart .ensures)
     (rw g at (ap (λ (t : Bool). leb d (s .args .window .span) && t) (sym (c .before .is-better .ensures)) ∙ c .if1 .taken)))
 
 returns-2 : tie.Need-returns-2
@@ -31,7 +31,7 @@ returns-2 c =
     let s = c .before .before .before .before .before in
     let d = c .before .before .before .apart .result in
     let g = toZ-ofZ (s .fits .gain) in
-    challenge-lost (s .args .window) (s .args .best) (s .args .f) (s .args .gain) (s .args .after) (s .args .none) d (c .before .before .before .apart .ensures)
+    challenge-lost (s .args .window) (s .args .best) (s .args .f) (s .args .gain) (s .args .after) (s .args .files) d (c .before .before .before .apart .ensures)
     (rw g at (ap (λ (t : Bool). leb d (s .args .window .span) && t) (sym (c .before .is-better .ensures)) ∙ c .if1 .left))
 
 pub challenge-spec : {M : Type 1} → statement M

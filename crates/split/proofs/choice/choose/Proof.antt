@@ -5,24 +5,23 @@ use mathlib.Core.List.{List}
 use Prim.Native.Nat.{ℕ, _-_}
 use native.Mathlib.Omega.{arith}
 use lib.Dec.{eqb}
-use lib.ListN.{length, getD}
+use lib.ListN.{length, getD, take}
 use lib.IntN.{ℤ, pos}
 use mir.Syntax.{w32}
 use mir.Val.{toZ, ofZ}
 use mir.Facts.{toZ-ofZ}
 use borrow.Author.Needs.{needs, sfits-of}
 use Rattle.rules.proofs.Tests.{and-yes}
-use Rattle.tables.specs.Zones.{locksAt, part}
 use Rattle.split.specs.Best.{noLess, rivalIn, challenged}
 use Rattle.split.proofs.FilesPassed.{product-fits, AtRival, nextBest, next-rival, files-none, files-more, at-rival, files-all}
 use Rattle.split.proofs.choice.choose.Statement.{statement}
 use Rattle.split.proofs.choice.choose.Tie as tie
 
 abbrev Inv-loop : tie.InvT-loop
-Inv-loop window size sizes sides scratch gains pins none locks best₀ f₀ best f = AtRival window size sizes sides (part (locksAt (length sizes) pins) (length sizes) scratch) gains f best
+Inv-loop window size sizes sides scratch gains files best₀ f₀ best f = AtRival window size sizes sides (take (length sizes) scratch) gains f best
 
 abbrev μ-loop : tie.MeasureT-loop
-μ-loop window size sizes sides scratch gains pins none locks best₀ f₀ best f = length sizes - f
+μ-loop window size sizes sides scratch gains files best₀ f₀ best f = length sizes - f
 
 abbrev At : Type 0
 At = tie.At-loop Inv-loop μ-loop
@@ -31,13 +30,7 @@ abbrev entry : At → tie.Start Inv-loop μ-loop
 entry c = c .before .before .before .before .before
 
 abbrev locksOf : tie.Start Inv-loop μ-loop → List ℕ
-locksOf s = part (locksAt (length (s .args .sizes .now)) (s .args .pins)) (length (s .args .sizes .now)) (s .args .scratch .now)
-
-mul-locks : tie.Need-mul-locks Inv-loop μ-loop
-mul-locks c = search needs
-
-add-locks : tie.Need-add-locks Inv-loop μ-loop
-add-locks c = search needs
+locksOf s = take (length (s .args .sizes .now)) (s .args .scratch .now)
 
 next-rival-requires : tie.Need-next-rival-requires Inv-loop μ-loop
 next-rival-requires c κs = let s = c .before .before .before in (s .pre .0 .1, s .pre .0 .2, omega arith)
@@ -130,8 +123,6 @@ choose-spec =
     (tie.spec
     Inv-loop
     μ-loop
-    mul-locks
-    add-locks
     next-rival-requires
     loop-holds
     mul-size-after

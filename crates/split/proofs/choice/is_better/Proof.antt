@@ -12,7 +12,7 @@ returns c =
     let s = c .before .before .before .before in
     let b = s .args .best in
     rw (toZ-ofZ (sfits-of (c .before .struct-told .given .1 .0 .1)), toZ-ofZ (s .fits .gain))
-    (rival-first (eqb (b .file) (s .args .none)) (ltZ (b .gain) (s .args .gain)) (ltZ (s .args .gain) (b .gain)) (ltb (s .args .dist) (b .dist)) (s .pre))
+    (rival-first (eqb (b .file) (s .args .files)) (ltZ (b .gain) (s .args .gain)) (ltZ (s .args .gain) (b .gain)) (ltb (s .args .dist) (b .dist)) (s .pre))
 
 pub is-better-spec : {M : Type 1} → statement M
 is-better-spec = tie.close (tie.spec returns)

@@ -2,23 +2,22 @@
 use mathlib.Core.Path.{_≡_, sym, _∙_}
 use Prim.Native.Nat.{_-_}
 use native.Mathlib.Omega.{arith}
-use lib.ListN.{getD}
+use lib.ListN.{getD, take}
+use lib.Seq.{getD-take}
 use lib.IntN.{pos}
 use mir.Syntax.{w32}
 use mir.Facts.{toZ-ofZ}
 use borrow.Author.Needs.{needs, sfits-of}
-use Rattle.tables.specs.Zones.{part}
 use Rattle.split.specs.Best.{rivalIn, Outdone}
-use Rattle.tables.proofs.Parts.{part-entry}
 use Rattle.split.proofs.FilesPassed.{outdone-none, outdone-more}
 use Rattle.split.proofs.choice.next_rival.Statement.{statement}
 use Rattle.split.proofs.choice.next_rival.Tie as tie
 
 abbrev Inv-loop : tie.InvT-loop
-Inv-loop best scratch gains locks from none f₀ f = Outdone best (part locks none scratch) gains none from f
+Inv-loop best scratch gains from files f₀ f = Outdone best (take files scratch) gains files from f
 
 abbrev μ-loop : tie.MeasureT-loop
-μ-loop best scratch gains locks from none f₀ f = none - f
+μ-loop best scratch gains from files f₀ f = files - f
 
 loop-holds : tie.Need-loop-holds Inv-loop μ-loop
 loop-holds c = outdone-none (c .before .pre .2)
@@ -28,9 +27,6 @@ mul-is-rival c = search needs
 
 shared-slice-copy-out-is-rival : tie.Need-shared-slice-copy-out-is-rival Inv-loop μ-loop
 shared-slice-copy-out-is-rival c = search needs
-
-add-is-rival : tie.Need-add-is-rival Inv-loop μ-loop
-add-is-rival c = search needs
 
 mul-is-rival-2 : tie.Need-mul-is-rival-2 Inv-loop μ-loop
 mul-is-rival-2 c = search needs
@@ -44,11 +40,11 @@ is-rival-requires c κs = search needs
 -- the answer is that of the file's own entries
 told : (w : tie.After-is-rival Inv-loop μ-loop)
     → let s = w .before .before .before .before .before .before in
-    w .is-rival .result ≡ rivalIn (s .args .best) (part (s .args .locks) (s .args .none) (s .args .scratch .now)) (s .args .gains .now) (s .args .none) (w .before .before .before .before .loop .f)
+    w .is-rival .result ≡ rivalIn (s .args .best) (take (s .args .files) (s .args .scratch .now)) (s .args .gains .now) (s .args .files) (w .before .before .before .before .loop .f)
 told w =
     let s = w .before .before .before .before .before .before in
     let f = w .before .before .before .before .loop .f in
-    rw (part-entry (s .args .locks) (s .args .none) (s .args .scratch .now) f (w .before .before .before .loop-test .taken))
+    rw (getD-take (s .args .files) (s .args .scratch .now) f 0 (w .before .before .before .loop-test .taken))
     (rw (toZ-ofZ {w = w32} {z = getD (s .args .gains .now) f (pos 0)} (sfits-of (w .before .before .is-rival-arg .given))) at (w .is-rival .ensures))
 
 returns : tie.Need-returns Inv-loop μ-loop
@@ -80,7 +76,6 @@ next-rival-spec =
     loop-holds
     mul-is-rival
     shared-slice-copy-out-is-rival
-    add-is-rival
     mul-is-rival-2
     shared-slice-read-is-rival
     is-rival-requires

@@ -1,16 +1,13 @@
 -- The way, the cells and the progress are those of the definition, so its conditions are the call's. Assumes nothing.
-use mathlib.Core.Path.{_≡_, ap₂, _∙_}
+use mathlib.Core.Path.{ap, ap₂, subst, _∙_}
 use native.Mathlib.Omega.{arith}
-use Prim.Native.Nat.{ℕ, _-_, _<_}
-use lib.ListN.{length}
+use Prim.Native.Nat.{ℕ}
+use Rattle.tables.specs.declared.zones.Extent.{Extent}
 use Rattle.split.specs.Scanning.{Treated, treated}
-use Rattle.split.specs.Moving.{wayTo}
+use Rattle.split.specs.Moving.{wayTo, Locked}
 use Rattle.split.proofs.OneMove.{HandedOn, treats-safe, treats-from}
 use Rattle.split.proofs.moves.treat_move.Statement.{statement}
 use Rattle.split.proofs.moves.treat_move.Tie as tie
-
-fewer : {n k : ℕ} → n ≡ k - 1 → k < 65536 → n < 65536
-fewer e h = omega arith
 
 -- ---- before the recipes are treated
 
@@ -28,9 +25,9 @@ module _ (t : tie.After-lock) where
       (turnOf .turn .last .0) (t .lock .last .0) (t .lock .result .from) (t .lock .result .to) (t .before .before .way-to .result) (t .before .before .before .before .before .before .before .before .shift .result)
   handed = record {
     turn = turnOf .turn .ensures .1;
-    cells = t .lock .ensures;
+    cells = subst (λ (e : Extent). Locked (e .files) (e .pins) (s .args .f) (s .args .scratch .now) (t .lock .last .0) (t .lock .result .from) (t .lock .result .to)) (t .before .before .before .extent-of .ensures) (t .lock .ensures);
     to = t .before .before .way-to .ensures
-        ∙ ap₂ (λ (n side : ℕ). wayTo (length (s .args .sizes .now)) n (length (s .args .pins .now)) side) (t .before .before .before .recipe-count .ensures) (turnOf .turn .ensures .0);
+        ∙ ap₂ (λ (e : Extent) (side : ℕ). wayTo (e .files) (e .recipes) (e .pins) side) (t .before .before .before .extent-of .ensures) (turnOf .turn .ensures .0);
     shift = t .before .before .before .before .before .before .before .before .shift .ensures;
   }
 
@@ -40,14 +37,19 @@ shift-requires c κs = c .before .before .before .before .before .before .before
 turn-requires : tie.Need-turn-requires
 turn-requires c κs = tt
 
-recipe-count-requires : tie.Need-recipe-count-requires
-recipe-count-requires c κs = tt
+extent-of-requires : tie.Need-extent-of-requires
+extent-of-requires c κs = let m = c .before .before .before .before .before .before .before .before .before .before .before .before .before .before .pre .few in (m .0, m .1, m .2)
 
 way-to-requires : tie.Need-way-to-requires
-way-to-requires c κs = let m = c .before .before .before .before .before .before .before .before .before .before .before .before .before .before .before .pre .few in (m .0, fewer (c .recipe-count .ensures) (m .1), m .2)
+way-to-requires c κs = omega (arith, c .before .before .before .turn .ensures .0)
 
 lock-requires : tie.Need-lock-requires
-lock-requires c κs = let m = c .before .before .before .before .before .before .before .before .before .before .before .before .before .before .before .before .before .pre in (m .few .0, m .few .2, m .file, omega (arith, m .scratchLong))
+lock-requires c κs =
+    let m = c .before .before .before .before .before .before .before .before .before .before .before .before .before .before .before .before .before .pre in
+    let e = c .before .before .extent-of .ensures in
+    let files = ap (λ (x : Extent). x .files) e in
+    let pins = ap (λ (x : Extent). x .pins) e in
+    (omega (arith, files, m .file), omega (arith, files, pins, m .scratchLong))
 
 treat-all-requires : tie.Need-treat-all-requires
 treat-all-requires c κs = let t = c .before .before .before .before .before .before .before in treats-safe (s t .pre) (handed t)
@@ -78,7 +80,7 @@ treat-move-spec =
     (tie.spec
     shift-requires
     turn-requires
-    recipe-count-requires
+    extent-of-requires
     way-to-requires
     lock-requires
     treat-all-requires

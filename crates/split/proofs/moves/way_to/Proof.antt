@@ -1,71 +1,34 @@
--- Where the side is not 0, 1 less it is. Assumes nothing.
-use Prim.Native.Nat.{_-_}
-use native.Mathlib.Omega.{arith}
-use borrow.Author.Tests.{eq-eqb, ne-eqb}
+-- `moves::way_to` meets its contract. Assumes nothing.
 use borrow.Author.Needs.{needs}
 use Rattle.split.specs.Moving.{wayTo}
 use Rattle.split.proofs.moves.way_to.Statement.{statement}
 use Rattle.split.proofs.moves.way_to.Tie as tie
 
-mul-counts : tie.Need-mul-counts
-mul-counts c = search needs
+wide-requires : tie.Need-wide-requires
+wide-requires c κs = search needs
 
-add-counts : tie.Need-add-counts
-add-counts c = search needs
+wide-requires-2 : tie.Need-wide-requires-2
+wide-requires-2 c κs = search needs
 
-mul-both : tie.Need-mul-both
-mul-both c = search needs
+side-at-requires : tie.Need-side-at-requires
+side-at-requires c κs = search needs
 
-add-both : tie.Need-add-both
-add-both c = search needs
+sub-side-at : tie.Need-sub-side-at
+sub-side-at c = search needs
 
-mul-t9 : tie.Need-mul-t9
-mul-t9 c = search needs
-
-add-t10 : tie.Need-add-t10
-add-t10 c = search needs
-
-add-t11 : tie.Need-add-t11
-add-t11 c = search needs
-
-add-t12 : tie.Need-add-t12
-add-t12 c = search needs
+side-at-requires-2 : tie.Need-side-at-requires-2
+side-at-requires-2 c κs = search needs
 
 returns : tie.Need-returns
 unfolding wayTo
-returns c = rw (c .if1 .taken)
-
-mul-t7 : tie.Need-mul-t7
-mul-t7 c = search needs
-
-add-t13 : tie.Need-add-t13
-add-t13 c = search needs
-
-add-t14 : tie.Need-add-t14
-add-t14 c = search needs
-
-add-t15 : tie.Need-add-t15
-add-t15 c = search needs
-
-returns-2 : tie.Need-returns-2
-unfolding wayTo
-returns-2 c = simp (ne-eqb _ _ (c .if1 .left), eq-eqb (1 - c .before .args .side) 0 (omega arith))
+returns c = λ i. record {
+  side = c .before .before .before .before .args .side;
+  files = c .before .before .before .wide .ensures i;
+  recipes = c .before .before .wide2 .ensures i;
+  there = c .before .side-at .ensures i;
+  left = c .side-at2 .ensures i;
+}
 
 pub way-to-spec : {M : Type 1} → statement M
 way-to-spec =
-    tie.close
-    (tie.spec
-    mul-counts
-    add-counts
-    mul-both
-    add-both
-    mul-t9
-    add-t10
-    add-t11
-    add-t12
-    returns
-    mul-t7
-    add-t13
-    add-t14
-    add-t15
-    returns-2)
+    tie.close (tie.spec wide-requires wide-requires-2 side-at-requires sub-side-at side-at-requires-2 returns)

@@ -19,6 +19,10 @@ sum s h = omega (arith, h, s .good .0)
 double : (s : tie.Start) {i : ℕ} → i < length (s .args .scratch .now) → Fits w64 (i * 2)
 double s h = omega (arith, h, s .good .0)
 
+-- twice the number of recipes too
+twice : (s : tie.Start) (i n : ℕ) → i + 2 * n < length (s .args .scratch .now) → Fits w64 (2 * n)
+twice s i n h = omega (arith, h, s .good .0)
+
 one-more : {n : ℕ} → n < 65535 → Fits w16 (n + 1)
 one-more h = omega (arith, h)
 
@@ -44,6 +48,12 @@ add-left c = sum (c .before .before) (c .before .before .pre .inside .0)
 
 add-there : tie.Need-add-there
 add-there c = sum (c .before .before .before) (c .before .before .before .pre .inside .1)
+
+mul-locked : tie.Need-mul-locked
+mul-locked c = twice (c .before .before .before .before) _ _ (c .before .before .before .before .pre .inside .2)
+
+mul-staying : tie.Need-mul-staying
+mul-staying c = twice (c .before .before .before .before .before) _ _ (c .before .before .before .before .before .pre .inside .2)
 
 add-locked : tie.Need-add-locked
 add-locked c = sum (c .before .before .before .before) (c .before .before .before .before .pre .inside .2)
@@ -106,7 +116,7 @@ mul-scratch-3 : tie.Need-mul-scratch-3
 mul-scratch-3 c = double (c .before .before .before .before .before .before .before .before .before .before .before) (c .before .before .before .before .before .before .before .before .before .before .before .pre .inside .2)
 
 slice-write-scratch-3 : tie.Need-slice-write-scratch-3
-slice-write-scratch-3 c = let a = c .before .before .before .before .before .before .before .before .before .before .before .args in after-second (a .way) (a .j) (a .scratch .now) (a .way .locked + a .j) (c .before .before .before .before .before .before .before .before .before .before .before .pre .inside .2)
+slice-write-scratch-3 c = let a = c .before .before .before .before .before .before .before .before .before .before .before .args in after-second (a .way) (a .j) (a .scratch .now) (a .way .there + a .j + 2 * a .way .recipes) (c .before .before .before .before .before .before .before .before .before .before .before .pre .inside .2)
 
 same-length : tie.Need-same-length
 unfolding recount
@@ -123,7 +133,9 @@ recount-one-spec =
     (tie.spec
     add-left
     add-there
+    mul-locked
     add-locked
+    mul-staying
     add-staying
     mul-f
     slice-read-f

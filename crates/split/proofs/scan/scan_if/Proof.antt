@@ -1,9 +1,9 @@
 -- `scan::scan_if` meets its contract. Assumes nothing.
 use mathlib.Core.Path.{sym}
 use native.Mathlib.Omega.{arith}
-use lib.ListN.{length}
+use lib.ListN.{length, take}
 use Rattle.rules.specs.Move.{State}
-use Rattle.tables.specs.Zones.{part, stateOf}
+use Rattle.tables.specs.Zones.{stateOf}
 use Rattle.split.specs.Scanning.{scanned}
 use Rattle.split.proofs.Lasting.{Scannable, near-room, scan-none, scan-done, scan-fits}
 use borrow.Author.Needs.{needs}
@@ -15,7 +15,7 @@ entry c = c .before .before .before .before .before .before
 
 -- the state that the scan sees
 abbrev state : tie.Start → State
-state s = stateOf (s .args .sides .now) (part (s .args .way .locks) (s .args .way .files) (s .args .scratch .now))
+state s = stateOf (s .args .sides .now) (take (s .args .way .files) (s .args .scratch .now))
 
 -- the scan has its place in the lists, and its visits fit
 fits : (c : tie.Else1) → Scannable (scanned (entry c .args .gains .now) (entry c .args .recipes .now) (entry c .args .kinds .now) (entry c .args .p)) (length (entry c .args .pins .now))

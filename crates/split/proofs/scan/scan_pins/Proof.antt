@@ -5,25 +5,24 @@ use native.Mathlib.Omega.{arith}
 use borrow.Author.Needs.{needs}
 use lib.IntN.{ℤ, pos}
 use lib.ListN.{length, getD, take}
-use lib.Seq.{take-all}
+use lib.Seq.{take-all, getD-take}
 use mir.Syntax.{w32}
 use mir.Val.{toZ, ofZ}
 use Rattle.rules.specs.Move.{State, scanPins}
 use Rattle.rules.proofs.GainKept.{scan-length}
 use Rattle.rules.proofs.Signed.{abs}
-use Rattle.tables.specs.Zones.{part, stateOf}
+use Rattle.tables.specs.Zones.{stateOf}
 use Rattle.split.proofs.Shifts.{same-back, mag-back}
-use Rattle.tables.proofs.Parts.{part-entry}
 use Rattle.split.proofs.ScanLaws.{scan-pin, scan-room}
 use Rattle.split.proofs.scan.scan_pins.Statement.{statement}
 use Rattle.split.proofs.scan.scan_pins.Tie as tie
 
 abbrev Inv-loop : tie.InvT-loop
-Inv-loop gains₀ sides scratch pins kind there left locks k₀ gains k =
-    (k ≤ length pins) × (gains ≡ scanPins (stateOf sides (part locks (length gains₀) scratch)) there kind (take k pins) gains₀)
+Inv-loop gains₀ sides scratch pins kind there left k₀ gains k =
+    (k ≤ length pins) × (gains ≡ scanPins (stateOf sides (take (length gains₀) scratch)) there kind (take k pins) gains₀)
 
 abbrev μ-loop : tie.MeasureT-loop
-μ-loop gains₀ sides scratch pins kind there left locks k₀ gains k = length pins - k
+μ-loop gains₀ sides scratch pins kind there left k₀ gains k = length pins - k
 
 abbrev At : Type 0
 At = tie.At-loop Inv-loop μ-loop
@@ -38,7 +37,7 @@ abbrev entry : At → tie.Start Inv-loop μ-loop
 entry c = c .before .before .before .before
 
 abbrev stateAt : tie.Start Inv-loop μ-loop → State
-stateAt s = stateOf (s .args .sides .now) (part (s .args .way .locks) (length (s .args .gains .now)) (s .args .scratch .now))
+stateAt s = stateOf (s .args .sides .now) (take (length (s .args .gains .now)) (s .args .scratch .now))
 
 -- in a turn: the pin's file, and its gain
 abbrev F : In → ℕ
@@ -66,12 +65,12 @@ room c =
     (c .loop-test .taken) (c .before .loop .inv .1) (s .pre .1 .1 .1) (F c)
 
 -- the lock that is handed on, and the gain, are the file's
-lock : (w : Wide) → getD (entry (w .before .before .before) .args .scratch .now) (entry (w .before .before .before) .args .way .locks + w .wide .result) 0
+lock : (w : Wide) → getD (entry (w .before .before .before) .args .scratch .now) (w .wide .result) 0
     ≡ getD (stateAt (entry (w .before .before .before)) .locks) (F (w .before .before)) 0
 lock w =
     let s = entry (w .before .before .before) in
-    ap (λ (f : ℕ). getD (s .args .scratch .now) (s .args .way .locks + f) 0) (w .wide .ensures)
-    ∙ sym (part-entry (s .args .way .locks) (length (s .args .gains .now)) (s .args .scratch .now) (F (w .before .before)) (file (w .before .before)))
+    ap (λ (f : ℕ). getD (s .args .scratch .now) f 0) (w .wide .ensures)
+    ∙ sym (getD-take (length (s .args .gains .now)) (s .args .scratch .now) (F (w .before .before)) 0 (file (w .before .before)))
 
 handed : (w : Wide) → toZ w32 (ofZ w32 (getD (w .before .before .before .loop .gains) (w .wide .result) (pos 0))) ≡ G (w .before .before)
 handed w = rw (w .wide .ensures) (same-back (G (w .before .before)) (room (w .before .before)))
@@ -98,9 +97,6 @@ mul-shifted c = omega (arith, inside c)
 slice-copy-out-shifted : tie.Need-slice-copy-out-shifted Inv-loop μ-loop
 slice-copy-out-shifted c = omega (arith, inside c, long (c .before .before .before))
 
-add-shifted : tie.Need-add-shifted Inv-loop μ-loop
-add-shifted c = omega (arith, inside (c .before), entry (c .before .before .before .before) .pre .1 .1 .0)
-
 mul-shifted-2 : tie.Need-mul-shifted-2 Inv-loop μ-loop
 mul-shifted-2 c = omega (arith, inside (c .before), entry (c .before .before .before .before) .pre .1 .1 .0, entry (c .before .before .before .before) .good)
 
@@ -116,8 +112,8 @@ shared-slice-read-shifted-2 c = let w = c .before .before .before in omega (arit
 shifted-requires : tie.Need-shifted-requires Inv-loop μ-loop
 shifted-requires c κs = let w = c .before .before .before in rw (handed w) (room (w .before .before))
 
-mul-t25 : tie.Need-mul-t25 Inv-loop μ-loop
-mul-t25 c = omega (arith, inside (c .before .before .before .before))
+mul-t23 : tie.Need-mul-t23 Inv-loop μ-loop
+mul-t23 c = omega (arith, inside (c .before .before .before .before))
 
 slice-set-from-gains : tie.Need-slice-set-from-gains Inv-loop μ-loop
 slice-set-from-gains c = let w = c .before .before .before .before in omega (arith, inside w, long (w .before .before .before))
@@ -160,13 +156,12 @@ scan-pins-spec =
     wide-requires
     mul-shifted
     slice-copy-out-shifted
-    add-shifted
     mul-shifted-2
     shared-slice-read-shifted
     mul-shifted-3
     shared-slice-read-shifted-2
     shifted-requires
-    mul-t25
+    mul-t23
     slice-set-from-gains
     add-k
     loop-less

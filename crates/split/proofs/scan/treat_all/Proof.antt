@@ -3,11 +3,11 @@ use mathlib.Core.Path.{_≡_, refl, ap, _∙_}
 use Prim.Native.Nat.{ℕ, _+_, _-_, _≤_, _<_}
 use mathlib.Core.List.{List}
 use native.Mathlib.Omega.{arith}
-use lib.ListN.{length, getD}
+use lib.ListN.{length, getD, take}
 use Rattle.rules.specs.Lists.{allBelow}
 use Rattle.rules.specs.Job.{viewOf}
 use Rattle.rules.specs.Move.{State}
-use Rattle.tables.specs.Zones.{part, stateOf}
+use Rattle.tables.specs.Zones.{stateOf}
 use Rattle.split.specs.Scanning.{Scanned, scanned, scanIf, Treated, treated}
 use Rattle.split.proofs.Turns.{Turn, turn-first, turn-last, turn-treatable, own-below, seen-long, first-fits, second-near, second-fits, turn-more}
 use Rattle.split.proofs.scan.treat_all.Statement.{statement}
@@ -15,7 +15,7 @@ use Rattle.split.proofs.scan.treat_all.Tie as tie
 
 abbrev Inv-loop : tie.InvT-loop
 Inv-loop gains₀ recipes₀ kinds₀ scratch₀ sides bounds pins a e way q₀ i₀ gains recipes kinds scratch q i =
-    Turn (stateOf sides (part (way .locks) (way .files) scratch₀)) way (viewOf bounds pins) a e (treated scratch₀ gains₀ recipes₀ kinds₀ q₀) i (treated scratch gains recipes kinds q)
+    Turn (stateOf sides (take (way .files) scratch₀)) way (viewOf bounds pins) a e (treated scratch₀ gains₀ recipes₀ kinds₀ q₀) i (treated scratch gains recipes kinds q)
 
 abbrev μ-loop : tie.MeasureT-loop
 μ-loop gains₀ recipes₀ kinds₀ scratch₀ sides bounds pins a e way q₀ i₀ gains recipes kinds scratch q i = e - i
@@ -29,9 +29,13 @@ At = tie.At-loop Inv-loop μ-loop
 abbrev entry : At → Start
 entry c = c .before .before .before .before .before .before .before
 
+-- the locks lie below the cells' end
+reach : (s : Start) → s .args .way .files ≤ s .args .e
+reach s = omega (arith, s .pre .0)
+
 -- what the function came with, and what stands at a turn
 abbrev st : Start → State
-st s = stateOf (s .args .sides .now) (part (s .args .way .locks) (s .args .way .files) (s .args .scratch .now))
+st s = stateOf (s .args .sides .now) (take (s .args .way .files) (s .args .scratch .now))
 
 abbrev look : Start → ℕ → List ℕ
 look s = viewOf (s .args .bounds .now) (s .args .pins .now)
@@ -70,15 +74,15 @@ module _ (r : tie.After-recount-one Inv-loop μ-loop) where
 
   -- what both scans ask
   below : allBelow (s .args .way .files) (v .view .result .now)
-  below = own-below (c .loop .inv) more (s .pre .0 .2) (s .pre .1 .0 .2) own (r .recount-one .ensures .1) (r .recount-one .ensures .0)
+  below = own-below (c .loop .inv) more (reach s) (s .pre .1 .0 .2) own (r .recount-one .ensures .1) (r .recount-one .ensures .0)
 
-  long : s .args .way .locks + s .args .way .files ≤ length (r .recount-one .last .0)
-  long = seen-long (c .loop .inv) more (s .pre .0 .2) (s .pre .1 .0 .2) own (r .recount-one .ensures .1) (r .recount-one .ensures .0)
+  long : s .args .way .files ≤ length (r .recount-one .last .0)
+  long = seen-long (c .loop .inv) more (reach s) (s .pre .1 .0 .2) own (r .recount-one .ensures .1) (r .recount-one .ensures .0)
 
   -- a scan as the code makes it
   abbrev scan : ℕ → Scanned → Scanned
   scan kind x =
-      scanIf (stateOf (s .args .sides .now) (part (s .args .way .locks) (s .args .way .files) (r .recount-one .last .0))) (s .args .way .side) j (v .view .result .now) kind x
+      scanIf (stateOf (s .args .sides .now) (take (s .args .way .files) (r .recount-one .last .0))) (s .args .way .side) j (v .view .result .now) kind x
 
 -- ---- and once the first scan is made
 
@@ -95,7 +99,7 @@ module _ (f : tie.After-scan-if Inv-loop μ-loop) where
 loop-holds : tie.Need-loop-holds Inv-loop μ-loop
 loop-holds c =
     let s = c .before .before .before .before .before .before in
-    turn-first {st = st s} {look = look s} (s .pre .0 .1) refl (s .pre .1 .1 .0) (s .pre .1 .1 .1 .0)
+    turn-first {st = st s} {look = look s} (s .pre .0 .2) refl (s .pre .1 .1 .0) (s .pre .1 .1 .1 .0)
 
 mul-j : tie.Need-mul-j Inv-loop μ-loop
 mul-j c = omega (arith, inside c, entry (c .before) .good .1 .1 .1 .0)
@@ -114,14 +118,14 @@ recount-one-requires c κs =
     let i = c .before .before .before .before in
     let a = i .before in
     let s = entry a in
-    turn-treatable (a .loop .inv) (i .loop-test .taken) (s .pre .0 .2) (s .pre .1 .0 .2) .counts
+    turn-treatable (a .loop .inv) (i .loop-test .taken) (reach s) (s .pre .1 .0 .2) .counts
 
 scan-if-requires : tie.Need-scan-if-requires Inv-loop μ-loop
 scan-if-requires t κs =
     let r = t .before .before .before .before .before .before in
     let c = c r in
     let s = s r in
-    let fits = first-fits (c .loop .inv) (more r) (s .pre .0 .2) (s .pre .1 .0 .2) (own r) (r .recount-one .ensures .1) (r .recount-one .ensures .0) (s .pre .1 .1 .1 .1) in
+    let fits = first-fits (c .loop .inv) (more r) (reach s) (s .pre .1 .0 .2) (own r) (r .recount-one .ensures .1) (r .recount-one .ensures .0) (s .pre .1 .1 .1 .1) in
     (s .pre .0 .0, (below r, ((c .loop .inv .later .gains ∙ s .pre .1 .0 .0, s .pre .1 .0 .1, long r), (c .loop .inv .near, fits))))
 
 scan-if-requires-2 : tie.Need-scan-if-requires-2 Inv-loop μ-loop
@@ -130,8 +134,8 @@ scan-if-requires-2 t κs =
     let r = r f in
     let c = c r in
     let s = s r in
-    let near = second-near (c .loop .inv) (more r) (s .pre .0 .2) (s .pre .1 .0 .2) (own r) (r .recount-one .ensures .1) (r .recount-one .ensures .0) {x = made f} (first f) in
-    let fits = second-fits (c .loop .inv) (more r) (s .pre .0 .2) (s .pre .1 .0 .2) (own r) (r .recount-one .ensures .1) (r .recount-one .ensures .0) {x = made f} (first f) (s .pre .1 .1 .1 .1) in
+    let near = second-near (c .loop .inv) (more r) (reach s) (s .pre .1 .0 .2) (own r) (r .recount-one .ensures .1) (r .recount-one .ensures .0) {x = made f} (first f) in
+    let fits = second-fits (c .loop .inv) (more r) (reach s) (s .pre .1 .0 .2) (own r) (r .recount-one .ensures .1) (r .recount-one .ensures .0) {x = made f} (first f) (s .pre .1 .1 .1 .1) in
     (s .pre .0 .0, (below r, ((f .scan-if .kept .0 ∙ c .loop .inv .later .gains ∙ s .pre .1 .0 .0, s .pre .1 .0 .1, long r), (near, fits))))
 
 add-i : tie.Need-add-i Inv-loop μ-loop
@@ -147,7 +151,7 @@ loop-again t =
     let r = r f in
     let c = c r in
     let s = s r in
-    turn-more (c .loop .inv) (more r) (s .pre .0 .2) (s .pre .1 .0 .2) (own r) (r .recount-one .ensures .1) (r .recount-one .ensures .0) {x = made f} (first f)
+    turn-more (c .loop .inv) (more r) (reach s) (s .pre .1 .0 .2) (own r) (r .recount-one .ensures .1) (r .recount-one .ensures .0) {x = made f} (first f)
     {x' = scanned (g .last .0) (g .last .1 .0) (g .last .1 .1 .0) (g .result)} (g .ensures)
 
 same-length : tie.Need-same-length Inv-loop μ-loop

@@ -6,17 +6,11 @@ use Rattle.stored.proofs.block.is_laid_out.Tie as tie
 word-at-requires : tie.Need-word-at-requires
 word-at-requires c κs = omega arith
 
-cast-named : tie.Need-cast-named
-cast-named c = omega arith
-
 element-copy-out-of-kind : tie.Need-element-copy-out-of-kind
 element-copy-out-of-kind c = omega arith
 
-element-copy-out-byte : tie.Need-element-copy-out-byte
-element-copy-out-byte c = omega arith
-
-byte-requires : tie.Need-byte-requires
-byte-requires c κs = tt
+element-copy-out-counted : tie.Need-element-copy-out-counted
+element-copy-out-counted c = omega arith
 
 has-left-over-requires : tie.Need-has-left-over-requires
 has-left-over-requires c κs = tt
@@ -26,17 +20,15 @@ has-bad-second-requires c κs = tt
 
 returns : tie.Need-returns
 unfolding laidOut
-returns c = rw (← c .before .before .before .before .before .word-at .ensures, ← c .before .before .byte .ensures .0, ← c .before .has-left-over .ensures, ← c .has-bad-second .ensures)
+returns c = rw (← c .before .before .before .before .word-at .ensures, ← c .before .has-left-over .ensures, ← c .has-bad-second .ensures)
 
 pub is-laid-out-spec : {M : Type 1} → statement M
 is-laid-out-spec =
     tie.close
     (tie.spec
     word-at-requires
-    cast-named
     element-copy-out-of-kind
-    element-copy-out-byte
-    byte-requires
+    element-copy-out-counted
     has-left-over-requires
     has-bad-second-requires
     returns)

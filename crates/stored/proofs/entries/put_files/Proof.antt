@@ -17,6 +17,12 @@ abbrev μ-loop : tie.MeasureT-loop
 loop-holds : tie.Need-loop-holds Inv-loop μ-loop
 loop-holds c = (omega arith, put-none _ _ _, put-none _ _ _, put-none _ _ _)
 
+cast-at : tie.Need-cast-at Inv-loop μ-loop
+cast-at c = omega arith
+
+add-at : tie.Need-add-at Inv-loop μ-loop
+add-at c = omega arith
+
 mul-value-in : tie.Need-mul-value-in Inv-loop μ-loop
 mul-value-in c = omega arith
 
@@ -32,26 +38,17 @@ mul-value-in-2 c = omega arith
 value-in-requires-2 : tie.Need-value-in-requires-2 Inv-loop μ-loop
 value-in-requires-2 c κs = omega arith
 
-add-sizes : tie.Need-add-sizes Inv-loop μ-loop
-add-sizes c = omega arith
-
 mul-sizes : tie.Need-mul-sizes Inv-loop μ-loop
 mul-sizes c = omega arith
 
 slice-write-sizes : tie.Need-slice-write-sizes Inv-loop μ-loop
 slice-write-sizes c = omega (arith, c .before .before .before .loop .inv .1 .long)
 
-add-sides : tie.Need-add-sides Inv-loop μ-loop
-add-sides c = omega arith
-
 mul-sides : tie.Need-mul-sides Inv-loop μ-loop
 mul-sides c = omega arith
 
 slice-write-sides : tie.Need-slice-write-sides Inv-loop μ-loop
 slice-write-sides c = omega (arith, c .before .before .before .loop .inv .2 .long)
-
-add-marks : tie.Need-add-marks Inv-loop μ-loop
-add-marks c = omega arith
 
 mul-marks : tie.Need-mul-marks Inv-loop μ-loop
 mul-marks c = omega arith
@@ -97,18 +94,17 @@ put-files-spec =
     Inv-loop
     μ-loop
     loop-holds
+    cast-at
+    add-at
     mul-value-in
     add-value-in
     value-in-requires
     mul-value-in-2
     value-in-requires-2
-    add-sizes
     mul-sizes
     slice-write-sizes
-    add-sides
     mul-sides
     slice-write-sides
-    add-marks
     mul-marks
     slice-write-marks
     add-f

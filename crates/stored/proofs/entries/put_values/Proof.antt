@@ -16,11 +16,14 @@ abbrev μ-loop : tie.MeasureT-loop
 loop-holds : tie.Need-loop-holds Inv-loop μ-loop
 loop-holds c = (omega arith, put-none _ _ _)
 
+cast-at : tie.Need-cast-at Inv-loop μ-loop
+cast-at c = omega arith
+
+add-at : tie.Need-add-at Inv-loop μ-loop
+add-at c = omega arith
+
 value-in-requires : tie.Need-value-in-requires Inv-loop μ-loop
 value-in-requires c κs = omega arith
-
-add-into : tie.Need-add-into Inv-loop μ-loop
-add-into c = omega arith
 
 mul-into : tie.Need-mul-into Inv-loop μ-loop
 mul-into c = omega arith
@@ -53,8 +56,9 @@ put-values-spec =
     Inv-loop
     μ-loop
     loop-holds
+    cast-at
+    add-at
     value-in-requires
-    add-into
     mul-into
     slice-write-into
     add-v

@@ -82,7 +82,7 @@ count-recipe-requires c κs =
     let b = w .wide2 .result in
     let f = fit w in
     let l = part-length a (b - a) (s .args .pins .now) (omega arith) in
-    (omega (arith, s .pre .0 .fewPins), omega arith, omega arith)
+    (omega (arith, s .pre .0 .fewPins), omega arith, omega (arith, s .pre .0 .fewRecipes), omega arith)
 
 add-j : tie.Need-add-j Inv-loop μ-loop
 add-j c = search needs

@@ -8,9 +8,8 @@ use lib.Dec.{eqb}
 use borrow.Author.Needs.{needs}
 use Rattle.rules.specs.Lists.{bit}
 use Rattle.rules.specs.Split.{onSide}
-use Rattle.rules.specs.Move.{free}
+use Rattle.rules.specs.Move.{free, lockedOn}
 use Rattle.rules.proofs.Count.{Summed, summed-none, summed-bit, summed-entries}
-use Rattle.rules.proofs.Locked.{lockedOn}
 use Rattle.tables.specs.Zones.{stateOf}
 use Rattle.tables.proofs.counts.locked_on.Statement.{statement}
 use Rattle.tables.proofs.counts.locked_on.Tie as tie

@@ -2,6 +2,7 @@
 use mathlib.Core.Path.{refl}
 use Prim.Native.Nat.{_≤_}
 use native.Mathlib.Omega.{arith}
+use borrow.Author.Needs.{needs}
 use Rattle.tables.proofs.LentWord.{none-over, some-over}
 use Rattle.tables.proofs.lent.lists_fit.⟦Job·MOST-FILES⟧-asked.Lts as files
 use Rattle.tables.proofs.lent.lists_fit.⟦Job·MOST-RECIPES⟧-asked.Lts as recipes
@@ -16,40 +17,32 @@ few c = none-over _ _ _ _ _ _ (c .if1 .left)
 returns : tie.Need-returns
 returns c = λ h k l. absurd (some-over (files.answer tt tt) (recipes.answer tt tt) (pins.answer tt tt) (c .before .args .c) (c .before .args .n) (c .before .args .p) (c .if1 .taken) h k l)
 
-mul-result : tie.Need-mul-result
-mul-result c = omega (arith, few c)
+cast-t16 : tie.Need-cast-t16
+cast-t16 c = omega (arith, few c)
 
-mul-result-2 : tie.Need-mul-result-2
-mul-result-2 c = omega (arith, few c)
+cast-t17 : tie.Need-cast-t17
+cast-t17 c = omega (arith, few c)
 
-mul-result-3 : tie.Need-mul-result-3
-mul-result-3 c = omega (arith, few c)
+cast-t18 : tie.Need-cast-t18
+cast-t18 c = omega (arith, few c)
 
-add-result : tie.Need-add-result
-add-result c = omega (arith, few c)
+scans-for-requires : tie.Need-scans-for-requires
+scans-for-requires c κs = search needs
 
-mul-result-4 : tie.Need-mul-result-4
-mul-result-4 c = omega (arith, few c)
-
-add-result-2 : tie.Need-add-result-2
-add-result-2 c = omega (arith, few c)
-
-add-result-3 : tie.Need-add-result-3
-add-result-3 c = omega (arith, few c)
+numbers-for-requires : tie.Need-numbers-for-requires
+numbers-for-requires c κs = search needs
 
 returns-2 : tie.Need-returns-2
-returns-2 c = λ h k l. refl
+returns-2 c = λ h k l. rw (c .before .before .before .before .before .before .before .scans-for .ensures .0, c .before .before .before .before .before .before .numbers-for .ensures .0) refl
 
 pub lists-fit-spec : {M : Type 1} → statement M
 lists-fit-spec =
     tie.close
     (tie.spec
     returns
-    mul-result
-    mul-result-2
-    mul-result-3
-    add-result
-    mul-result-4
-    add-result-2
-    add-result-3
+    cast-t16
+    cast-t17
+    cast-t18
+    scans-for-requires
+    numbers-for-requires
     returns-2)

@@ -1,104 +1,127 @@
 -- `start::prepare` meets its contract: each zone keeps what the step that it was lent to put there. Assumes nothing.
-use mathlib.Core.Path.{_≡_, refl, sym, _∙_, subst}
+use mathlib.Core.Path.{_≡_, refl, sym, ap, _∙_, subst}
 use mathlib.Core.List.{List}
 use lib.IntN.{ℤ}
-use Prim.Native.Nat.{ℕ, _-_}
+use Prim.Native.Nat.{ℕ, _+_, _*_, _≤_, _<_, _^_}
 use native.Mathlib.Omega.{arith}
 use lib.ListN.{length}
 use borrow.Author.Needs.{needs}
 use Rattle.rules.specs.Pass.{startGains}
-use Rattle.tables.specs.Zones.{stateOf}
+use Rattle.tables.specs.declared.zones.Zones.{Zones}
+use Rattle.tables.specs.Zones.{countsAt, extentOf, stateOf, Counts}
 use Rattle.tables.specs.Building.{viewsOf}
 use Rattle.tables.specs.LayingOut.{Prepared}
-use Rattle.tables.proofs.LentParts.{TwoZones, ThreeZones, threeZones, cells-room, locks-room, counts-room, zones-long, zones-fit, zones-beyond, zones-cells, zones-starts, zones-locks, zones-room, zones-counts}
+use Rattle.tables.proofs.Sides.{zones-are}
+use Rattle.tables.proofs.LentParts.{Begins, second-in, third-in, OneZone, TwoZones, ThreeZones, threeZones, locks-room, cells-room, counts-room, zones-long, zones-fit, zones-beyond, zones-locks, zones-starts, zones-cells, zones-room, zones-counts}
 use Rattle.tables.proofs.start.prepare.Statement.{statement}
 use Rattle.tables.proofs.start.prepare.Tie as tie
 
--- once the locks are filled in, and once the counts are
-abbrev Half : Type 0
-Half = tie.After-copy
+-- ---- once it is known where the zones begin
+
+module _ (z : tie.After-zones-of) where
+  abbrev s : tie.Start
+  s = z .before .before .before .before .before .before .before
+
+  abbrev C : ℕ
+  C = length (s .args .sides .now)
+
+  abbrev P : ℕ
+  P = length (s .args .pins .now)
+
+  abbrev N : ℕ
+  N = z .before .recipe-count .result
+
+  abbrev at : Zones
+  at = z .zones-of .result
+
+  begins : Begins C P N (at .cells) (at .room) (at .counts) (at .counts + 4 * N)
+  begins =
+      let e = zones-are C P (z .zones-of .ensures) in
+      record { cells = e .0; room = e .3; counts = e .4; end = ap (λ (i : ℕ). i + 4 * N) (e .4) }
+
+  -- they stand in the scratch, and are small numbers
+  fit : countsAt C P + 4 * N ≤ length (s .args .scratch .now)
+  fit = omega (arith, s .pre .1 .1 .0, z .before .recipe-count .ensures)
+
+  few : countsAt C P + 4 * N < 2 ^ 32
+  few = omega (arith, z .before .recipe-count .ensures, s .pre .0 .fewFiles, s .pre .0 .fewPins, s .pre .0 .fewRecipes)
+
+-- ---- once each zone is filled
+
+abbrev Copied : Type 0
+Copied = tie.After-copy
+
+abbrev Built : Type 0
+Built = tie.After-build-cells
 
 abbrev Whole : Type 0
 Whole = tie.After-fill-counts
 
-abbrev half : Whole → Half
-half c = c .before .before .before .before
+abbrev zoned : Copied → tie.After-zones-of
+zoned c = c .before .before
 
-abbrev start : Half → tie.Start
-start c = c .before .before .before .before .before .before .before .before .before .before .before .before
+one-zone : (c : Copied)
+    → (let z = zoned c in OneZone (C z) (P z) (N z) (at z .cells) (at z .room) (at z .counts) (at z .counts + 4 * N z) (s z .args .scratch .now) (c .copy .last .0))
+one-zone c = record { begins = begins (zoned c); fits = fit (zoned c); first = c .copy .kept .0 }
 
-abbrev N : Half → ℕ
-N c = c .before .before .before .before .before .before .recipe-count .result
+abbrev copied : Built → Copied
+copied c = c .before .before .before .before
 
-abbrev cells : Half → List ℕ
-cells c = c .before .before .before .before .build-cells .last .0
+two-zones : (c : Built)
+    → (let z = zoned (copied c) in TwoZones (C z) (P z) (N z) (at z .cells) (at z .room) (at z .counts) (at z .counts + 4 * N z) (s z .args .scratch .now) (copied c .copy .last .0) (c .build-cells .last .0))
+two-zones c = record { before = one-zone (copied c); second = c .build-cells .kept .0 }
 
-two-zones : (c : Half) → TwoZones (length (start c .args .sides .now)) (length (start c .args .pins .now)) (N c) (start c .args .scratch .now) (cells c) (c .copy .last .0)
-two-zones c = record { fits = omega (arith, start c .pre .1 .1 .0, c .before .before .before .before .before .before .recipe-count .ensures); first = c .before .before .before .before .build-cells .kept .0; second = c .copy .kept .0 }
+module _ (c : Whole) where
+  abbrev built : Built
+  built = c .before .before .before .before
 
-abbrev begun : Whole → tie.Start
-begun c = start (half c)
+  abbrev z : tie.After-zones-of
+  z = zoned (copied built)
 
-abbrev scratch : Whole → List ℕ
-scratch c =
-    let x = begun c .args in
-    threeZones (length (x .sides .now)) (length (x .pins .now)) (N (half c)) (x .scratch .now) (cells (half c)) (half c .copy .last .0) (c .fill-counts .last .0)
+  abbrev args : tie.Start
+  args = s z
 
-three-zones : (c : Whole)
-    → ThreeZones (length (begun c .args .sides .now)) (length (begun c .args .pins .now)) (N (half c)) (begun c .args .scratch .now) (cells (half c)) (half c .copy .last .0) (c .fill-counts .last .0)
-three-zones c = record { before = two-zones (half c); third = c .fill-counts .kept .0 }
+  abbrev scratch : List ℕ
+  scratch =
+      threeZones (at z .cells) (at z .room) (at z .counts) (at z .counts + 4 * N z) (args .args .scratch .now) (copied built .copy .last .0) (built .build-cells .last .0) (c .fill-counts .last .0)
 
-prepared : (c : Whole) (gains : List ℤ)
-    → gains ≡ startGains (viewsOf (begun c .args .bounds .now) (begun c .args .pins .now)) (length (begun c .args .sides .now)) (stateOf (begun c .args .sides .now) (begun c .args .marks .now))
-    → Prepared (begun c .args .bounds .now) (begun c .args .pins .now) (begun c .args .sides .now) (begun c .args .marks .now) (begun c .args .scratch .now) (scratch c) gains (N (half c))
-prepared c gains e = record {
-  starts = zones-starts (three-zones c) (begun c .args .pins .now) refl (half c .before .before .before .before .build-cells .ensures .1);
-  cells = zones-cells (three-zones c) (half c .before .before .before .before .build-cells .ensures .0);
-  locks = zones-locks (three-zones c) ∙ half c .copy .ensures;
-  room = zones-room (three-zones c);
-  counts = zones-counts (three-zones c) (c .fill-counts .ensures);
-  long = zones-long (three-zones c);
-  beyond = zones-beyond (three-zones c);
-  starting = e;
-}
+  three-zones : ThreeZones (C z) (P z) (N z) (at z .cells) (at z .room) (at z .counts) (at z .counts + 4 * N z) (args .args .scratch .now) (copied built .copy .last .0) (built .build-cells .last .0) (c .fill-counts .last .0)
+  three-zones = record { before = two-zones built; third = c .fill-counts .kept .0 }
+
+  prepared : (gains : List ℤ)
+      → gains ≡ startGains (viewsOf (args .args .bounds .now) (args .args .pins .now)) (C z) (stateOf (args .args .sides .now) (args .args .marks .now))
+      → Prepared (args .args .bounds .now) (args .args .pins .now) (args .args .sides .now) (args .args .marks .now) (args .args .scratch .now) scratch gains (N z)
+  prepared gains e = record {
+    locks = zones-locks three-zones ∙ copied built .copy .ensures;
+    starts = zones-starts three-zones (args .pre .0) (built .build-cells .ensures);
+    cells = zones-cells three-zones (args .pre .0) (built .build-cells .ensures);
+    room = zones-room three-zones;
+    counts = zones-counts three-zones (c .fill-counts .ensures);
+    long = zones-long three-zones;
+    beyond = zones-beyond three-zones;
+    starting = e;
+  }
 
 recipe-count-requires : tie.Need-recipe-count-requires
 recipe-count-requires c κs = search needs
 
-mul-locks : tie.Need-mul-locks
-mul-locks c = search needs
+cast-t15 : tie.Need-cast-t15
+cast-t15 c = search needs
 
-add-locks : tie.Need-add-locks
-add-locks c = search needs
+cast-t16 : tie.Need-cast-t16
+cast-t16 c = search needs
 
-add-room : tie.Need-add-room
-add-room c = search needs
+cast-t18 : tie.Need-cast-t18
+cast-t18 c = search needs
 
-add-counts : tie.Need-add-counts
-add-counts c = search needs
+zones-of-requires : tie.Need-zones-of-requires
+zones-of-requires c κs = search needs
 
 mul-end : tie.Need-mul-end
-mul-end c = search needs
+mul-end c = omega (arith, few c)
 
 add-end : tie.Need-add-end
-add-end c = search needs
-
-sub-build-cells : tie.Need-sub-build-cells
-sub-build-cells c = search needs
-
-part-build-cells-start : tie.Need-part-build-cells-start
-part-build-cells-start c = search needs
-
-part-build-cells-end : tie.Need-part-build-cells-end
-part-build-cells-end c = search needs
-
-build-cells-requires : tie.Need-build-cells-requires
-build-cells-requires c κs =
-    let s = c .before .before .before .before .before .before .before in
-    (s .pre .0, cells-room (length (s .args .sides .now)) (length (s .args .pins .now)) (length (s .args .bounds .now) - 1) (s .args .scratch .now) (s .pre .1 .1 .0))
-
-mul-copy : tie.Need-mul-copy
-mul-copy c = search needs
+add-end c = omega (arith, begins c, few c)
 
 sub-copy : tie.Need-sub-copy
 sub-copy c = search needs
@@ -107,47 +130,56 @@ part-copy-start : tie.Need-part-copy-start
 part-copy-start c = search needs
 
 part-copy-end : tie.Need-part-copy-end
-part-copy-end c = search needs
+part-copy-end c = omega (arith, begins c, fit c)
 
 copy-requires : tie.Need-copy-requires
-copy-requires c κs =
-    let b = c .before .before .before in
-    let s = b .before .before .before .before .before .before .before .before in
-    locks-room (length (s .args .sides .now)) (length (s .args .pins .now)) (length (s .args .bounds .now) - 1) (s .args .scratch .now) (s .pre .1 .1 .0) (b .build-cells .last .0) (b .build-cells .kept .0)
-    ∙ sym (s .pre .1 .0 .1)
+copy-requires c κs = locks-room (s (c .before) .args .scratch .now) (begins (c .before)) (fit (c .before)) ∙ sym (s (c .before) .pre .1 .0 .1)
+
+mul-build-cells : tie.Need-mul-build-cells
+mul-build-cells c = omega (arith, begins (zoned (c .before .before)), few (zoned (c .before .before)))
+
+sub-build-cells : tie.Need-sub-build-cells
+sub-build-cells c = omega (arith, second-in (one-zone (c .before .before)))
+
+part-build-cells-start : tie.Need-part-build-cells-start
+part-build-cells-start c = omega (arith, second-in (one-zone (c .before .before)))
+
+part-build-cells-end : tie.Need-part-build-cells-end
+part-build-cells-end c = omega (arith, second-in (one-zone (c .before .before)))
+
+build-cells-requires : tie.Need-build-cells-requires
+build-cells-requires c κs = let w = c .before .before .before in (s (zoned w) .pre .0, cells-room (one-zone w))
 
 mul-fill-counts : tie.Need-mul-fill-counts
-mul-fill-counts c = search needs
+mul-fill-counts c = omega (arith, begins (zoned (copied (c .before .before))), few (zoned (copied (c .before .before))))
 
 sub-fill-counts : tie.Need-sub-fill-counts
-sub-fill-counts c = search needs
+sub-fill-counts c = omega (arith, third-in (two-zones (c .before .before)))
 
 part-fill-counts-start : tie.Need-part-fill-counts-start
-part-fill-counts-start c = search needs
+part-fill-counts-start c = omega (arith, third-in (two-zones (c .before .before)))
 
 part-fill-counts-end : tie.Need-part-fill-counts-end
-part-fill-counts-end c = search needs
+part-fill-counts-end c = omega (arith, third-in (two-zones (c .before .before)))
 
 fill-counts-requires : tie.Need-fill-counts-requires
-fill-counts-requires c κs =
-    let w = c .before .before .before in
-    let pre = start w .pre in
-    (pre .0, (w .before .before .before .before .before .before .recipe-count .ensures, counts-room (two-zones w)))
+fill-counts-requires c κs = let w = c .before .before .before in (s (zoned (copied w)) .pre .0, (zoned (copied w) .before .recipe-count .ensures, counts-room (two-zones w)))
 
 start-gains-requires : tie.Need-start-gains-requires
 start-gains-requires c κs =
     let f = c .before .before .before .before in
-    let s = begun f in (
-      s .pre .0,
+    let pre = args f .pre in
+    let n = z f .before .recipe-count .ensures in (
+      pre .0,
       (
-        (s .pre .1 .0 .0, s .pre .1 .0 .1, half f .before .before .before .before .before .before .recipe-count .ensures),
+        (pre .1 .0 .0, pre .1 .0 .1, ap (λ (i : ℕ). extentOf (C (z f)) i (P (z f))) n),
         (
-          zones-fit (three-zones f),
+          omega (arith, zones-fit (three-zones f), n),
           (
-            s .pre .1 .1 .1,
+            pre .1 .1 .1,
             (
-              zones-cells (three-zones f) (half f .before .before .before .before .build-cells .ensures .0),
-              zones-counts (three-zones f) (c .before .before .before .before .fill-counts .ensures),
+              zones-cells (three-zones f) (pre .0) (built f .build-cells .ensures),
+              subst (λ (i : ℕ). Counts (viewsOf (args f .args .bounds .now) (args f .args .pins .now)) (stateOf (args f .args .sides .now) (args f .args .marks .now)) (countsAt (C (z f)) (P (z f))) i (scratch f)) n (zones-counts (three-zones f) (f .fill-counts .ensures)),
             ),
           ),
         ),
@@ -163,30 +195,30 @@ same-length-2 c = zones-long (three-zones (c .before .before .before .before .be
 returns : tie.Need-returns
 returns c =
     let f = c .before .before .before .before .before .before in
-    let x = begun f .args in
+    let x = args f .args in
     subst (Prepared (x .bounds .now) (x .pins .now) (x .sides .now) (x .marks .now) (x .scratch .now) (scratch f) _)
-    (half f .before .before .before .before .before .before .recipe-count .ensures) (prepared f _ (c .before .start-gains .ensures))
+    (z f .before .recipe-count .ensures) (prepared f _ (c .before .start-gains .ensures))
 
 pub prepare-spec : {M : Type 1} → statement M
 prepare-spec =
     tie.close
     (tie.spec
     recipe-count-requires
-    mul-locks
-    add-locks
-    add-room
-    add-counts
+    cast-t15
+    cast-t16
+    cast-t18
+    zones-of-requires
     mul-end
     add-end
-    sub-build-cells
-    part-build-cells-start
-    part-build-cells-end
-    build-cells-requires
-    mul-copy
     sub-copy
     part-copy-start
     part-copy-end
     copy-requires
+    mul-build-cells
+    sub-build-cells
+    part-build-cells-start
+    part-build-cells-end
+    build-cells-requires
     mul-fill-counts
     sub-fill-counts
     part-fill-counts-start

@@ -1,0 +1,138 @@
+-- What the programs lend is enough for every job that the limits let through. Assumes nothing.
+use mathlib.Core.Path.{_≡_, refl, ap}
+use mathlib.Core.Logic.{_≢_}
+use Prim.Native.Nat.{ℕ, _+_, _-_, _*_, _≤_}
+use mathlib.Core.Bool.{Bool, true, false, not}
+use mathlib.Core.List.{List, [], _∷_, _++_}
+use native.Mathlib.Omega.{arith}
+use lib.Dec.{eqb, ltb, leb}
+use lib.IntN.{pos}
+use lib.ListN.{length, replicate, length-replicate}
+use borrow.Author.Tests.{le-leb, eq-eqb}
+use Rattle.rules.specs.declared.Verdict.{Verdict}
+use Rattle.rules.specs.declared.Header.{Header}
+use Rattle.rules.specs.declared.Figures.{Figures}
+use Rattle.rules.specs.declared.RunFigures.{RunFigures}
+use Rattle.rules.specs.Job.{Job, Limits, fileCount, recipeCount, pinCount, scratchFor, scratchNumbers, fits}
+use Rattle.rules.specs.Check.{done, refuseIf, check2Of, check}
+use Rattle.rules.specs.Stored.{headerOf, blockCount, jobOf, roomy, layoutVerdict, readVerdict}
+use Rattle.rules.specs.Refusals.{Row, row, rows1and2, rows4to6, rows7to9, blockRows, furtherRows}
+use Rattle.rules.specs.Pass.{pass, leaves}
+use Rattle.rules.specs.Run.{run, lastOf, figuresOf, runFiguresOf, Ended}
+use Rattle.rules.specs.Report.{report, allRoom, allLent, prints}
+use Rattle.rules.specs.Trace.{listing, trace, traces}
+use Rattle.rules.specs.Theorems.{LendsEnough}
+use Rattle.rules.proofs.Tests.{and-both}
+use Rattle.rules.proofs.Verdicts.{never-chain}
+use Rattle.rules.proofs.Refusals.{answerOf, answer-append, lacks, row-go, none-given, never-given, rows-seven, further-lacks, rows-read}
+use Rattle.rules.proofs.SoundJob.{ok2-of, ok2}
+use Rattle.rules.proofs.Reading.{read-holds}
+use Rattle.rules.proofs.Proved.{answers}
+
+-- the report of the run of a job that is let through, and the trace of its first pass
+abbrev pub runText : Job → List ℕ
+runText job = report job (runFiguresOf done (pass job (job .sides)) (run job)) (lastOf (pass job (job .sides)) (run job) .sidesAfter)
+
+abbrev pub passText : Limits → Job → List ℕ
+passText most job = let p = pass job (job .sides) in trace job (figuresOf done p (p ∷ [])) (p .sidesAfter) (listing (leaves job (allLent most job) p))
+
+-- a lent list of n entries has room for m
+has-room {ℓ} : {A : Type ℓ} (m n : ℕ) (z : A) → m ≤ n → leb m (length (replicate n z)) ≡ true
+has-room m n z h = le-leb m (length (replicate n z)) (rw (length-replicate n z) h)
+
+module _ (most : Limits) where
+  room-enough : (h : Header) → check2Of most (h .files) (h .recipes) (h .pins) .number ≡ 0 → roomy h (allRoom most) ≡ true
+  room-enough h ok =
+      let r = ok2-of most (h .files) (h .recipes) (h .pins) ok in
+      let files : leb (h .files) (length (allRoom most .sizes)) ≡ true = has-room (h .files) (most .files) 0 (r .0) in
+      and-both (and-both (and-both (and-both files files) files) (has-room (h .recipes + 1) (most .recipes + 1) 0 (omega (arith, r .1)))) (has-room (h .pins) (most .pins) 0 (r .2))
+
+  lent-enough : (job : Job) → fileCount job ≤ most .files → recipeCount job ≤ most .recipes → pinCount job ≤ most .pins → fits job (allLent most job) ≡ true
+  lent-enough job few-files few-recipes few-pins =
+      let c : ℕ = fileCount job in
+      let n : ℕ = recipeCount job in
+      let gains : eqb (length (replicate c (pos 0))) c ≡ true = eq-eqb (length (replicate c (pos 0))) c (length-replicate c (pos 0)) in
+      let files : leb c (length (allLent most job .tried)) ≡ true = has-room c (most .files) 0 few-files in
+      let gained : leb c (length (allLent most job .gained)) ≡ true = has-room c (most .files) (pos 0) few-files in
+      let scans : leb (4 * n) (length (allLent most job .kinds)) ≡ true = has-room (4 * n) (4 * most .recipes) 0 (omega arith) in
+      and-both (and-both (and-both (and-both (and-both (and-both (and-both gains files) gained) files) files) scans) scans)
+      (has-room (scratchFor job) (scratchNumbers (most .pins) (most .files) (most .recipes)) 0 (omega arith))
+
+  -- 3 is no other row's number, and its own is given only after 2
+  module _ (input : List ℕ) where
+    abbrev before : List Row
+    before =
+        let h = headerOf input in
+        (row 20 (ltb (length input) 512) 0 ∷ blockRows h input 0) ++ rows1and2 most (h .files) (h .recipes) (h .pins)
+
+    abbrev own : Row
+    own = row 3 (not (roomy (headerOf input) (allRoom most))) 0
+
+    abbrev later : List Row
+    later =
+        let h = headerOf input in
+        row 20 (not (eqb (length input) (512 * blockCount h))) 0 ∷ (furtherRows h input 1 (blockCount h - 1) ++ rows4to6 (jobOf input))
+
+    never-before : answerOf before .number ≢ 3
+    unfolding lacks
+    never-before = never-given 3 before refl (omega arith)
+
+    never-later : answerOf later .number ≢ 3
+    unfolding lacks
+    never-later =
+        let h : Header = headerOf input in
+        never-given 3 later (further-lacks h input 3 (omega arith) (omega arith) 1 (blockCount h - 1) (rows4to6 (jobOf input)) refl) (omega arith)
+
+    -- where 2 is not given there is room
+    own-passed : answerOf before .number ≡ 0 → own .given ≡ false
+    unfolding lacks
+    own-passed z = ap not (room-enough (headerOf input) (ap (λ (b : Bool). refuseIf b 2 0 .number) (none-given before refl z 4)))
+
+    read-never : readVerdict most input (allRoom most) .number ≢ 3
+    read-never =
+        rw (rows-read most input (allRoom most), answer-append before (own ∷ later))
+        (never-chain 3 (answerOf before) (answerOf (own ∷ later)) never-before (λ z. unfold answerOf in rw (row-go own (answerOf later) (own-passed z)) never-later))
+
+    pub lends-enough : LendsEnough most input
+    lends-enough = record {
+      room = room-enough;
+      lent = λ job ok. let r = ok2 job most ok in lent-enough job (r .0) (r .1) (r .2);
+      read = read-never;
+      made = λ ok.
+          let r = read-holds most input (allRoom most) in
+          let s = r .sound ok in
+          rw (lent-enough (jobOf input) (s .fewFiles) (s .fewRecipes) (s .fewPins), r .adds ok, rows-seven (jobOf input) most)
+          (unfold lacks in never-given 3 (rows7to9 most (jobOf input)) refl (omega arith));
+    }
+
+    -- what the programs print of a job that is read and accepted
+    module _ (read : readVerdict most input (allRoom most) ≡ done) (ok : check most (jobOf input) true ≡ done) where
+      fitting : check most (jobOf input) (fits (jobOf input) (allLent most (jobOf input))) ≡ done
+      fitting =
+          let s = read-holds most input (allRoom most) .sound (ap (λ (v : Verdict). v .number) read) in
+          rw (lent-enough (jobOf input) (s .fewFiles) (s .fewRecipes) (s .fewPins)) ok
+
+      pub prints-run : prints most input ≡ runText (jobOf input)
+      unfolding prints
+      prints-run =
+          let job : Job = jobOf input in
+          let e = answers most job (allLent most job) .runDone (ap (λ (v : Verdict). v .number) fitting) in
+          rw (eq-eqb (readVerdict most input (allRoom most) .number) 0 (ap (λ (v : Verdict). v .number) read), prints)
+          (ap (λ (x : Ended RunFigures). report job (x .answer) (x .sides)) e)
+
+      pub traces-pass : traces most input ≡ passText most (jobOf input)
+      unfolding traces
+      traces-pass =
+          let job : Job = jobOf input in
+          let e = answers most job (allLent most job) .passDone (ap (λ (v : Verdict). v .number) fitting) in
+          rw (eq-eqb (readVerdict most input (allRoom most) .number) 0 (ap (λ (v : Verdict). v .number) read), traces)
+          (ap (λ (x : Ended Figures). trace job (x .answer) (x .sides) (listing (x .lent))) e)
+
+-- reading looks at the limits for 2 and 3 alone: where 2 is not given by two limits, their programs read alike
+pub read-same : (most other : Limits) (input : List ℕ) → let h = headerOf input in
+    check2Of most (h .files) (h .recipes) (h .pins) ≡ done → check2Of other (h .files) (h .recipes) (h .pins) ≡ done
+    → readVerdict most input (allRoom most) ≡ readVerdict other input (allRoom other)
+unfolding readVerdict layoutVerdict
+read-same most other input a b =
+    let h : Header = headerOf input in
+    rw (a, b, room-enough most h (ap (λ (v : Verdict). v .number) a), room-enough other h (ap (λ (v : Verdict). v .number) b)) refl

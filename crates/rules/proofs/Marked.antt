@@ -1,0 +1,82 @@
+-- The marked table, proved of the definitions. Assumes nothing.
+use mathlib.Core.Path.{_≡_, refl, ap, _∙_}
+use Prim.Native.Nat.{ℕ, _≤_}
+use mathlib.Core.List.{List}
+use borrow.Author.Tests.{le-ltb}
+use Rattle.rules.specs.Lists.{total, count, largest, upTo, lowest, bestUpTo, onto, padded, diff}
+use Rattle.rules.specs.Job.{Job, Limits, limitsOf, viewOf, files, views}
+use Rattle.rules.specs.Split.{countOn, isCut, cut, times, alone, together, gain, weight, smax, sizeOn, balanced}
+use Rattle.rules.specs.Check.{done, check1, check2, check3, check4, badPin, check5, check6, check7, check8, check9, check4to6, check7to9, check1to6, check, checkJob}
+use Rattle.rules.specs.Move.{moved, stepsBy, sizeAfter, legal, distAfter, challenge, firstBelow, choose, movesBy, moves, fileOn, kindsIn, kindsOf, scansFrom, scans, endsFrom, visits}
+use Rattle.rules.specs.Pass.{gainsWhen, cutsAfter, cutAt, keeps, standing, gainsAfter, passOf, leaves}
+use Rattle.rules.specs.Run.{passesBy, mostPasses, passes, lastOf, figuresOf, runFiguresOf}
+use Rattle.rules.specs.Stored.{weigh, blockCheck, headerOf, laidOut, blockVerdict, blocksVerdict, jobOf, layoutVerdict, readVerdict}
+use Rattle.rules.specs.Report.{text, digitsIn, spaced, line, refusal, sizeLine, sidesLine, figureLines, report, allRoom, prints}
+use Rattle.rules.specs.Trace.{signed, gainWords, scanLines, moveLines, movesLines, passLines, trace, traces}
+use Rattle.rules.specs.Marked.{chain, pair, valueBytes, chainBytes, pairBytes, Marked}
+use Rattle.rules.proofs.Lending.{runText, passText, prints-run, traces-pass, read-same}
+
+-- ---- from bytes to bytes, of a stored job that the programs accept under these limits
+
+module _ (most : Limits) (input : List ℕ) (job : Job) (stored : jobOf input ≡ job)
+    (read : readVerdict most input (allRoom most) ≡ done) (ok : checkJob most job ≡ done) where
+  pub prints-whole : prints most input ≡ runText job
+  prints-whole = prints-run most input read (rw stored ok) ∙ ap runText stored
+
+  pub traces-whole : traces most input ≡ passText most job
+  traces-whole = traces-pass most input read (rw stored ok) ∙ ap (passText most) stored
+
+-- ---- the chain
+
+chain-stored : jobOf chainBytes ≡ chain
+unfolding upTo padded valueBytes jobOf headerOf
+chain-stored = refl
+
+module _ (most : Limits) (f : 4 ≤ most .files) (r : 3 ≤ most .recipes) (p : 6 ≤ most .pins) where
+  chain-read : readVerdict most chainBytes (allRoom most) ≡ done
+  unfolding upTo lowest padded valueBytes weigh blockCheck headerOf laidOut blockVerdict blocksVerdict jobOf layoutVerdict readVerdict check1 check2 check3 check4 badPin check5 check6 check7 check8 check9 check4to6 check7to9 check1to6 check
+  chain-read = read-same most (limitsOf 4 3 6 2) chainBytes (rw (le-ltb (most .files) 4 f, le-ltb (most .recipes) 3 r, le-ltb (most .pins) 6 p) refl) refl
+
+  chain-checked : 2 ≤ most .den → checkJob most chain ≡ done
+  unfolding total count largest upTo lowest bestUpTo diff viewOf files views countOn isCut cut times alone together gain weight smax sizeOn balanced check1 check2 check3 check4 badPin check5 check6 check7 check8 check9 check4to6 check7to9 check1to6 check
+  chain-checked d = rw (le-ltb (most .files) 4 f, le-ltb (most .recipes) 3 r, le-ltb (most .pins) 6 p, le-ltb (most .den) 2 d) refl
+
+-- ---- the pair
+
+pair-stored : jobOf pairBytes ≡ pair
+unfolding upTo padded valueBytes jobOf headerOf
+pair-stored = refl
+
+module _ (most : Limits) (f : 2 ≤ most .files) (r : 1 ≤ most .recipes) (p : 2 ≤ most .pins) where
+  pair-read : readVerdict most pairBytes (allRoom most) ≡ done
+  unfolding upTo lowest padded valueBytes weigh blockCheck headerOf laidOut blockVerdict blocksVerdict jobOf layoutVerdict readVerdict check1 check2 check3 check4 badPin check5 check6 check7 check8 check9 check4to6 check7to9 check1to6 check
+  pair-read = read-same most (limitsOf 2 1 2 2) pairBytes (rw (le-ltb (most .files) 2 f, le-ltb (most .recipes) 1 r, le-ltb (most .pins) 2 p) refl) refl
+
+  pair-checked : 2 ≤ most .den → checkJob most pair ≡ done
+  unfolding total count largest upTo lowest bestUpTo diff viewOf files views countOn isCut cut times alone together gain weight smax sizeOn balanced check1 check2 check3 check4 badPin check5 check6 check7 check8 check9 check4to6 check7to9 check1to6 check
+  pair-checked d = rw (le-ltb (most .files) 2 f, le-ltb (most .recipes) 1 r, le-ltb (most .pins) 2 p, le-ltb (most .den) 2 d) refl
+
+pub marked : Marked
+unfolding total count largest upTo lowest bestUpTo diff viewOf files views countOn isCut cut times alone together gain weight smax sizeOn balanced moved stepsBy sizeAfter legal distAfter challenge firstBelow choose movesBy moves fileOn kindsIn kindsOf scansFrom scans endsFrom visits gainsWhen cutsAfter cutAt keeps standing gainsAfter passOf passesBy mostPasses passes lastOf figuresOf runFiguresOf weigh blockCheck headerOf laidOut blockVerdict blocksVerdict layoutVerdict readVerdict text digitsIn spaced line refusal sizeLine sidesLine figureLines report onto padded leaves signed gainWords scanLines moveLines movesLines passLines trace prints
+marked = record {
+  m1·check = chain-checked;
+  m1·passes = refl;
+  m1·gains = refl;
+  m1·stored = chain-stored;
+  m1·prints = λ m f r p d. prints-whole m chainBytes chain chain-stored (chain-read m f r p) (chain-checked m f r p d);
+  m1·traces = λ m f r p d. traces-whole m chainBytes chain chain-stored (chain-read m f r p) (chain-checked m f r p d);
+  m2 = refl;
+  m3 = refl;
+  m4 = refl;
+  m5·moves = refl;
+  m5·stored = pair-stored;
+  m5·prints = λ m f r p d. prints-whole m pairBytes pair pair-stored (pair-read m f r p) (pair-checked m f r p d);
+  m5·traces = λ m f r p d. traces-whole m pairBytes pair pair-stored (pair-read m f r p) (pair-checked m f r p d);
+  m6·kinds = refl;
+  m6·visits = refl;
+  m6·three = refl;
+  m7 = refl;
+  m8 = refl;
+  m9·reads = λ most room. refl;
+  m9·prints = λ most. refl;
+}

@@ -1,0 +1,107 @@
+// Block 0: its check and layout, then the header that it holds, then what follows from that.
+ghost use mathlib.Core.Path.{_≡_};
+ghost use Rattle.rules.specs.Job.{limitsOf};
+ghost use Rattle.rules.specs.Stored.{headerOf, noHeader};
+ghost use Rattle.stored.specs.Room.{roomLong};
+ghost use Rattle.stored.specs.Steps.{headerIn, figuresVerdict, openingVerdict, answerBy, readFigures};
+use crate::block::block_at;
+use crate::block::block_verdict;
+use job::Job;
+use job::check1;
+use job::check2;
+use job::or_else;
+use job::refuse_if;
+use layout::block_count;
+use layout::value_in;
+use rules::Header;
+use rules::ReadFigures;
+use rules::Verdict;
+
+// How long the lent lists are.
+pub(crate) struct Lengths {
+    pub(crate) sizes: usize,
+    pub(crate) sides: usize,
+    pub(crate) marks: usize,
+    pub(crate) bounds: usize,
+    pub(crate) pins: usize,
+}
+
+pub(crate) fn refused(verdict: Verdict) -> ReadFigures
+    ensures { λ r. ⌜ r ≡ readFigures verdict noHeader ⌝ }
+{
+    let header = Header {
+        files: 0,
+        recipes: 0,
+        pins: 0,
+        num: 0,
+        den: 0,
+        cap: 0,
+    };
+    ReadFigures { verdict, header }
+}
+
+// The header's figures, where the verdict lets through.
+pub(crate) fn answer_by(verdict: Verdict, header: Header) -> ReadFigures
+    ensures { λ r. ⌜ r ≡ answerBy verdict header ⌝ }
+{
+    if verdict.number != 0 {
+        return refused(verdict);
+    }
+    ReadFigures { verdict, header }
+}
+
+// The six values of block 0.
+fn header_in(block: &[u8; 512]) -> Header
+    ensures { λ r. ⌜ r ≡ headerIn (now (block .entry)) ⌝ }
+{
+    let files = value_in(block, 0);
+    let recipes = value_in(block, 1);
+    let pins = value_in(block, 2);
+    let num = value_in(block, 3);
+    let den = value_in(block, 4);
+    let cap = value_in(block, 5);
+    Header {
+        files,
+        recipes,
+        pins,
+        num,
+        den,
+        cap,
+    }
+}
+
+// 1 to 3, of the header's figures.
+fn figures_verdict(h: Header, lent: Lengths) -> Verdict
+    ensures { λ r. do ⌜ r ≡ figuresVerdict (limitsOf (← ⟦Job::MOST_FILES⟧ .entry) (← ⟦Job::MOST_RECIPES⟧ .entry) (← ⟦Job::MOST_PINS⟧ .entry) (← ⟦Job::MOST_DEN⟧ .entry)) h (roomLong lent) ⌝ }
+{
+    let files = h.files as usize;
+    let recipes = h.recipes as usize;
+    let pins = h.pins as usize;
+    let none = check1(files, recipes);
+    let over = check2(files, recipes, pins);
+    let roomy = (files <= lent.sizes)
+        & (files <= lent.sides)
+        & (files <= lent.marks)
+        & (recipes + 1 <= lent.bounds)
+        & (pins <= lent.pins);
+    let short = refuse_if(!roomy, 3, 0);
+    or_else(none, or_else(over, short))
+}
+
+// Block 0, filled, checked and then taken apart; 1 to 3 and the total length by its header.
+pub(crate) fn opening(bytes: &[u8], lent: Lengths) -> ReadFigures
+    ensures { λ r. do ⌜ r ≡ answerBy (openingVerdict (limitsOf (← ⟦Job::MOST_FILES⟧ .entry) (← ⟦Job::MOST_RECIPES⟧ .entry) (← ⟦Job::MOST_PINS⟧ .entry) (← ⟦Job::MOST_DEN⟧ .entry)) (now (bytes .entry)) (roomLong lent)) (headerOf (now (bytes .entry))) ⌝ }
+{
+    if bytes.len() < 512 {
+        return refused(refuse_if(true, 20, 0));
+    }
+    let block = block_at(bytes, 0);
+    let first = block_verdict(&block, 0, 1, 6);
+    if first.number != 0 {
+        return refused(first);
+    }
+    let header = header_in(&block);
+    let figures = figures_verdict(header, lent);
+    let total = refuse_if(bytes.len() != 512 * block_count(header) as usize, 20, 0);
+    answer_by(or_else(figures, total), header)
+}
