@@ -6,17 +6,14 @@
 A case is a heading, a job, or a view. The answers are the reference's.
 """
 
-import pathlib
-import struct
 import sys
 from typing import NamedTuple
 
-from make_cases import frame, large
+from make_cases import large
+from program_files import frame, heading, keep, numbers
 
 import planner
 import samples
-
-CRATE = pathlib.Path(__file__).parent.parent / "crates" / "job_cases"
 
 TOP = 2**64 - 1
 
@@ -115,7 +112,8 @@ def part_views(*rows):
 
 # ---- The cases
 
-CASES = (
+# Calls that pass check 6, and those that meet a refusal up to there.
+UP_TO_6 = (
     "done",
     CHAIN,
     CHAIN.changed(cap=1),
@@ -264,6 +262,9 @@ CASES = (
     CHAIN.changed(sizes=[1, 1, 1, 0], marks=[0, 0, 2, 0]),
     CHAIN.changed(sides=[0, 1, 0, 3], marks=[3, 0, 0, 0]),
     CHAIN.changed(sizes=[1, 1, 0, 1], sides=[0, 1, 2, 1], marks=[0, 0, 2, 0]),
+)
+
+FROM_7_ON = (
     "no 7",
     *ratios((0, 2), (2, 2), (3, 2), (1, 1), (0, 1), (0, 0), (1, 0)),
     *ratios((500, 1000), (500, 1001), (1000, 1000), (1000, 1001)),
@@ -282,6 +283,9 @@ CASES = (
     # Products over 32 bits.
     *lopsided((65535, 999, 1000), (65535, 998, 1000), (65535, 997, 1000)),
     *lopsided((65535, 1, 1000), (1, 999, 1000)),
+)
+
+SEVERAL_FAULTS = (
     # Pairs that no earlier section has.
     "two faults",
     *pairs(1, 5, 6, 7, 8, 9),
@@ -306,7 +310,10 @@ CASES = (
     faulty(3, 5, bounds=[0, 2, 3, 6]),
     faulty(2, sides=[0, 2, 0, 1], num=0),
     faulty(1, 8, 9),
-    # The first and the last places of the largest job.
+)
+
+# The first and the last places of the largest job.
+LARGEST = (
     "largest",
     LARGE,
     # 4: the first bound, the first recipe, the last recipe, the end.
@@ -325,6 +332,9 @@ CASES = (
     # A repeat at the end of a recipe, of its first pin and of the pin just before.
     *puts(LONG, "pins", (1023, 0), (1024, 1), (4095, 0), (4095, 1022)),
     *puts(LONG, "pins", (3072, 1023), (0, 1024), (4095, 1024)),
+)
+
+VIEWS = (
     "views",
     # Every recipe, and then none.
     *views(CHAIN.bounds, CHAIN.pins, 0, 1, 2, 3, 4, 65536, TOP - 1, TOP),
@@ -357,25 +367,27 @@ CASES = (
     *views(LONG.bounds, LONG.pins, 3, 4),
 )
 
+CASES = UP_TO_6 + FROM_7_ON + SEVERAL_FAULTS + LARGEST + VIEWS
+
 
 # ---- What the program reads, and what it must write
-
-
-def numbers(entries):
-    """A frame of numbers, two bytes each, low byte first."""
-    return frame(struct.pack(f"<{len(entries)}H", *entries))
 
 
 def framed(case):
     """A case's frames: the letter of its kind, and what it has."""
     if isinstance(case, str):
-        return frame(b"h") + frame(case.encode())
+        return heading(case)
     if isinstance(case, View):
         recipe = frame(case.j.to_bytes(8, "little"))
         return frame(b"v") + recipe + numbers(case.bounds) + numbers(case.pins)
-    figures = (case.num, case.den, case.cap)
-    lists = (figures, case.sizes, case.sides, case.marks, case.bounds, case.pins)
-    return frame(b"j") + b"".join(map(numbers, lists))
+    return frame(b"j") + figures_and_lists(case)
+
+
+def figures_and_lists(job, *more):
+    """Six frames of a job: its figures, with any more behind them, and its lists."""
+    figures = (job.num, job.den, job.cap, *more)
+    lists = (figures, job.sizes, job.sides, job.marks, job.bounds, job.pins)
+    return b"".join(map(numbers, lists))
 
 
 def line(case):
@@ -390,26 +402,12 @@ def line(case):
     return " ".join(map(str, told)) + "\n"
 
 
-def held(path):
-    return path.read_bytes() if path.exists() else None
-
-
-def main(words):
-    """What the program exits with."""
-    made = {
-        "stdin": b"".join(map(framed, CASES)),
-        "stdout": "".join(map(line, CASES)).encode(),
+def made():
+    return {
+        "crates/job_cases/stdin": b"".join(map(framed, CASES)),
+        "crates/job_cases/stdout": "".join(map(line, CASES)).encode(),
     }
-    if words == ["--write"]:
-        for name, data in made.items():
-            (CRATE / name).write_bytes(data)
-        return 0
-    wrong = [name for name, data in made.items() if held(CRATE / name) != data]
-    for name in wrong:
-        print(f"crates/job_cases/{name}: differs")
-    print(f"{len(made)} compared, {len(wrong)} differ")
-    return min(len(wrong), 1)
 
 
 if __name__ == "__main__":
-    sys.exit(main(sys.argv[1:]))
+    sys.exit(keep(made(), sys.argv[1:]))

@@ -9,6 +9,9 @@
                      run the program on every job and compare what it prints
     python3 tests/make_cases.py --compare-traces PROGRAM
                      the same of a program that prints traces
+    python3 tests/make_cases.py --compare-resettled PROGRAM
+                     the same of a program that writes stored jobs with new sides;
+                     what it says on standard error is compared too
 
 The jobs are the same at every run: all that is random goes by a fixed seed.
 """
@@ -26,6 +29,7 @@ import planner
 import samples
 from mill import mill
 from planner import A, B, FREE, PINNED, make_block, write_job, write_values
+from program_files import frame
 
 SEED = 1982
 
@@ -46,6 +50,11 @@ def wide(files, **fields):
         cap=0,
     )
     return job.changed(**fields)
+
+
+def one_recipe(pins):
+    """So many files, all in one recipe."""
+    return wide(pins, bounds=[0, pins], pins=range(pins))
 
 
 def row(files):
@@ -105,8 +114,7 @@ def limits():
     for files in (127, 128, 253, 254, 255):
         yield f"row_of_{files}", write_job(row(files))
     for pins in (252, 253, 254, 506, 507, 1024):
-        job = wide(pins, bounds=[0, pins], pins=range(pins))
-        yield f"one_recipe_of_{pins}", write_job(job)
+        yield f"one_recipe_of_{pins}", write_job(one_recipe(pins))
     yield "den_1000", write_job(samples.chain().changed(num=500, den=1000))
     yield "den_1001", write_job(samples.chain().changed(num=500, den=1001))
     yield "num_is_den", write_job(samples.chain().changed(num=2))
@@ -357,11 +365,6 @@ def write(folder, named):
         (folder / f"{name}.report").write_text(planner.run_stored(data))
 
 
-def frame(data):
-    """A length in two bytes, low byte first, and so many bytes."""
-    return len(data).to_bytes(2, "little") + data
-
-
 def framed(name, data):
     """A case as the program takes it: its name, and its job."""
     return frame(name.encode()) + frame(data)
@@ -380,14 +383,33 @@ def shown(name, data):
     return "\n".join([name, *rows, planner.run_stored(data)])
 
 
-def compare(program, named, told):
+def prints(told):
+    """Whether a program printed what the reference tells of a job."""
+    return lambda data, done: done.stdout == told(data).encode()
+
+
+def resettles(data, done):
+    """Whether a program wrote the reference's bytes, and said its words beside."""
+    written, said = planner.resettle(data)
+    return (done.stdout, done.stderr) == (written, said.encode())
+
+
+COMPARED = {
+    "--compare": prints(planner.run_stored),
+    "--compare-traces": prints(planner.trace),
+    "--compare-resettled": resettles,
+}
+
+
+def compare(program, named, agrees):
     """Runs the program on each job; how many outputs differ, each named."""
     wrong = 0
     for name, data in named:
-        done = subprocess.run([program], input=data, stdout=subprocess.PIPE)
-        if done.stdout.decode() != told(data):
+        done = subprocess.run([program], input=data, capture_output=True)
+        if not agrees(data, done):
             wrong += 1
             print(f"{name}: differs")
+            sys.stderr.buffer.write(done.stderr)
     print(f"{len(named)} compared, {wrong} differ")
     return wrong
 
@@ -403,10 +425,8 @@ def main(words):
         write(pathlib.Path(words[1]), [(name, named[name]) for name in EXAMPLES])
     elif words[0] == "--program":
         write_program(pathlib.Path(words[1]), named.items())
-    elif words[0] == "--compare":
-        return min(compare(words[1], named.items(), planner.run_stored), 1)
-    elif words[0] == "--compare-traces":
-        return min(compare(words[1], named.items(), planner.trace), 1)
+    elif words[0] in COMPARED:
+        return min(compare(words[1], named.items(), COMPARED[words[0]]), 1)
     else:
         print(shown(words[0], named[words[0]]), end="")
     return 0

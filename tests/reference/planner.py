@@ -1,10 +1,10 @@
-"""A plain reference for the two-vault split, written from document 01 alone.
+"""A plain reference for the two-vault split, written from documents 01 and 02 alone.
 
 It is slow and simple on purpose. Every gain is counted anew from the split at
 every move, so no step here rests on the scans that it lists: the scans are
 worked out beside the gains and never used to change one.
 
-Document 01's words are the names. Sentences of it are quoted where a line
+The documents' words are the names. Sentences of theirs are quoted where a line
 follows them.
 """
 
@@ -530,6 +530,21 @@ def write_job(job):
     return write_values(header, file_values(job), job.bounds, job.pins)
 
 
+def stored_length(job):
+    """How many bytes the blocks of a job take."""
+    return BLOCK * len(value_counts(job.files, job.recipes, len(job.pins)))
+
+
+def write(job, output):
+    """The writer: number, place, and the bytes of the output list afterwards.
+
+    "A job that passes checks 1 to 6 becomes the blocks of document 01"; "an
+    output list not exactly as long as the blocks is refused as 3".
+    """
+    number, place = refusal(job, len(output) == stored_length(job), 6)
+    return number, place, output if number else write_job(job)
+
+
 def block_at(data, number):
     return data[BLOCK * number : BLOCK * (number + 1)]
 
@@ -630,12 +645,15 @@ def letters(sides):
     return "".join("AB"[side] for side in sides)
 
 
+def read_and_run(data):
+    """The job in these bytes and its run, whose answer has the refusal of either."""
+    number, place, _, job = read_job(data)
+    return job, RunAnswer(number, place) if number else run(job)
+
+
 def run_stored(data):
     """What the program prints for these bytes on standard input."""
-    number, place, _, job = read_job(data)
-    if number:
-        return refused_line(number, place)
-    answer = run(job)
+    job, answer = read_and_run(data)
     if answer.number:
         return refused_line(answer.number, answer.place)
     lines = [
@@ -649,6 +667,17 @@ def run_stored(data):
         f"sides {letters(answer.last.sides)}",
     ]
     return "\n".join(lines) + "\n"
+
+
+def resettle(data):
+    """The stored job with the sides after its run, and what standard error says.
+
+    All else is as it was; of a refused job no byte is written.
+    """
+    job, answer = read_and_run(data)
+    if answer.number:
+        return b"", refused_line(answer.number, answer.place)
+    return write_job(job.changed(sides=answer.last.sides)), ""
 
 
 def move_lines(answer):

@@ -1,4 +1,4 @@
-"""Self-tests of the reference: what document 01 says, asked of planner.py.
+"""Self-tests of the reference: what documents 01 and 02 say, asked of planner.py.
 
 The last class plants the errors that document 01 names and asks that the same
 tests see them, so that none of them passes for want of looking.
@@ -696,6 +696,142 @@ class StoredOrder(unittest.TestCase):
         self.assertEqual(planner.read_job(none, (0,) * 5)[:2], (1, 0))
         many = faults.stored_chain([faults.IN_ORDER[3]])
         self.assertEqual(planner.read_job(many, (0,) * 5)[:2], (2, 0))
+
+
+def stored_variants(job):
+    """The bytes of a small job with one byte of a block put anew, and checked again."""
+    count = planner.stored_length(job) // planner.BLOCK
+    for block, at in itertools.product(range(count), range(24)):
+        for byte in (*range(8), 100, 255):
+            blocks = faults.Blocks(job)
+            blocks.set_byte(block, at, byte)
+            yield blocks.stored()
+
+
+class Written(unittest.TestCase):
+    """Order 1: the writer, and the stored job with new sides."""
+
+    def written(self, job, step=0):
+        """Number and place of a call whose output list is off by so many bytes."""
+        output = bytes([165]) * (planner.stored_length(job) + step)
+        number, place, after = planner.write(job, output)
+        self.assertEqual(after, output if number else planner.write_job(job))
+        return number, place
+
+    def refused(self, number, place, **fields):
+        job = samples.chain().changed(**fields)
+        self.assertEqual(self.written(job), (number, place))
+
+    def test_what_was_written_is_read(self):
+        for job in small_jobs():
+            number, place, data = planner.write(job, bytes(planner.stored_length(job)))
+            self.assertEqual((number, place), (0, 0))
+            self.assertEqual(planner.read_job(data)[3], job)
+
+    def test_what_is_accepted_is_written_back(self):
+        """Of all files with one byte put anew, those that are accepted."""
+        accepted = 0
+        for data in stored_variants(samples.chain().changed(marks=[0, 1, 0, 0])):
+            number, _, _, job = planner.read_job(data)
+            if number == 0:
+                accepted += 1
+                self.assertEqual(planner.write(job, bytes(len(data))), (0, 0, data))
+        self.assertGreater(accepted, 200)
+
+    def test_7_to_9_are_never_given(self):
+        """ "The ratio and cap are carried as they are, good or bad." """
+        job = samples.chain()
+        for fields in (
+            *(JOB_FAULTS[number] for number in (7, 8, 9)),
+            dict(num=0, den=0),
+            dict(num=65535, den=65535, cap=65535),
+            dict(num=5, den=1001, marks=[PINNED] * 4, sides=[A] * 4),
+        ):
+            bad = job.changed(**fields)
+            self.assertEqual(self.written(bad), (0, 0))
+            self.assertEqual(planner.read_job(planner.write_job(bad))[3], bad)
+
+    def test_first_and_last_places(self):
+        self.refused(1, 0, sizes=[])
+        self.refused(1, 0, bounds=[0])
+        self.refused(1, 0, bounds=[])
+        self.refused(2, 0, bounds=[0] * 1026)
+        self.refused(2, 0, pins=[0] * 4097)
+        self.refused(3, 0, sides=[A, B, A])
+        self.refused(3, 0, marks=[FREE] * 5)
+        self.refused(4, 0, bounds=[1, 3, 5, 6])
+        self.refused(4, 0, bounds=[0, 1, 4, 6])
+        self.refused(4, 2, bounds=[0, 2, 5, 6])
+        self.refused(4, 3, bounds=[0, 2, 4, 7])
+        self.refused(5, 0, pins=[4, 1, 2, 3, 1, 2])
+        self.refused(5, 5, pins=[0, 1, 2, 3, 1, 1])
+        self.refused(6, 0, sizes=[0, 1, 1, 1])
+        self.refused(6, 3, sides=[A, B, A, 2])
+        self.refused(6, 3, marks=[0, 0, 0, 2])
+
+    def test_output_list_of_another_length(self):
+        for files in (126, 127, 1024):
+            for step in (-512, -1, 1, 512):
+                self.assertEqual(self.written(wide_job(files), step), (3, 0))
+            self.assertEqual(self.written(wide_job(files)), (0, 0))
+        self.assertEqual(planner.write(samples.chain(), b""), (3, 0, b""))
+
+    def test_order(self):
+        """The lower of two faults; an output list that is too long is one of 3."""
+        for low, high in itertools.combinations(range(1, 7), 2):
+            job = samples.chain().changed(**{**JOB_FAULTS[high], **JOB_FAULTS[low]})
+            self.assertEqual(self.written(job)[0], low)
+        for number in range(1, 7):
+            job = samples.chain().changed(**JOB_FAULTS[number])
+            self.assertEqual(self.written(job, step=1)[0], min(number, 3))
+
+    def test_block_edges(self):
+        """Each length, as document 01 counts the blocks."""
+        for job, blocks in (
+            (samples.chain(), 4),
+            (wide_job(126), 4),
+            (wide_job(127), 5),
+            (wide_job(253), 6),
+        ):
+            self.assertEqual(planner.stored_length(job), 512 * blocks)
+
+
+class Resettled(unittest.TestCase):
+    """A stored job with the sides after its run."""
+
+    def test_only_the_sides_are_new(self):
+        for job in small_jobs():
+            data, said = planner.resettle(planner.write_job(job))
+            self.assertEqual(said, "")
+            sides = planner.run(job).last.sides
+            self.assertEqual(planner.read_job(data)[3], job.changed(sides=sides))
+
+    def test_the_next_night(self):
+        """The sides that the night printed, and nothing more to gain."""
+        settled = [job for job in small_jobs() if planner.run(job).settled]
+        self.assertGreater(len(settled), 100)
+        for job in settled:
+            data = planner.write_job(job)
+            before = planner.run_stored(data).splitlines()
+            after = planner.run_stored(planner.resettle(data)[0]).splitlines()
+            cut = before[1].split()[2]
+            self.assertEqual(after[1], f"cut {cut} {cut}")
+            self.assertEqual(after[2], before[2])
+            self.assertEqual(after[3:6], ["passes 1", "settled yes", "kept 0"])
+            self.assertEqual(after[-1], before[-1])
+
+    def test_the_chain(self):
+        """Sides A, A, A, B: of all bytes those of file 1 change, and the check."""
+        old = planner.write_job(samples.chain())
+        new, said = planner.resettle(old)
+        changed = [at for at in range(len(old)) if old[at] != new[at]]
+        self.assertEqual((changed, said), ([512 + 10, 512 + 510], ""))
+
+    def test_refused(self):
+        for fault in faults.IN_ORDER:
+            (number, place), _ = fault
+            told = planner.resettle(faults.stored_chain([fault]))
+            self.assertEqual(told, (b"", f"refused {number} {place}\n"))
 
 
 class Mill(unittest.TestCase):

@@ -36,6 +36,8 @@ use Rattle.job.proofs.verdict.check1.Kinds as check1-kinds
 use Rattle.job.proofs.verdict.check1.Reads as check1
 use Rattle.job.proofs.verdict.check2.Kinds as check2-kinds
 use Rattle.job.proofs.verdict.check2.Reads as check2
+use Rattle.job.proofs.verdict.check1to6.Kinds as check1to6-kinds
+use Rattle.job.proofs.verdict.check1to6.Reads as check1to6
 
 pub check-settled : Settles 5 check-kinds.ps check-kinds.r Verdict (λ κs v _. v) check.Post
 check-settled κs a x y e f p q = both p q
@@ -79,3 +81,6 @@ check1-settled κs a x y e f p q = both p q
 
 pub check2-settled : Settles 0 check2-kinds.ps check2-kinds.r Verdict (λ κs v _. v) check2.Post
 check2-settled κs a x y e f p q = both p q
+
+pub check1to6-settled : Settles 5 check1to6-kinds.ps check1to6-kinds.r Verdict (λ κs v _. v) check1to6.Post
+check1to6-settled κs a x y e f p q = both p q

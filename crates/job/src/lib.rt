@@ -17,7 +17,7 @@ pub use numbers::wide;
 use rules::Measure;
 use rules::Verdict;
 pub use verdict::check1;
-use verdict::check1to6;
+pub use verdict::check1to6;
 pub use verdict::check2;
 use verdict::check7to9;
 pub use verdict::or_else;

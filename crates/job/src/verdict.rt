@@ -125,7 +125,8 @@ fn check4to6(sizes: &[u16], sides: &[u16], marks: &[u16], bounds: &[u16], pins: 
     check6(sizes, sides, marks)
 }
 
-pub(crate) fn check1to6(
+// 1 to 6, where `lent` says that the lent lists have the right lengths.
+pub fn check1to6(
     sizes: &[u16],
     sides: &[u16],
     marks: &[u16],

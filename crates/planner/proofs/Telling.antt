@@ -1,14 +1,16 @@
 -- What is read, run and told: each step's lists are those that document 01's program has. Assumes nothing.
-use mathlib.Core.Path.{_≡_, refl, sym, ap, ap₂, _∙_}
+use mathlib.Core.Path.{_≡_, refl, sym, ap, ap₂, subst, _∙_}
 use mathlib.Core.Logic.{_≢_}
-use Prim.Native.Nat.{ℕ, _+_, _*_, _≤_}
-use mathlib.Core.Bool.{Bool, true, false, cond}
+use Prim.Native.Nat.{ℕ, _+_, _*_, _≤_, _<_}
+use mathlib.Core.Bool.{Bool, true, false, cond, _&&_}
 use mathlib.Core.List.{List}
+use native.Mathlib.Decide.{ℕ-discrete, decLt}
 use native.Mathlib.Omega.{arith}
+use lib.Dec.{T, eqb}
 use lib.ListN.{length, take, replicate, length-replicate}
 use lib.IntN.{pos}
 use lib.Seq.{length-take-le}
-use borrow.Author.Tests.{eq-eqb}
+use borrow.Author.Tests.{eqb-true, eqb-false, eq-eqb, ne-eqb}
 use Rattle.rules.specs.declared.Verdict.{Verdict}
 use Rattle.rules.specs.declared.Figures.{Figures}
 use Rattle.rules.specs.declared.RunFigures.{RunFigures}
@@ -17,18 +19,29 @@ use Rattle.rules.specs.declared.Header.{Header}
 use Rattle.rules.specs.declared.Printed.{Printed}
 use Rattle.job.specs.declared.Job.{Job as JobFigures}
 use Rattle.job.specs.Parts.{wholeJob}
-use Rattle.rules.specs.Job.{Job, Limits, fileCount, files, Lent}
+use Rattle.rules.specs.Job.{Job, Limits, fileCount, files, Lent, fits}
+use Rattle.rules.specs.Check.{check1to6, check7to9, check}
+use Rattle.rules.specs.Split.{sizeOn}
 use Rattle.rules.specs.Run.{Ended, endedOf, noRunFigures, passEnds, runEnds}
-use Rattle.rules.specs.Stored.{Room, headerOf, jobOf, Reading, written, reading, readVerdict}
-use Rattle.rules.specs.Report.{refusal, Printing, printed, intoRoom, reporting, prints, allRoom, ownLent, allLent}
+use Rattle.rules.specs.Stored.{Room, headerOf, blockCount, jobOf, Reading, written, reading, readVerdict}
+use Rattle.rules.specs.Report.{refusal, sizeLine, figureLines, report, Printing, printed, intoRoom, reporting, prints, allRoom, ownLent, allLent, allRun}
 use Rattle.rules.specs.Trace.{listing, holdsPass, tracing, traces}
+use Rattle.rules.specs.Writing.{headerFor, withSides, HandedOut, Handing, handingOf, handInto, handsOut, resettles}
+use Rattle.rules.specs.Theorems.{mostBytes}
+use Rattle.rules.specs.RoundTrip.{lastPass, resettled}
 use Rattle.rules.proofs.Entries.{onto-least, take-replicate}
 use Rattle.rules.proofs.Reading.{read-files, read-sides, read-marks, read-bounds, read-pins, read-holds, reading-verdict}
-use Rattle.rules.proofs.CutOff.{prints-no, traces-no}
+use Rattle.rules.proofs.Verdicts.{passes-both}
+use Rattle.rules.proofs.Proved.{answers}
+use Rattle.rules.proofs.CutOff.{prints-no, traces-no, resettles-no, read-no}
+use Rattle.rules.proofs.Resettling.{resettled-holds}
+use Rattle.rules.proofs.RoundTrip.{read-length}
 use Rattle.rules.proofs.Reports.{into-number, into-bytes, reporting-refusal, run-told, pass-held, pass-long, pass-traced}
 use Rattle.stored.specs.Steps.{firstOf}
 use Rattle.stored.proofs.Readings.{first-written}
-use Rattle.planner.specs.Answering.{figuresIn, runReport, passTrace, jobText, inputText, Answered, Lendable}
+use Rattle.rules.specs.declared.Handed.{Handed}
+use Rattle.planner.specs.Answering.{figuresIn, passTrace, textOut, handedTo, blocksOut, runOut, jobOut, inputOut, roomFor, AfterRun, Answered, Lendable}
+use Rattle.planner.proofs.Handing.{hand-text}
 
 -- what is refused is told as a refused run is
 pub refusal-told : (most : Limits) {v : Verdict} {a : RunFigures} {x : Printing} (sizes sides room : List ℕ) → x ≡ reporting most sizes a sides room → a ≡ noRunFigures v → v .number ≢ 0
@@ -40,14 +53,69 @@ into-lendable bytes room room' a e = let h = into-bytes bytes room room' a e in 
 
 -- ---- what the planner's own calls tell
 
--- a run with the planner's own lists, reported
-pub run-printed : (most : Limits) (job : Job) (a : Printed) (r : RunFigures) (sides room room' : List ℕ) (own lent : Lent) → endedOf r sides lent ≡ runEnds most job own → own ≡ allLent most job
-    → printed a room' ≡ reporting most (job .sizes) r sides room
-    → (printed a room' ≡ intoRoom (runReport most job) room) × (a .verdict .number ≢ 3 → a .verdict .number ≡ 0)
-run-printed most job a r sides room room' own lent e q f =
-    let ran : endedOf r sides lent ≡ runEnds most job (allLent most job) = e ∙ ap (runEnds most job) q in
-    let told : printed a room' ≡ intoRoom (runReport most job) room = f ∙ ap (λ (x : Ended RunFigures). reporting most (job .sizes) (x .answer) (x .sides) room) ran ∙ run-told most job (allLent most job) room in
-    (told, into-number (runReport most job) room room' a told)
+-- a report knows no more of the sides than those it is told
+report-sides : (job : Job) (r : RunFigures) (sides : List ℕ) → report (withSides job sides) r sides ≡ report job r sides
+unfolding report figureLines sizeLine sizeOn files
+report-sides job r sides = refl
+
+-- a run with the planner's own lists, and what is then told of it
+module _ (most : Limits) (job : Job) (r : RunFigures) (sides : List ℕ) (own lent : Lent) (e : endedOf r sides lent ≡ runEnds most job own) (q : own ≡ allLent most job) where
+  ran : endedOf r sides lent ≡ allRun most job
+  ran = e ∙ ap (runEnds most job) q
+
+  reported : (room : List ℕ) → reporting most (job .sizes) r sides room ≡ intoRoom (report (withSides job sides) r sides) room
+  reported room =
+      ap (λ (x : Ended RunFigures). reporting most (job .sizes) (x .answer) (x .sides) room) ran
+      ∙ run-told most job (allLent most job) room
+      ∙ ap (λ (x : Ended RunFigures). intoRoom (report job (x .answer) (x .sides)) room) (sym ran)
+      ∙ ap (λ (b : List ℕ). intoRoom b room) (sym (report-sides job r sides))
+
+  next-passes : check most job (fits job (allLent most job)) .number ≡ 0 → check1to6 most (resettled job) true .number ≡ 0
+  unfolding check
+  next-passes ok =
+      let l : Lent = allLent most job in
+      let plain : check most job true .number ≡ 0 = ap (λ (b : Bool). check most job b .number) (sym (answers most job l .fitting ok)) ∙ ok in
+      passes-both (check1to6 most (resettled job) true) (check7to9 most (resettled job)) (ap (λ (v : Verdict). v .number) (resettled-holds most job plain .accepted)) .0
+
+  passes : r .figures .verdict .number ≡ 0 → check1to6 most (withSides job sides) true .number ≡ 0
+  passes z =
+      let l : Lent = allLent most job in
+      elim (ℕ-discrete (check most job (fits job l) .number) 0) [
+        | yes ok ↦
+            let same : sides ≡ lastPass job .sidesAfter = ap (λ (x : Ended RunFigures). x .sides) (ran ∙ answers most job l .runDone ok) in
+            ap (λ (s : List ℕ). check1to6 most (withSides job s) true .number) same ∙ next-passes ok
+        | no n ↦ absurd (n (sym (ap (λ (x : Ended RunFigures). x .answer .figures .verdict .number) (ran ∙ answers most job l .runRefused n)) ∙ z))
+      ]
+
+  pub after-run : (n : ℕ) → n ≡ 512 * blockCount (headerFor job) → length sides ≡ length (job .sizes) → fileCount job ≤ most .files → AfterRun most r (withSides job sides) n
+  after-run n l s f = record { told = reported; passes = passes; blocks = l; sidesLong = s; fewFiles = f }
+
+  pub run-out : (what : ℕ) → what ≢ 1 → runOut (eqb what 2) r (withSides job sides) ≡ jobOut what most job
+  run-out what n = rw (ne-eqb what 1 n) (go (eqb what 2))
+    where
+      go : (b : Bool) → runOut b r (withSides job sides) ≡ cond b (let x = allRun most job in handsOut (x .answer .figures .verdict) (withSides job (x .sides))) (let x = allRun most job in textOut false (report job (x .answer) (x .sides)))
+      go true = ap (λ (x : Ended RunFigures). handsOut (x .answer .figures .verdict) (withSides job (x .sides))) ran
+      go false = ap (textOut false) (report-sides job r sides ∙ ap (λ (x : Ended RunFigures). report job (x .answer) (x .sides)) ran)
+
+-- the blocks, of a run that was made
+pub told-blocks : (answer : RunFigures) (job : Job) (stored : Bool) → (stored && eqb (answer .figures .verdict .number) 0) ≡ true
+    → (answer .figures .verdict .number ≡ 0) × (stored ≡ true) × (runOut stored answer job ≡ blocksOut job)
+told-blocks answer job true h = (eqb-true (answer .figures .verdict .number) 0 h, refl, rw h refl)
+told-blocks answer job false h = absurd (subst T (sym h) tt)
+
+-- the report, or a refusal's line for standard error
+pub told-run : (most : Limits) (answer : RunFigures) (job : Job) (n : ℕ) → AfterRun most answer job n → (stored : Bool) → (stored && eqb (answer .figures .verdict .number) 0) ≡ false
+    → (a : Printed) (room room' : List ℕ) → printed a room' ≡ reporting most (job .sizes) answer (job .sides) room
+    → (handingOf (handedTo stored a) room' ≡ handInto (runOut stored answer job) room) × (a .verdict .number ≢ 3 → a .verdict .number ≡ 0)
+told-run most answer job n w true f a room room' e = elim (ℕ-discrete (answer .figures .verdict .number) 0) [
+  | yes z ↦ absurd (eqb-false (answer .figures .verdict .number) 0 f z)
+  | no z ↦
+      let t = e ∙ reporting-refusal most (job .sizes) answer (job .sides) room z in
+      (rw (ne-eqb (answer .figures .verdict .number) 0 z) (hand-text true (refusal (answer .figures .verdict)) room room' a t), into-number (refusal (answer .figures .verdict)) room room' a t)
+]
+told-run most answer job n w false f a room room' e =
+    let t = e ∙ w .told room in
+    (hand-text false (report job answer (job .sides)) room room' a t, into-number (report job answer (job .sides)) room room' a t)
 
 -- one pass with them, traced
 pub pass-printed : (most : Limits) (job : Job) (a : Printed) (f : Figures) (sides room room' : List ℕ) (own lent : Lent) → endedOf f sides lent ≡ passEnds most job own → own ≡ allLent most job
@@ -74,33 +142,49 @@ pub figures-whole : (figures : JobFigures) (h : Header) → (figures .num ≡ h 
 figures-whole figures h e = λ i. record { num = e .0 i; den = e .1 i; cap = e .2 i }
 
 -- the figures of the header are those of the job
-pub first-printed : (traced : Bool) (most : Limits) (h : Header) (lists : Room) (figures : JobFigures) (x : Printing) (room : List ℕ) → figures ≡ figuresIn h
-    → x ≡ intoRoom (jobText traced most (wholeJob figures (take (h .files) (lists .sizes)) (take (h .files) (lists .sides)) (take (h .files) (lists .marks)) (take (h .recipes + 1) (lists .bounds)) (take (h .pins) (lists .pins)))) room
-    → x ≡ intoRoom (jobText traced most (firstOf h lists)) room
-first-printed traced most h lists figures x room e f =
+pub first-out : (what : ℕ) (most : Limits) (h : Header) (lists : Room) (figures : JobFigures) (x : Handing) (room : List ℕ) → figures ≡ figuresIn h
+    → x ≡ handInto (jobOut what most (wholeJob figures (take (h .files) (lists .sizes)) (take (h .files) (lists .sides)) (take (h .files) (lists .marks)) (take (h .recipes + 1) (lists .bounds)) (take (h .pins) (lists .pins)))) room
+    → x ≡ handInto (jobOut what most (firstOf h lists)) room
+first-out what most h lists figures x room e f =
     f
-    ∙ ap (λ (g : JobFigures). intoRoom (jobText traced most (wholeJob g (take (h .files) (lists .sizes)) (take (h .files) (lists .sides)) (take (h .files) (lists .marks)) (take (h .recipes + 1) (lists .bounds)) (take (h .pins) (lists .pins)))) room) e
+    ∙ ap (λ (g : JobFigures). handInto (jobOut what most (wholeJob g (take (h .files) (lists .sizes)) (take (h .files) (lists .sides)) (take (h .files) (lists .marks)) (take (h .recipes + 1) (lists .bounds)) (take (h .pins) (lists .pins)))) room) e
 
-text-no : (traced : Bool) (most : Limits) (bytes : List ℕ) → readVerdict most bytes (allRoom most) .number ≢ 0 → inputText traced most bytes ≡ refusal (readVerdict most bytes (allRoom most))
-text-no true most bytes n = traces-no most bytes n
-text-no false most bytes n = prints-no most bytes n
+-- what reading refuses goes to the stream that a refused run goes to
+out-no : (what : ℕ) (most : Limits) (bytes : List ℕ) → readVerdict most bytes (allRoom most) .number ≢ 0 → inputOut what most bytes ≡ textOut (eqb what 2) (refusal (readVerdict most bytes (allRoom most)))
+out-no what most bytes n = elim (ℕ-discrete what 1) [
+  | yes e ↦ rw e (ap (textOut false) (traces-no most bytes n))
+  | no e ↦ rw (ne-eqb what 1 e) (go (eqb what 2))
+]
+  where
+    go : (b : Bool) → cond b (resettles most bytes) (textOut false (prints most bytes)) ≡ textOut b (refusal (readVerdict most bytes (allRoom most)))
+    go true = resettles-no most bytes n
+    go false = ap (textOut false) (prints-no most bytes n)
 
-text-read : (traced : Bool) (most : Limits) (bytes : List ℕ) → readVerdict most bytes (allRoom most) .number ≡ 0 → inputText traced most bytes ≡ jobText traced most (jobOf bytes)
-unfolding prints traces
-text-read true most bytes z = rw (eq-eqb (readVerdict most bytes (allRoom most) .number) 0 z, traces) refl
-text-read false most bytes z = rw (eq-eqb (readVerdict most bytes (allRoom most) .number) 0 z, prints) refl
+out-read : (what : ℕ) (most : Limits) (bytes : List ℕ) → readVerdict most bytes (allRoom most) .number ≡ 0 → inputOut what most bytes ≡ jobOut what most (jobOf bytes)
+unfolding prints traces resettles
+out-read what most bytes z = go (eqb what 1) (eqb what 2)
+  where
+    read : eqb (readVerdict most bytes (allRoom most) .number) 0 ≡ true
+    read = eq-eqb (readVerdict most bytes (allRoom most) .number) 0 z
 
-module _ (traced : Bool) (most : Limits) (bytes : List ℕ) (r : ReadFigures) (lists : Room) (e : r ≡ reading most bytes (allRoom most) .answer) (f : lists ≡ reading most bytes (allRoom most) .room) where
+    go : (b c : Bool) → cond b (textOut false (traces most bytes)) (cond c (resettles most bytes) (textOut false (prints most bytes)))
+        ≡ cond b (textOut false (passTrace most (jobOf bytes))) (cond c (let e = allRun most (jobOf bytes) in handsOut (e .answer .figures .verdict) (withSides (jobOf bytes) (e .sides))) (let e = allRun most (jobOf bytes) in textOut false (report (jobOf bytes) (e .answer) (e .sides))))
+    go true c = rw (read, traces) refl
+    go false true = rw (read, resettles) refl
+    go false false = rw (read, prints) refl
+
+module _ (what : ℕ) (most : Limits) (bytes : List ℕ) (r : ReadFigures) (lists : Room) (e : r ≡ reading most bytes (allRoom most) .answer) (f : lists ≡ reading most bytes (allRoom most) .room) where
   verdict-read : r .verdict ≡ readVerdict most bytes (allRoom most)
   verdict-read = ap (λ (x : ReadFigures). x .verdict) e ∙ reading-verdict most bytes (allRoom most)
 
   number-read : r .verdict .number ≡ readVerdict most bytes (allRoom most) .number
   number-read = ap (λ (v : Verdict). v .number) verdict-read
 
-  pub refusal-printed : (a : Printed) (room room' : List ℕ) → r .verdict .number ≢ 0 → printed a room' ≡ intoRoom (refusal (r .verdict)) room
-      → (printed a room' ≡ intoRoom (inputText traced most bytes) room) × Lendable (a .bytes) room'
-  refusal-printed a room room' n h =
-      (h ∙ ap (λ (b : List ℕ). intoRoom b room) (ap refusal verdict-read ∙ sym (text-no traced most bytes (λ z. n (number-read ∙ z)))), into-lendable (refusal (r .verdict)) room room' a h)
+  pub refusal-out : (a : Printed) (room room' : List ℕ) → r .verdict .number ≢ 0 → printed a room' ≡ intoRoom (refusal (r .verdict)) room
+      → handingOf (handedTo (eqb what 2) a) room' ≡ handInto (inputOut what most bytes) room
+  refusal-out a room room' n h =
+      hand-text (eqb what 2) (refusal (r .verdict)) room room' a h
+      ∙ ap (λ (x : HandedOut). handInto x room) (ap (λ (v : Verdict). textOut (eqb what 2) (refusal v)) verdict-read ∙ sym (out-no what most bytes (λ z. n (number-read ∙ z))))
 
   module _ (z : r .verdict .number ≡ 0) where
     read : reading most bytes (allRoom most) ≡ record { answer = record { verdict = readVerdict most bytes (allRoom most); header = headerOf bytes }; room = written (jobOf bytes) (allRoom most) }
@@ -112,12 +196,21 @@ module _ (traced : Bool) (most : Limits) (bytes : List ℕ) (r : ReadFigures) (l
     lists-read : lists ≡ written (jobOf bytes) (allRoom most)
     lists-read = f ∙ ap (λ (x : Reading). x .room) read
 
-    pub run-read : (a : Printed) (room room' : List ℕ) → printed a room' ≡ intoRoom (jobText traced most (firstOf (r .header) lists)) room
-        → (printed a room' ≡ intoRoom (inputText traced most bytes) room) × Lendable (a .bytes) room'
-    run-read a room room' h = (
-      h ∙ ap (λ (b : List ℕ). intoRoom b room) (ap (jobText traced most) (ap₂ firstOf header-read lists-read ∙ first-written bytes (allRoom most)) ∙ sym (text-read traced most bytes (sym number-read ∙ z))),
-      into-lendable (jobText traced most (firstOf (r .header) lists)) room room' a h,
-    )
+    job-read : firstOf (r .header) lists ≡ jobOf bytes
+    job-read = ap₂ firstOf header-read lists-read ∙ first-written bytes (allRoom most)
+
+    pub run-read : (x : Handing) (room : List ℕ) → x ≡ handInto (jobOut what most (firstOf (r .header) lists)) room → x ≡ handInto (inputOut what most bytes) room
+    run-read x room h = h ∙ ap (λ (y : HandedOut). handInto y room) (ap (jobOut what most) job-read ∙ sym (out-read what most bytes (sym number-read ∙ z)))
+
+    -- the input is as long as the job's blocks, and no longer than what the programs take up
+    pub bytes-read : length bytes ≡ 512 * blockCount (headerFor (firstOf (r .header) lists))
+    bytes-read = read-length most bytes (allRoom most) (sym number-read ∙ z) ∙ ap (λ (j : Job). 512 * blockCount (headerFor j)) (sym job-read)
+
+    pub within-read : (k : ℕ) → mostBytes most < k → length bytes ≤ k
+    within-read k more = elim (decLt k (length bytes)) [
+      | yes long ↦ absurd (read-no most k bytes more long (allRoom most) (sym number-read ∙ z))
+      | no n ↦ omega arith
+    ]
 
     -- the lists hold what the header says, and the files are within their most
     pub room-read : (r .header .files ≤ length (lists .sizes)) × (r .header .files ≤ length (lists .sides)) × (r .header .files ≤ length (lists .marks))
@@ -141,16 +234,43 @@ module _ (traced : Bool) (most : Limits) (bytes : List ℕ) (r : ReadFigures) (l
         let files : r .header .files ≡ headerOf bytes .files = ap (λ (h : Header). h .files) header-read in
         omega (arith, files, read-files bytes, read-holds most bytes (allRoom most) .sound (sym number-read ∙ z) .fewFiles)
 
--- ---- the one text or the other
+-- ---- the room that is enough
 
-module _ (traced : Bool) (most : Limits) (job : Job) (room room' : List ℕ) (r : Printed) (m n : ℕ) where
-  pub traced-told : traced ≡ true → (printed r room' ≡ intoRoom (passTrace most job) room) × Answered m r room → (printed r room' ≡ intoRoom (jobText traced most job) room) × Answered (cond traced m n) r room
-  traced-told q h = rw q h
+-- for the trace, and for the others
+pub trace-out : (what : ℕ) (most : Limits) (job : Job) (room room' : List ℕ) (a : Printed) → what ≡ 1 → printed a room' ≡ intoRoom (passTrace most job) room
+    → handingOf (handedTo false a) room' ≡ handInto (jobOut what most job) room
+trace-out what most job room room' a q h = rw q (hand-text false (passTrace most job) room room' a h)
 
-  pub run-told-of : traced ≡ false → (printed r room' ≡ intoRoom (runReport most job) room) × Answered n r room → (printed r room' ≡ intoRoom (jobText traced most job) room) × Answered (cond traced m n) r room
-  run-told-of q h = rw q h
+pub trace-room : (what m n k l : ℕ) → what ≡ 1 → roomFor what m n k ≤ l → n ≤ l
+trace-room what m n k l q h = let e : roomFor what m n k ≡ n = rw q refl in omega (arith, e, h)
 
--- the longer room is enough for the shorter text
-pub either-room : (traced : Bool) (m n k : ℕ) → n ≤ m → cond traced m n ≤ k → n ≤ k
-either-room true m n k h l = omega (arith, h, l)
-either-room false m n k h l = l
+pub run-room : (what m n k l : ℕ) → what ≢ 1 → roomFor what m n k ≤ l → cond (eqb what 2) k m ≤ l
+run-room what m n k l q h = let e : roomFor what m n k ≡ cond (eqb what 2) k m = rw (ne-eqb what 1 q) refl in rw (sym e) h
+
+-- any of them is enough for a report
+pub any-room : (what m n k l : ℕ) → roomFor what m n k ≤ l → m ≤ n → m ≤ k → m ≤ l
+any-room what m n k l h a b = go (eqb what 1) (eqb what 2) h
+  where
+    go : (x y : Bool) → cond x n (cond y k m) ≤ l → m ≤ l
+    go true y q = omega (arith, a, q)
+    go false true q = omega (arith, b, q)
+    go false false q = q
+
+-- of a run: for its blocks, and for a report
+pub stored-room : (stored : Bool) (k m n l : ℕ) → stored ≡ true → n ≤ k → cond stored k m ≤ l → n ≤ l
+stored-room stored k m n l q h w = let e : cond stored k m ≡ k = rw q refl in omega (arith, e, h, w)
+
+pub told-room : (stored : Bool) (k m l : ℕ) → cond stored k m ≤ l → m ≤ k → m ≤ l
+told-room true k m l w h = omega (arith, h, w)
+told-room false k m l w h = w
+
+-- a text for the one stream or the other, as it is answered; it is refused where the text is
+pub told-out : (errors : Bool) (a : Printed) (room' : List ℕ) {r : Handed} {y : Handing} → r ≡ handedTo errors a → handingOf (handedTo errors a) room' ≡ y → handingOf r room' ≡ y
+told-out errors a room' e h = ap (λ (x : Handed). handingOf x room') e ∙ h
+
+pub told-number : (errors : Bool) (a : Printed) {r : Handed} → r ≡ handedTo errors a → a .verdict .number ≡ 0 → r .verdict .number ≡ 0
+told-number errors a e z = ap (λ (x : Handed). x .verdict .number) e ∙ same errors ∙ z
+  where
+    same : (b : Bool) → handedTo b a .verdict .number ≡ a .verdict .number
+    same true = refl
+    same false = refl

@@ -7,6 +7,7 @@ use lib.ListN.{take}
 use Rattle.rules.specs.Job.{Limits, limitsOf}
 use Rattle.rules.specs.Report.{prints}
 use Rattle.rules.specs.Trace.{traces}
+use Rattle.rules.specs.Writing.{resettles}
 use Rattle.rules.specs.Theorems.{mostBytes}
 use Rattle.rules.proofs.CutOff.{longer-same}
 use Rattle.planner.proofs.answer.⟦INPUT-BYTES⟧-asked.Lts as input
@@ -30,3 +31,6 @@ night-whole bytes = longer-same most inputBytes bytes .same input-whole
 
 pub trace-whole : (bytes : List ℕ) → traces most (take inputBytes bytes) ≡ traces most bytes
 trace-whole bytes = longer-same most inputBytes bytes .traced input-whole
+
+pub resettle-whole : (bytes : List ℕ) → resettles most (take inputBytes bytes) ≡ resettles most bytes
+resettle-whole bytes = longer-same most inputBytes bytes .handed input-whole

@@ -1,6 +1,7 @@
 -- A block's check byte by byte, and the verdict on blocks block by block, as a loop goes. Assumes nothing.
-use mathlib.Core.Path.{_≡_, sym, ap, _∙_}
+use mathlib.Core.Path.{_≡_, refl, sym, ap, _∙_}
 use Prim.Native.Nat.{ℕ, zero, suc, _+_, _-_, _*_, _<_, _≤_}
+use native.Mathlib.Decide.{ℕ-discrete}
 use native.Mathlib.Numerals.{add-one}
 use native.Mathlib.Omega.{arith}
 use mathlib.Core.List.{List, [], _∷_}
@@ -9,7 +10,7 @@ use lib.Seq.{take-nil}
 use Rattle.rules.specs.declared.Header.{Header}
 use Rattle.rules.specs.Check.{done, _orElse_}
 use Rattle.rules.specs.Stored.{weigh, blockVerdict, blocksVerdict}
-use Rattle.rules.proofs.Verdicts.{or-assoc}
+use Rattle.rules.proofs.Verdicts.{or-assoc, passes-both, both-pass}
 
 weigh-suc : (bs : List ℕ) (k i : ℕ) → weigh i (take (suc k) bs) ≡ weigh i (take k bs) + suc (i + k) * getD bs k 0
 unfolding weigh
@@ -53,3 +54,21 @@ blocks-split h bytes b (suc m) n =
     let e : suc m + n ≡ suc (m + n) = omega arith in
     let f : b + suc m ≡ suc b + m = omega arith in
     rw (e, f, blocks-split h bytes (suc b) m n) (sym (or-assoc (blockVerdict h bytes b) (blocksVerdict h bytes (suc b) m) (blocksVerdict h bytes (suc b + m) n)))
+
+-- ---- the blocks from b on, n of them
+
+pub blocks-pass : (h : Header) (bytes : List ℕ) (b n : ℕ) → ((i : ℕ) → b ≤ i → i < b + n → blockVerdict h bytes i .number ≡ 0) → blocksVerdict h bytes b n .number ≡ 0
+unfolding blocksVerdict
+blocks-pass h bytes b zero each = refl
+blocks-pass h bytes b (suc n) each =
+    both-pass (blockVerdict h bytes b) (blocksVerdict h bytes (suc b) n) (each b (omega arith) (omega arith)) (blocks-pass h bytes (suc b) n (λ i k l. each i (omega arith) (omega arith)))
+
+pub blocks-each : (h : Header) (bytes : List ℕ) (b n : ℕ) → blocksVerdict h bytes b n .number ≡ 0 → (i : ℕ) → b ≤ i → i < b + n → blockVerdict h bytes i .number ≡ 0
+unfolding blocksVerdict
+blocks-each h bytes b zero ok i k l = absurd (omega arith)
+blocks-each h bytes b (suc n) ok i k l =
+    let r = passes-both (blockVerdict h bytes b) (blocksVerdict h bytes (suc b) n) ok in
+    elim (ℕ-discrete i b) [
+      | yes e ↦ rw e (r .0)
+      | no z ↦ blocks-each h bytes (suc b) n (r .1) i (omega arith) (omega arith)
+    ]

@@ -3,7 +3,7 @@ use mathlib.Core.Path.{_≡_, refl, sym, ap, ap₂, _∙_}
 use mathlib.Core.Logic.{_≢_}
 use Prim.Native.Nat.{ℕ, zero, suc, _+_, _*_, _≤_, _<_, max}
 use mathlib.Core.Bool.{Bool, true, false, _&&_}
-use mathlib.Core.List.{List, [], _∷_, _++_, map}
+use mathlib.Core.List.{List, [], _∷_, _++_, map, map-append}
 use native.Mathlib.Decide.{ℕ-discrete}
 use native.Mathlib.Omega.{arith}
 use native.Mathlib.Nat.{add-zero, zero-add, suc-add, add-suc, mul-one, mul-add, max-le, le-max-left, le-max-right, zero-max, max-zero, le-trans, le-antisymm}
@@ -215,6 +215,9 @@ getD-tabled h n y d p = getD-mapped h (upTo n) y 0 d (rw (length-upTo n) p) ∙ 
 
 pub length-tabled {ℓ} : {A : Type ℓ} (h : ℕ → A) (n : ℕ) → length (map h (upTo n)) ≡ n
 length-tabled h n = length-map (upTo n) h ∙ length-upTo n
+
+pub tabled-more {ℓ} : {A : Type ℓ} (h : ℕ → A) (n : ℕ) → map h (upTo (n + 1)) ≡ map h (upTo n) ++ (h n ∷ [])
+tabled-more h n = ap (λ (k : ℕ). map h (upTo k)) (add-one n) ∙ unfold upTo in map-append h (upTo n) (n ∷ [])
 
 pub total-const {ℓ} : {A : Type ℓ} (c : ℕ) (l : List A) → total (λ (x : A). c) l ≡ length l * c
 unfolding total

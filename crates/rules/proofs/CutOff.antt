@@ -3,7 +3,7 @@ use mathlib.Core.Path.{_≡_, refl, sym, ap, ap₂, _∙_}
 use mathlib.Core.Logic.{_≢_}
 use Prim.Native.Nat.{ℕ, _+_, _-_, _*_, _≤_, _<_}
 use mathlib.Core.Bool.{true, not}
-use mathlib.Core.List.{List}
+use mathlib.Core.List.{List, []}
 use native.Mathlib.Decide.{decLt}
 use native.Mathlib.Omega.{arith}
 use lib.Dec.{ltb, eqb}
@@ -15,8 +15,9 @@ use Rattle.rules.specs.declared.Header.{Header}
 use Rattle.rules.specs.Job.{Limits}
 use Rattle.rules.specs.Check.{refuseIf, _orElse_, check1Of, check2Of, check4to6}
 use Rattle.rules.specs.Stored.{blockCheck, word, blockAt, valueIn, headerOf, blocksFor, blockCount, kindOf, valuesIn, laidOut, blockVerdict, blocksVerdict, jobOf, Room, roomy, layoutVerdict, readVerdict}
-use Rattle.rules.specs.Report.{refusal, prints, allRoom}
+use Rattle.rules.specs.Report.{refusal, allRoom, allRun, prints}
 use Rattle.rules.specs.Trace.{traces}
+use Rattle.rules.specs.Writing.{resettles}
 use Rattle.rules.specs.Theorems.{mostBytes, Longer}
 use Rattle.rules.proofs.Verdicts.{chain-stop, chain-same, passes-both}
 use Rattle.rules.proofs.SoundJob.{ok2-of}
@@ -118,7 +119,7 @@ module _ (most : Limits) (k : ℕ) (input : List ℕ) (more : mostBytes most < k
   read-same room =
       layout-refused cut-off room (λ z. layout-no room (sym (ap (λ (v : Verdict). v .number) (layout-same room)) ∙ z)) ∙ layout-same room ∙ sym (layout-refused input room (layout-no room))
 
-  read-no : (room : Room) → readVerdict most input room .number ≢ 0
+  pub read-no : (room : Room) → readVerdict most input room .number ≢ 0
   read-no room z = layout-no room (sym (ap (λ (v : Verdict). v .number) (layout-refused input room (layout-no room))) ∙ z)
 
 -- a refusal is all that is printed of an input that is refused
@@ -130,17 +131,29 @@ pub traces-no : (most : Limits) (bytes : List ℕ) → readVerdict most bytes (a
 unfolding traces
 traces-no most bytes n = rw (ne-eqb (readVerdict most bytes (allRoom most) .number) 0 n, traces) refl
 
--- what a program prints of a refused input, it prints of the input cut off
-cut-same : (most : Limits) (k : ℕ) (input : List ℕ) (tell : List ℕ → List ℕ)
-    → ((bytes : List ℕ) → readVerdict most bytes (allRoom most) .number ≢ 0 → tell bytes ≡ refusal (readVerdict most bytes (allRoom most)))
+pub resettles-no : (most : Limits) (bytes : List ℕ) → readVerdict most bytes (allRoom most) .number ≢ 0
+    → resettles most bytes ≡ record { output = []; errors = refusal (readVerdict most bytes (allRoom most)) }
+unfolding resettles
+resettles-no most bytes n =
+    let v : Verdict = readVerdict most bytes (allRoom most) orElse (allRun most (jobOf bytes) .answer .figures .verdict) in
+    let e : readVerdict most bytes (allRoom most) ≡ v = chain-stop (allRun most (jobOf bytes) .answer .figures .verdict) refl n in
+    rw (ne-eqb (v .number) 0 (λ z. n (ap (λ (w : Verdict). w .number) e ∙ z)), resettles) (ap (λ (w : Verdict). record { output = []; errors = refusal w }) (sym e))
+
+-- what a program tells of a refused input, it tells of the input cut off
+cut-same : {A : Type 0} (most : Limits) (k : ℕ) (input : List ℕ) (tell : List ℕ → A) (line : Verdict → A)
+    → ((bytes : List ℕ) → readVerdict most bytes (allRoom most) .number ≢ 0 → tell bytes ≡ line (readVerdict most bytes (allRoom most)))
     → mostBytes most < k → tell (take k input) ≡ tell input
-cut-same most k input tell told more = elim (decLt k (length input)) [
+cut-same most k input tell line told more = elim (decLt k (length input)) [
   | yes long ↦
       let same = read-same most k input more long (allRoom most) in
       let n = read-no most k input more long (allRoom most) in
-      told (take k input) (λ z. n (sym (ap (λ (v : Verdict). v .number) same) ∙ z)) ∙ ap refusal same ∙ sym (told input n)
+      told (take k input) (λ z. n (sym (ap (λ (v : Verdict). v .number) same) ∙ z)) ∙ ap line same ∙ sym (told input n)
   | no n ↦ ap tell (take-all k input (omega arith))
 ]
 
 pub longer-same : (most : Limits) (k : ℕ) (input : List ℕ) → Longer most k input
-longer-same most k input = record { same = cut-same most k input (prints most) (prints-no most); traced = cut-same most k input (traces most) (traces-no most) }
+longer-same most k input = record {
+  same = cut-same most k input (prints most) refusal (prints-no most);
+  traced = cut-same most k input (traces most) refusal (traces-no most);
+  handed = cut-same most k input (resettles most) (λ v. record { output = []; errors = refusal v }) (resettles-no most);
+}

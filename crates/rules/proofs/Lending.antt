@@ -41,13 +41,15 @@ has-room {ℓ} : {A : Type ℓ} (m n : ℕ) (z : A) → m ≤ n → leb m (lengt
 has-room m n z h = le-leb m (length (replicate n z)) (rw (length-replicate n z) h)
 
 module _ (most : Limits) where
-  room-enough : (h : Header) → check2Of most (h .files) (h .recipes) (h .pins) .number ≡ 0 → roomy h (allRoom most) ≡ true
-  room-enough h ok =
-      let r = ok2-of most (h .files) (h .recipes) (h .pins) ok in
-      let files : leb (h .files) (length (allRoom most .sizes)) ≡ true = has-room (h .files) (most .files) 0 (r .0) in
-      and-both (and-both (and-both (and-both files files) files) (has-room (h .recipes + 1) (most .recipes + 1) 0 (omega (arith, r .1)))) (has-room (h .pins) (most .pins) 0 (r .2))
+  pub room-enough : (h : Header) → h .files ≤ most .files → h .recipes ≤ most .recipes → h .pins ≤ most .pins → roomy h (allRoom most) ≡ true
+  room-enough h few-files few-recipes few-pins =
+      let files : leb (h .files) (length (allRoom most .sizes)) ≡ true = has-room (h .files) (most .files) 0 few-files in
+      and-both (and-both (and-both (and-both files files) files) (has-room (h .recipes + 1) (most .recipes + 1) 0 (omega arith))) (has-room (h .pins) (most .pins) 0 few-pins)
 
-  lent-enough : (job : Job) → fileCount job ≤ most .files → recipeCount job ≤ most .recipes → pinCount job ≤ most .pins → fits job (allLent most job) ≡ true
+  room-after : (h : Header) → check2Of most (h .files) (h .recipes) (h .pins) .number ≡ 0 → roomy h (allRoom most) ≡ true
+  room-after h ok = let r = ok2-of most (h .files) (h .recipes) (h .pins) ok in room-enough h (r .0) (r .1) (r .2)
+
+  pub lent-enough : (job : Job) → fileCount job ≤ most .files → recipeCount job ≤ most .recipes → pinCount job ≤ most .pins → fits job (allLent most job) ≡ true
   lent-enough job few-files few-recipes few-pins =
       let c : ℕ = fileCount job in
       let n : ℕ = recipeCount job in
@@ -86,7 +88,7 @@ module _ (most : Limits) where
     -- where 2 is not given there is room
     own-passed : answerOf before .number ≡ 0 → own .given ≡ false
     unfolding lacks
-    own-passed z = ap not (room-enough (headerOf input) (ap (λ (b : Bool). refuseIf b 2 0 .number) (none-given before refl z 4)))
+    own-passed z = ap not (room-after (headerOf input) (ap (λ (b : Bool). refuseIf b 2 0 .number) (none-given before refl z 4)))
 
     read-never : readVerdict most input (allRoom most) .number ≢ 3
     read-never =
@@ -95,7 +97,7 @@ module _ (most : Limits) where
 
     pub lends-enough : LendsEnough most input
     lends-enough = record {
-      room = room-enough;
+      room = room-after;
       lent = λ job ok. let r = ok2 job most ok in lent-enough job (r .0) (r .1) (r .2);
       read = read-never;
       made = λ ok.
@@ -135,4 +137,4 @@ pub read-same : (most other : Limits) (input : List ℕ) → let h = headerOf in
 unfolding readVerdict layoutVerdict
 read-same most other input a b =
     let h : Header = headerOf input in
-    rw (a, b, room-enough most h (ap (λ (v : Verdict). v .number) a), room-enough other h (ap (λ (v : Verdict). v .number) b)) refl
+    rw (a, b, room-after most h (ap (λ (v : Verdict). v .number) a), room-after other h (ap (λ (v : Verdict). v .number) b)) refl

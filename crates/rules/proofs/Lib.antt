@@ -26,7 +26,13 @@ pub mod Reading
 pub mod CutOff
 pub mod Proved
 pub mod Checking
+pub mod OtherSides
 pub mod Told
 pub mod Reports
 pub mod Lending
 pub mod Marked
+pub mod InTurn
+pub mod Words
+pub mod RoundTrip
+pub mod Writes
+pub mod Resettling

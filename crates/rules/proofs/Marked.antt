@@ -12,8 +12,9 @@ use Rattle.rules.specs.Pass.{gainsWhen, cutsAfter, cutAt, keeps, standin
 use Rattle.rules.specs.Run.{passesBy, mostPasses, passes, lastOf, figuresOf, runFiguresOf}
 use Rattle.rules.specs.Stored.{weigh, blockCheck, headerOf, laidOut, blockVerdict, blocksVerdict, jobOf, layoutVerdict, readVerdict}
 use Rattle.rules.specs.Report.{text, digitsIn, spaced, line, refusal, sizeLine, sidesLine, figureLines, report, allRoom, prints}
+use Rattle.rules.specs.Writing.{valueBytes, contents}
 use Rattle.rules.specs.Trace.{signed, gainWords, scanLines, moveLines, movesLines, passLines, trace, traces}
-use Rattle.rules.specs.Marked.{chain, pair, valueBytes, chainBytes, pairBytes, Marked}
+use Rattle.rules.specs.Marked.{chain, pair, chainBytes, pairBytes, Marked}
 use Rattle.rules.proofs.Lending.{runText, passText, prints-run, traces-pass, read-same}
 
 -- ---- from bytes to bytes, of a stored job that the programs accept under these limits
@@ -29,12 +30,12 @@ module _ (most : Limits) (input : List ℕ) (job : Job) (stored : jobOf input �
 -- ---- the chain
 
 chain-stored : jobOf chainBytes ≡ chain
-unfolding upTo padded valueBytes jobOf headerOf
+unfolding upTo padded contents valueBytes jobOf headerOf
 chain-stored = refl
 
 module _ (most : Limits) (f : 4 ≤ most .files) (r : 3 ≤ most .recipes) (p : 6 ≤ most .pins) where
   chain-read : readVerdict most chainBytes (allRoom most) ≡ done
-  unfolding upTo lowest padded valueBytes weigh blockCheck headerOf laidOut blockVerdict blocksVerdict jobOf layoutVerdict readVerdict check1 check2 check3 check4 badPin check5 check6 check7 check8 check9 check4to6 check7to9 check1to6 check
+  unfolding upTo lowest padded contents valueBytes weigh blockCheck headerOf laidOut blockVerdict blocksVerdict jobOf layoutVerdict readVerdict check1 check2 check3 check4 badPin check5 check6 check7 check8 check9 check4to6 check7to9 check1to6 check
   chain-read = read-same most (limitsOf 4 3 6 2) chainBytes (rw (le-ltb (most .files) 4 f, le-ltb (most .recipes) 3 r, le-ltb (most .pins) 6 p) refl) refl
 
   chain-checked : 2 ≤ most .den → checkJob most chain ≡ done
@@ -44,12 +45,12 @@ module _ (most : Limits) (f : 4 ≤ most .files) (r : 3 ≤ most .recipes) (p : 
 -- ---- the pair
 
 pair-stored : jobOf pairBytes ≡ pair
-unfolding upTo padded valueBytes jobOf headerOf
+unfolding upTo padded contents valueBytes jobOf headerOf
 pair-stored = refl
 
 module _ (most : Limits) (f : 2 ≤ most .files) (r : 1 ≤ most .recipes) (p : 2 ≤ most .pins) where
   pair-read : readVerdict most pairBytes (allRoom most) ≡ done
-  unfolding upTo lowest padded valueBytes weigh blockCheck headerOf laidOut blockVerdict blocksVerdict jobOf layoutVerdict readVerdict check1 check2 check3 check4 badPin check5 check6 check7 check8 check9 check4to6 check7to9 check1to6 check
+  unfolding upTo lowest padded contents valueBytes weigh blockCheck headerOf laidOut blockVerdict blocksVerdict jobOf layoutVerdict readVerdict check1 check2 check3 check4 badPin check5 check6 check7 check8 check9 check4to6 check7to9 check1to6 check
   pair-read = read-same most (limitsOf 2 1 2 2) pairBytes (rw (le-ltb (most .files) 2 f, le-ltb (most .recipes) 1 r, le-ltb (most .pins) 2 p) refl) refl
 
   pair-checked : 2 ≤ most .den → checkJob most pair ≡ done

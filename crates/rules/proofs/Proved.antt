@@ -32,7 +32,7 @@ use Rattle.rules.proofs.Choice.{chosen-one}
 use Rattle.rules.proofs.MovesEnd.{StateLong, after-long, pass-free, pass-each, pass-end, locked-stays, frees-once, frees-few}
 use Rattle.rules.proofs.Fits.{long-enough}
 use Rattle.rules.proofs.Steps.{after-snoc, cuts-at, gains-take, gains-length, cuts-length, ends-length}
-use Rattle.rules.proofs.Runs.{keeps-le, keeps-least, keeps-shortest, onePass, pass-falls, pass-to, pass-size, Passes, passes-come, come-first, come-next, come-less, come-few, come-turns, come-settled, come-full, come-each, come-last, come-some, turns-none, turns-cap}
+use Rattle.rules.proofs.Runs.{keeps-le, keeps-least, keeps-shortest, onePass, pass-falls, pass-to, pass-size, Passes, passes-come, come-first, come-next, come-less, come-few, come-turns, come-settled, come-full, come-each, come-last, come-some, turns-none, turns-cap, turns-some}
 
 -- ---- an accepted job
 
@@ -233,11 +233,7 @@ module _ (most : Limits) (job : Job) (s : Sound most job) where
       let ps : List Pass = run job in
       let came : Passes job try (mostPasses job) (job .sides) ps = passes-come job try (mostPasses job) (job .sides) in
       let next : (sides : List ℕ) → Sides job sides → Sides job (onePass job try sides .sidesAfter) = λ sides w. pass-holds sides w .moves .next in
-      let turn : 1 ≤ mostPasses job = elim (ℕ-discrete (job .cap) 0) [
-        | yes e ↦ omega (arith, turns-none job e)
-        | no n ↦ omega (arith, turns-cap job n)
-      ] in
-      let some : 1 ≤ length ps = come-some job try came turn in
+      let some : 1 ≤ length ps = come-some job try came (turns-some job) in
       let from : (d : Pass) (i : ℕ) → i < length ps → getD ps i d ≡ pass job (startSides job i)
       = come-start ps (come-first job try came) (come-next job try came) in
       let last = come-last job try (Sides job) next came given-sides (onePass job try (job .sides)) (job .sides, given-sides, refl) in
@@ -280,20 +276,23 @@ module _ (most : Limits) (job : Job) (s : Sound most job) where
 
 -- ---- the answers
 
-plain-check : (most : Limits) (job : Job) (lent : Bool) → Plain (check most job lent)
+pub plain-check : (most : Limits) (job : Job) (lent : Bool) → Plain (check most job lent)
 unfolding check check7to9 check7 check8 check9
 plain-check most job lent =
     plain-chain (check1to6 most job lent) (check7to9 most job)
     (plain-chain (check7 most job) (check8 job orElse check9 job) (plain-chain (check8 job) (check9 job) (plain-if (not (balanced job (sizeA job (job .sides)))) 8 0)))
 
-plain-six : (most : Limits) (job : Job) (lent : Bool) → Plain (check1to6 most job lent)
-unfolding check1to6 check4to6 check6
+pub plain-later : (job : Job) → Plain (check4to6 job)
+unfolding check4to6 check6
+plain-later job =
+    plain-chain (check4 job) (check5 job orElse check6 job)
+    (plain-chain (check5 job) (check6 job) (plain-if (someBelow (badFile job) (fileCount job)) 5 (lowest (badFile job) (fileCount job))))
+
+pub plain-six : (most : Limits) (job : Job) (lent : Bool) → Plain (check1to6 most job lent)
+unfolding check1to6
 plain-six most job lent =
     plain-chain (check1 job) (check2 most job orElse check3 job lent orElse check4to6 job)
-    (plain-chain (check2 most job) (check3 job lent orElse check4to6 job)
-    (plain-chain (check3 job lent) (check4to6 job)
-    (plain-chain (check4 job) (check5 job orElse check6 job)
-    (plain-chain (check5 job) (check6 job) (plain-if (someBelow (badFile job) (fileCount job)) 5 (lowest (badFile job) (fileCount job)))))))
+    (plain-chain (check2 most job) (check3 job lent orElse check4to6 job) (plain-chain (check3 job lent) (check4to6 job) (plain-later job)))
 
 pub lent-six : (most : Limits) (job : Job) (lent : Bool) → check1to6 most job lent .number ≡ 0 → lent ≡ true
 unfolding check1to6 check3

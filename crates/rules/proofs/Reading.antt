@@ -19,7 +19,7 @@ use Rattle.rules.specs.Theorems.{ReadHolds, Written}
 use Rattle.rules.proofs.Verdicts.{passes-both, both-pass, not-refused, chain-go}
 use Rattle.rules.proofs.Tests.{not-no}
 use Rattle.rules.proofs.Count.{length-tabled, getD-tabled}
-use Rattle.rules.proofs.Entries.{onto-length, onto-in, onto-stays}
+use Rattle.rules.proofs.Entries.{below-any, onto-length, onto-in, onto-stays}
 use Rattle.rules.proofs.SoundJob.{sound}
 use Rattle.rules.proofs.Refusals.{read-rows}
 
@@ -42,7 +42,7 @@ module _ (bytes : List ℕ) where
   unfolding jobOf
   read-bounds = length-tabled _ (headerOf bytes .recipes + 1)
 
-  read-recipes : recipeCount (jobOf bytes) ≡ headerOf bytes .recipes
+  pub read-recipes : recipeCount (jobOf bytes) ≡ headerOf bytes .recipes
   read-recipes = omega (arith, read-bounds)
 
   pub read-pins : pinCount (jobOf bytes) ≡ headerOf bytes .pins
@@ -85,12 +85,9 @@ tabled-below h n m below i l = rw (getD-tabled h n i 0 (rw (← length-tabled h 
 
 module _ (bytes : List ℕ) (small : allBelow 256 bytes) where
   byte-small : (i : ℕ) → getD bytes i 0 < 256
-  byte-small i = elim (decLt i (length bytes)) [
-    | yes h ↦ small i h
-    | no n ↦ omega (arith, List·getD-eq-default bytes 0 {n = i} (omega arith))
-  ]
+  byte-small = below-any 256 bytes (omega arith) small
 
-  part-small : (n k i : ℕ) → getD (take n (drop k bytes)) i 0 < 256
+  pub part-small : (n k i : ℕ) → getD (take n (drop k bytes)) i 0 < 256
   part-small n k i = elim (decLt i n) [
     | yes h ↦ rw (getD-take n (drop k bytes) i 0 h, getD-drop k bytes i 0) (byte-small (k + i))
     | no z ↦ omega (arith, List·getD-eq-default (take n (drop k bytes)) 0 {n = i} (omega (arith, length-take n (drop k bytes))))

@@ -88,7 +88,7 @@ made-told most job r sides room e few w =
     ap (λ (v : Verdict). printing v bytes room) (ap (λ (v : Verdict). printVerdict most (job .sizes) sides v true short) e ∙ split-told most (job .sizes) sides short few (w .long) (w .binary))
     ∙ ap (λ (b : List ℕ). intoRoom b room) (report-sizes job r sides)
 
-last-sides : (most : Limits) (job : Job) → Sound most job → Sides job (lastOf (pass job (job .sides)) (run job) .sidesAfter)
+pub last-sides : (most : Limits) (job : Job) → Sound most job → Sides job (lastOf (pass job (job .sides)) (run job) .sidesAfter)
 last-sides most job s =
     let holds = run-holds most job s in
     let first = pass job (job .sides) in

@@ -4,13 +4,14 @@ use mathlib.Core.Logic.{_≢_}
 use Prim.Native.Nat.{ℕ, zero, suc, _≤_, _<_}
 use mathlib.Core.Bool.{Bool, true, false}
 use mathlib.Core.List.{List, [], _∷_, _++_}
+use native.Mathlib.Decide.{ℕ-discrete}
 use native.Mathlib.Omega.{arith}
 use lib.ListN.{length, getD, take}
 use lib.Seq.{take-suc}
-use borrow.Author.Tests.{eqb-false, eq-eqb, ne-eqb}
+use borrow.Author.Tests.{eqb-true, eqb-false, eq-eqb, ne-eqb}
 use Rattle.rules.specs.Job.{Job, recipes}
 use Rattle.rules.specs.Split.{cut, sizeA}
-use Rattle.rules.specs.Move.{stepsBy, State}
+use Rattle.rules.specs.Move.{stepsBy, State, start, after}
 use Rattle.rules.specs.Pass.{cutAt, keeps, Pass, passOf}
 use Rattle.rules.specs.Run.{settles, passesBy, mostPasses, lastOf}
 use Rattle.rules.proofs.Tests.{clash}
@@ -60,6 +61,27 @@ module _ (job : Job) (try : List ℕ → List ℕ) where
   lessens sides e =
       let n : onePass sides .cutAfter ≢ onePass sides .cutBefore = eqb-false (onePass sides .cutAfter) (onePass sides .cutBefore) e in
       omega (arith, pass-falls sides)
+
+  -- a pass that settles keeps no move, and so leaves the sides as they are
+  pub settled-none : (sides : List ℕ) → settles (onePass sides) ≡ true → onePass sides .kept ≡ 0
+  unfolding passOf
+  settled-none sides e = elim (ℕ-discrete (onePass sides .kept) 0) [
+    | yes z ↦ z
+    | no n ↦
+        let same : onePass sides .cutAfter ≡ onePass sides .cutBefore = eqb-true (onePass sides .cutAfter) (onePass sides .cutBefore) e in
+        let less : onePass sides .cutAfter < onePass sides .cutBefore = unfold cutAt stepsBy in keeps-shortest (recipes job) (start job sides) (try sides) 0 (omega arith) in
+        absurd (omega arith)
+  ]
+
+  pub settled-stays : (sides : List ℕ) → settles (onePass sides) ≡ true → onePass sides .sidesAfter ≡ sides
+  unfolding passOf stepsBy
+  settled-stays sides e = ap (λ (k : ℕ). after (start job sides) (take k (try sides)) .sides) (settled-none sides e)
+
+  -- and is the only one of the passes from there
+  pub settled-only : (n : ℕ) (sides : List ℕ) → 1 ≤ n → settles (onePass sides) ≡ true → passesBy job try n sides ≡ onePass sides ∷ []
+  unfolding passesBy
+  settled-only zero sides h e = absurd (omega arith)
+  settled-only (suc n) sides h e = rw (e, passesBy) refl
 
   -- how a list of passes came about: no turn was left, or a pass settled, or one did not and others followed it
   pub data Passes : ℕ → List ℕ → List Pass → Type 0 where
@@ -149,6 +171,12 @@ turns-none job e = rw (eq-eqb (job .cap) 0 e) refl
 pub turns-cap : (job : Job) → job .cap ≢ 0 → mostPasses job ≡ job .cap
 unfolding mostPasses
 turns-cap job n = rw (ne-eqb (job .cap) 0 n) refl
+
+pub turns-some : (job : Job) → 1 ≤ mostPasses job
+turns-some job = elim (ℕ-discrete (job .cap) 0) [
+  | yes e ↦ omega (arith, turns-none job e)
+  | no n ↦ omega (arith, turns-cap job n)
+]
 
 -- a run with a turn makes a pass
 pub come-some : (job : Job) (try : List ℕ → List ℕ) {n : ℕ} {sides : List ℕ} {ps : List Pass} → Passes job try n sides ps → 1 ≤ n → 1 ≤ length ps

@@ -9,5 +9,7 @@ pub mod Stored
 pub mod Refusals
 pub mod Report
 pub mod Trace
+pub mod Writing
 pub mod Marked
 pub mod Theorems
+pub mod RoundTrip

@@ -29,6 +29,11 @@ unfoldable pub upTo : ℕ → List ℕ
 upTo zero = []
 upTo (suc n) = upTo n ++ (n ∷ [])
 
+-- the lists f 0, f 1, .., f (n − 1), one after the other
+unfoldable pub inTurn {ℓ} : {A : Type ℓ} → (ℕ → List A) → ℕ → List A
+inTurn f zero = []
+inTurn f (suc n) = inTurn f n ++ f n
+
 -- every number of the list is below n
 abbrev pub allBelow : ℕ → List ℕ → Type 0
 allBelow n xs = (i : ℕ) → i < length xs → getD xs i 0 < n

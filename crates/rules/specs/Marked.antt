@@ -1,11 +1,11 @@
 -- Document 01's marked table, m1 to m9, as one statement about the definitions (Marked `marked` of proofs/). Assumes nothing.
-use Prim.Native.Nat.{ℕ, _/_, _%_, _≤_}
+use Prim.Native.Nat.{ℕ, _≤_}
 use mathlib.Core.Path.{_≡_}
 use mathlib.Core.Bool.{true, false}
 use mathlib.Core.List.{List, [], _∷_, _++_, map}
 use lib.ListN.{length, take, set, replicate}
 use lib.IntN.{pos, negsuc}
-use Rattle.rules.specs.Lists.{padded}
+use Rattle.rules.specs.Writing.{contents}
 use Rattle.rules.specs.Job.{Job, Limits, files, views, recipes}
 use Rattle.rules.specs.Split.{gain, balanced}
 use Rattle.rules.specs.Check.{done, checkJob}
@@ -37,30 +37,25 @@ chain = small (0 ∷ 1 ∷ 0 ∷ 1 ∷ []) (0 ∷ 2 ∷ 4 ∷ 6 ∷ []) (0 ∷ 1
 abbrev pub pair : Job
 pair = small (0 ∷ 1 ∷ []) (0 ∷ 2 ∷ []) (0 ∷ 1 ∷ [])
 
--- each value as two bytes, low byte first
-unfoldable pub valueBytes : List ℕ → List ℕ
-valueBytes [] = []
-valueBytes (v ∷ vs) = v % 256 ∷ v / 256 ∷ valueBytes vs
-
--- a block as bytes: its number (below 256), its kind, its values, unused ones zero, and the two bytes of its check
-abbrev pub blockOf : ℕ → ℕ → List ℕ → ℕ → ℕ → List ℕ
-blockOf number kind values low high = (number ∷ 0 ∷ kind ∷ length values ∷ padded 506 0 (valueBytes values)) ++ (low ∷ high ∷ [])
+-- a block as bytes: its number, its kind, its values, unused ones zero, and the two bytes of its check
+abbrev pub checked : ℕ → ℕ → List ℕ → ℕ → ℕ → List ℕ
+checked number kind values low high = contents number kind values ++ (low ∷ high ∷ [])
 
 -- the chain as it is stored
 abbrev pub chainBytes : List ℕ
 chainBytes =
-    blockOf 0 1 (4 ∷ 3 ∷ 6 ∷ 1 ∷ 2 ∷ 0 ∷ []) 244 85
-    ++ (blockOf 1 2 (1 ∷ 0 ∷ 1 ∷ 1 ∷ 1 ∷ 0 ∷ 1 ∷ 1 ∷ []) 198 85
-    ++ (blockOf 2 3 (0 ∷ 2 ∷ 4 ∷ 6 ∷ []) 228 85
-    ++ blockOf 3 4 (0 ∷ 1 ∷ 2 ∷ 3 ∷ 1 ∷ 2 ∷ []) 225 85))
+    checked 0 1 (4 ∷ 3 ∷ 6 ∷ 1 ∷ 2 ∷ 0 ∷ []) 244 85
+    ++ (checked 1 2 (1 ∷ 0 ∷ 1 ∷ 1 ∷ 1 ∷ 0 ∷ 1 ∷ 1 ∷ []) 198 85
+    ++ (checked 2 3 (0 ∷ 2 ∷ 4 ∷ 6 ∷ []) 228 85
+    ++ checked 3 4 (0 ∷ 1 ∷ 2 ∷ 3 ∷ 1 ∷ 2 ∷ []) 225 85))
 
 -- the pair as it is stored
 abbrev pub pairBytes : List ℕ
 pairBytes =
-    blockOf 0 1 (2 ∷ 1 ∷ 2 ∷ 1 ∷ 2 ∷ 0 ∷ []) 184 85
-    ++ (blockOf 1 2 (1 ∷ 0 ∷ 1 ∷ 1 ∷ []) 133 85
-    ++ (blockOf 2 3 (0 ∷ 2 ∷ []) 118 85
-    ++ blockOf 3 4 (0 ∷ 1 ∷ []) 115 85))
+    checked 0 1 (2 ∷ 1 ∷ 2 ∷ 1 ∷ 2 ∷ 0 ∷ []) 184 85
+    ++ (checked 1 2 (1 ∷ 0 ∷ 1 ∷ 1 ∷ []) 133 85
+    ++ (checked 2 3 (0 ∷ 2 ∷ []) 118 85
+    ++ checked 3 4 (0 ∷ 1 ∷ []) 115 85))
 
 -- recipe {0,1,2}, files 0 and 1 in A, 2 in B
 abbrev pub triple : Job

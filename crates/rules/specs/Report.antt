@@ -14,7 +14,7 @@ use Rattle.rules.specs.Lists.{onto}
 use Rattle.rules.specs.Job.{Job, asJob, Limits, fileCount, Lent, scratchNumbers}
 use Rattle.rules.specs.Split.{sizeOn}
 use Rattle.rules.specs.Check.{isDone, refuseIf, refuseAt, _orElse_}
-use Rattle.rules.specs.Run.{runEnds}
+use Rattle.rules.specs.Run.{Ended, runEnds}
 use Rattle.rules.specs.Stored.{Room, jobOf, readVerdict}
 
 -- a text as bytes
@@ -139,10 +139,14 @@ ownLent most gains = record {
 abbrev pub allLent : Limits → Job → Lent
 allLent most job = ownLent most (replicate (fileCount job) (pos 0))
 
+-- the run of a job, lent these lists
+abbrev pub allRun : Limits → Job → Ended RunFigures
+allRun most job = runEnds most job (allLent most job)
+
 -- reading gives its refusal or a job, and the run of the job gives its answer, 7 to 9 among them
 unfoldable pub prints : Limits → List ℕ → List ℕ
 prints most input =
     let v = readVerdict most input (allRoom most) in
     let job = jobOf input in
-    let e = runEnds most job (allLent most job) in
+    let e = allRun most job in
     elim (isDone v) [ true ↦ report job (e .answer) (e .sides) | false ↦ refusal v ]

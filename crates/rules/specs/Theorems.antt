@@ -20,6 +20,7 @@ use Rattle.rules.specs.Run.{settles, run, lastOf, noFigures, noRunFigure
 use Rattle.rules.specs.Refusals.{Row, saidBy, rowOf, rows1to6, rows1to9, readRows}
 use Rattle.rules.specs.Report.{allRoom, allLent, prints}
 use Rattle.rules.specs.Trace.{traces}
+use Rattle.rules.specs.Writing.{resettles}
 use Rattle.rules.specs.Stored.{blocksFor, headerOf, jobOf, Room, roomy, readVerdict, written, noHeader, reading}
 
 -- ---- an accepted job has what the theorems ask
@@ -311,6 +312,7 @@ mostBytes most = 512 * (1 + blocksFor 126 (most .files) + blocksFor 253 (most .r
 pub record Longer (most : Limits) (k : ℕ) (input : List ℕ) : Type 0 where
   pub same : mostBytes most < k → prints most (take k input) ≡ prints most input
   pub traced : mostBytes most < k → traces most (take k input) ≡ traces most input
+  pub handed : mostBytes most < k → resettles most (take k input) ≡ resettles most input
 
 -- a program has room for every job that passes 1 and 2, so 3 is never given
 pub record LendsEnough (most : Limits) (input : List ℕ) : Type 0 where

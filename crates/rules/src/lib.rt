@@ -54,3 +54,10 @@ pub struct Printed {
     pub verdict: Verdict,
     pub bytes: usize,
 }
+
+// The answer of a call that hands out: how many bytes go to standard output, and how many after them to standard error.
+pub struct Handed {
+    pub verdict: Verdict,
+    pub output: usize,
+    pub errors: usize,
+}

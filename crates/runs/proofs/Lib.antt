@@ -1,5 +1,4 @@
 pub mod AnswerSoFar
-pub mod SameJob
 pub mod PassAfterPass
 pub mod RunNow
 pub mod RunOn

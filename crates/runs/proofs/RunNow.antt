@@ -26,8 +26,9 @@ use Rattle.rules.proofs.Tests.{clash, and-yes}
 use Rattle.split.specs.Playing.{passLeft}
 use Rattle.tables.proofs.Accepted.{Narrow}
 use Rattle.split.proofs.Bounds.{cut-few}
-use Rattle.runs.specs.Running.{plusOf, follows, SumsFit, withSides, lastAt, Running, runLeft}
-use Rattle.runs.proofs.SameJob.{leaves-same, pass-same}
+use Rattle.rules.specs.Writing.{withSides}
+use Rattle.runs.specs.Running.{plusOf, follows, SumsFit, lastAt, Running, runLeft}
+use Rattle.rules.proofs.OtherSides.{same-leaves, same-pass}
 use Rattle.runs.proofs.PassAfterPass.{Alike, leaves-again, leaves-alike}
 
 total-more : (w : Pass → ℕ) (ps : List Pass) (p : Pass) → total w (ps ++ (p ∷ [])) ≡ total w ps + (w p + 0)
@@ -176,10 +177,10 @@ module _ {most : Limits} {job : Job} (ok : Accepted most job) (l : Lent) where
       let p : Pass = getD (run job) (suc j) (pass job (job .sides)) in
       let q : Pass = pass job sides in
       let same : q ≡ p = ap (pass job) (r .standing) ∙ sym (pass-there j h) in
-      let here : pass (withSides job sides) sides ≡ q = pass-same job sides sides in
+      let here : pass (withSides job sides) sides ≡ q = same-pass job sides sides in
       let b = came r in
       let left : leaves (withSides job sides) lent (pass (withSides job sides) sides) ≡ leaves job l q
-      = leaves-same job sides lent (pass (withSides job sides) sides) ∙ ap₂ (leaves job) (r .lists ∙ ap (leaves job l) (b .2)) here
+      = same-leaves job sides lent (pass (withSides job sides) sides) ∙ ap₂ (leaves job) (r .lists ∙ ap (leaves job l) (b .2)) here
       ∙ leaves-again job l (b .0) sides (tries job (b .0)) (tries job sides) (pass-holds most job s (b .0) (b .1 .fit) .moves) (pass-holds most job s sides (starts-there r .fit) .moves) in
       let answer : f ≡ figuresOf done p (p ∷ []) = ap (λ (x : Ended Figures). x .answer) e ∙ ap (λ (x : Pass). figuresOf done x (x ∷ [])) (here ∙ same) in
       let last : lastAt job (suc (suc j)) ≡ p = last-is (suc j) h in

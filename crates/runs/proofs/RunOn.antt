@@ -23,9 +23,10 @@ use Rattle.rules.proofs.Proved.{accepted, answers, run-holds}
 use Rattle.rules.proofs.Tests.{clash}
 use Rattle.split.specs.Playing.{passLeft}
 use Rattle.tables.proofs.Accepted.{Narrow}
-use Rattle.runs.specs.Running.{plusOf, withPass, follows, goesOn, SumsFit, withSides, Running}
+use Rattle.rules.specs.Writing.{withSides}
+use Rattle.runs.specs.Running.{plusOf, withPass, follows, goesOn, SumsFit, Running}
 use Rattle.runs.proofs.AnswerSoFar.{with-none, with-first, with-more, stops-refused, goes-where, first-goes}
-use Rattle.runs.proofs.SameJob.{check-again}
+use Rattle.rules.proofs.OtherSides.{check-again}
 use Rattle.runs.proofs.PassAfterPass.{Alike, fits-alike}
 use Rattle.runs.proofs.RunNow.{starts-there, alike-there, follows-there, runs-first, runs-more, runs-last, sums-fit}
 
@@ -139,7 +140,7 @@ module _ (most : Limits) (job : Job) (l : Lent) where
           let t = starts-there (job-is z) l r in
           let ok : fits job l ≡ true = answers most job l .fitting z in
           let fit : fits job lent ≡ true = fits-alike (alike-there (job-is z) l ok r) ∙ ok in
-          rw fit (check-again job sides most (fits job l) z (t .fit) (t .balanced))
+          rw fit (ap (λ (v : Verdict). v .number) (check-again job sides most (fits job l) z (t .fit) (t .balanced)))
 
       pass-left : endedOf f sides' lent' ≡ passLeft (withSides job sides) lent
       pass-left = p ∙ answers most (withSides job sides) lent .passDone passes-again

@@ -7,7 +7,7 @@ use lib.ListN.{length, take}
 use lib.Dec.{ltb, eqb}
 use Rattle.rules.specs.declared.Figures.{Figures}
 use Rattle.rules.specs.declared.RunFigures.{RunFigures}
-use Rattle.rules.specs.Job.{Job, asJob, Lent}
+use Rattle.rules.specs.Job.{Job, Lent}
 use Rattle.rules.specs.Check.{done, isDone}
 use Rattle.rules.specs.Pass.{Pass, pass, leaves}
 use Rattle.rules.specs.Run.{settles, run, lastOf, figuresOf, runFiguresOf, leftBy, Ended}
@@ -54,10 +54,6 @@ pub record SumsFit (sum : Figures) : Type 0 where
   pub visits : sum .visits < 2 ^ 63
 
 -- ---- what it stands for
-
--- the same job, started from other sides
-abbrev pub withSides : Job → List ℕ → Job
-withSides job sides = asJob (job .sizes) sides (job .marks) (job .bounds) (job .pins) (job .num) (job .den) (job .cap)
 
 -- the last of the first k passes
 abbrev pub lastAt : Job → ℕ → Pass

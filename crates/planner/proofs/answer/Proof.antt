@@ -1,7 +1,7 @@
-use mathlib.Core.Bool.{true}
 use native.Mathlib.Omega.{arith}
+use lib.Dec.{eqb}
 use Rattle.rules.specs.Job.{limitsOf}
-use Rattle.planner.proofs.Telling.{refusal-printed, run-read, room-read, few-read, either-room}
+use Rattle.planner.proofs.Telling.{refusal-out, run-read, room-read, few-read, bytes-read, within-read, any-room, told-out, told-number}
 use borrow.Author.Needs.{needs}
 use Rattle.planner.proofs.answer.Statement.{statement}
 use Rattle.planner.proofs.answer.Tie as tie
@@ -27,15 +27,22 @@ read-requires c κs = search needs
 print-refusal-requires : tie.Need-print-refusal-requires
 print-refusal-requires c κs = search needs
 
+for-stream-requires : tie.Need-for-stream-requires
+for-stream-requires c κs = search needs
+
 same-length : tie.Need-same-length
 same-length c = search needs
 
 returns : tie.Need-returns
 returns c =
-    let r = c .before .before .before .before .before .before .before .before .before .before .before .before .read in
-    let p = c .before .before .print-refusal .ensures in
-    let e = refusal-printed (c .before .before .before .before .before .before .before .before .before .before .before .before .before .before .before .before .before .before .before .before .args .traced) (limitsOf _ _ _ _) _ (r .result) _ (r .ensures .0) (r .ensures .1) _ (c .before .before .before .before .before .before .before .before .before .before .before .before .before .before .before .before .before .before .before .before .args .out .now) _ (c .before .before .before .before .if1 .taken) (p .0) in
-    (e .0, ((λ long. p .1 (either-room (c .before .before .before .before .before .before .before .before .before .before .before .before .before .before .before .before .before .before .before .before .args .traced) _ _ _ (omega arith) long), e .1), omega arith))
+    let a = c .before .before .before .before .before .before .before .before .before .before .before .before .before .before .before .before .before .before .before .before .before .args in
+    let r = c .before .before .before .before .before .before .before .before .before .before .before .before .before .read in
+    let p = c .before .before .before .print-refusal in
+    let e = refusal-out (a .what) (limitsOf _ _ _ _) _ (r .result) _ (r .ensures .0) (r .ensures .1) (p .result) (a .out .now) _ (c .before .before .before .before .before .if1 .taken) (p .ensures .0) in
+    let s = c .for-stream .ensures in (
+      told-out (eqb (a .what) 2) (p .result) _ s e,
+      (λ long. told-number (eqb (a .what) 2) (p .result) s (p .ensures .1 (any-room (a .what) _ _ _ _ long (omega arith) (omega arith))), omega arith),
+    )
 
 slice-aggregate-print-job : tie.Need-slice-aggregate-print-job
 slice-aggregate-print-job c = search needs
@@ -55,18 +62,23 @@ slice-aggregate-print-job-5 c = search needs
 print-job-requires : tie.Need-print-job-requires
 print-job-requires c κs =
     let r = c .before .before .before .before .before .before .before .before .before .before .before .before .before .before .read in
-    let z = c .before .before .before .before .before .before .if1 .left in
-    (room-read true (limitsOf _ _ _ _) _ (r .result) _ (r .ensures .0) (r .ensures .1) z, few-read true (limitsOf _ _ _ _) _ (r .result) _ (r .ensures .0) (r .ensures .1) z)
+    let z = c .before .before .before .before .before .before .if1 .left in (
+      room-read 0 (limitsOf _ _ _ _) _ (r .result) _ (r .ensures .0) (r .ensures .1) z,
+      (
+        few-read 0 (limitsOf _ _ _ _) _ (r .result) _ (r .ensures .0) (r .ensures .1) z,
+        (bytes-read 0 (limitsOf _ _ _ _) _ (r .result) _ (r .ensures .0) (r .ensures .1) z, within-read 0 (limitsOf _ _ _ _) _ (r .result) _ (r .ensures .0) (r .ensures .1) z _ (omega arith)),
+      ),
+    )
 
 same-length-2 : tie.Need-same-length-2
 same-length-2 c = search needs
 
 returns-2 : tie.Need-returns-2
 returns-2 c =
+    let a = c .before .before .before .before .before .before .before .before .before .before .before .before .before .before .before .before .before .before .before .before .before .before .before .before .before .before .args in
     let r = c .before .before .before .before .before .before .before .before .before .before .before .before .before .before .before .before .before .before .read in
     let p = c .before .before .before .print-job .ensures in
-    let e = run-read (c .before .before .before .before .before .before .before .before .before .before .before .before .before .before .before .before .before .before .before .before .before .before .before .before .before .before .args .traced) (limitsOf _ _ _ _) _ (r .result) _ (r .ensures .0) (r .ensures .1) (c .before .before .before .before .before .before .before .before .before .before .if1 .left) _ (c .before .before .before .before .before .before .before .before .before .before .before .before .before .before .before .before .before .before .before .before .before .before .before .before .before .before .args .out .now) _ (p .0) in
-    (e .0, ((p .1, e .1), omega arith))
+    (run-read (a .what) (limitsOf _ _ _ _) _ (r .result) _ (r .ensures .0) (r .ensures .1) (c .before .before .before .before .before .before .before .before .before .before .if1 .left) _ (a .out .now) (p .0), (p .1, omega arith))
 
 pub answer-spec : {M : Type 1} → statement M
 answer-spec =
@@ -79,6 +91,7 @@ answer-spec =
     slice-aggregate-read-5
     read-requires
     print-refusal-requires
+    for-stream-requires
     same-length
     returns
     slice-aggregate-print-job

@@ -4,7 +4,7 @@ use lib.ListN.{take}
 use lib.Seq.{length-take-le}
 use Rattle.rules.specs.Job.{Limits, limitsOf}
 use Rattle.stored.specs.Room.{roomOf}
-use Rattle.planner.proofs.Telling.{own-lent, first-printed}
+use Rattle.planner.proofs.Telling.{own-lent, first-out}
 use borrow.Author.Needs.{needs}
 use Rattle.planner.proofs.print_job.Statement.{statement}
 use Rattle.planner.proofs.print_job.Tie as tie
@@ -83,7 +83,7 @@ print-with-requires c κs =
     let n = start .args .h .files in
     let sizes = length-take-le n (start .args .sizes .now) (start .pre .0 .0) in
     let sides = length-take-le n (start .args .sides .now) (start .pre .0 .1) in
-    ((omega (arith, start .pre .1, sizes), sides ∙ sym sizes), own-lent most (take n (start .args .sizes .now)) n sizes (start .pre .1))
+    ((omega (arith, start .pre .1 .0, sizes), sides ∙ sym sizes), (own-lent most (take n (start .args .sizes .now)) n sizes (start .pre .1 .0), start .pre .1 .1))
 
 same-length : tie.Need-same-length
 same-length c = search needs
@@ -95,7 +95,7 @@ returns : tie.Need-returns
 returns c =
     let a = c .before .before .before .before .before .before .before .before .before .before .before .before .before .before .before .before .before .before .before .before .before .before .before .before .before .before .before .before .before .before .before .before .before .before .before .before .before .args in
     let e = c .before .before .before .before .before .before .before .before .before .before .before .before .print-with .ensures in
-    (first-printed (a .traced) (limitsOf _ _ _ _) (a .h) (roomOf (a .sizes .now) (a .sides .now) (a .marks .now) (a .bounds .now) (a .pins .now)) _ _ (a .out .now) (c .before .before .before .before .before .before .before .before .before .before .before .before .before .before .before .before .before .before .before .before .before .before .before .before .before .before .before .figures-of .ensures) (e .0), e .1)
+    (first-out (a .what) (limitsOf _ _ _ _) (a .h) (roomOf (a .sizes .now) (a .sides .now) (a .marks .now) (a .bounds .now) (a .pins .now)) _ _ (a .out .now) (c .before .before .before .before .before .before .before .before .before .before .before .before .before .before .before .before .before .before .before .before .before .before .before .before .before .before .before .figures-of .ensures) (e .0), e .1)
 
 pub print-job-spec : {M : Type 1} → statement M
 print-job-spec =

@@ -1,7 +1,9 @@
-use mathlib.Core.Path.{_∙_}
+use mathlib.Core.Path.{ap, _∙_}
+use mathlib.Core.Bool.{false}
 use native.Mathlib.Omega.{arith}
 use Rattle.rules.specs.Job.{limitsOf, asJob}
-use Rattle.planner.proofs.Telling.{run-printed, pass-printed, traced-told, run-told-of}
+use Rattle.rules.specs.Writing.{HandedOut, handInto}
+use Rattle.planner.proofs.Telling.{pass-printed, after-run, run-out, trace-out, trace-room, run-room, told-out, told-number}
 use borrow.Author.Needs.{needs}
 use Rattle.planner.proofs.print_with.Statement.{statement}
 use Rattle.planner.proofs.print_with.Tie as tie
@@ -12,11 +14,14 @@ pass-once-requires c κs = search needs
 trace-requires : tie.Need-trace-requires
 trace-requires c κs = search needs
 
+for-stream-requires : tie.Need-for-stream-requires
+for-stream-requires c κs = search needs
+
 same-length : tie.Need-same-length
-same-length c = search needs
+same-length c = search (needs, c .before .before .before .before .before .before .before .before .before .before .before .before .before .before .before .before .before .before .before .before .before .before .before .before .before .before .before .before .sides .given)
 
 same-length-2 : tie.Need-same-length-2
-same-length-2 c = search needs
+same-length-2 c = search (needs, c .before .before .before .before .before .before .before .before .before .before .before .before .before .before .before .before .before .before .before .before .before .before .before .before .before .before .gains .given)
 
 same-length-3 : tie.Need-same-length-3
 same-length-3 c = search needs
@@ -44,17 +49,24 @@ same-length-10 c = search needs
 
 returns : tie.Need-returns
 returns c =
-    let start = c .before .before .before .before .before .before .before .before .before .before .before .before .before .before .before .before .before .before .before .before .before .before .before .before .before .before .before .before .before .before .before .before .before .before .before .before .before .before .before .before .before .before .before .before .before .before .before .before .before .before .before in
-    let t = c .before .before .trace .ensures in
-    let e = pass-printed (limitsOf _ _ _ _) (asJob _ _ _ _ _ _ _ _) _ _ _ _ _ _ _ (c .before .before .before .before .before .before .before .before .before .before .before .before .before .before .before .before .before .before .before .before .before .before .before .before .before .before .before .before .pass-once .ensures) (start .pre .1) (t .0) in
-    traced-told (start .args .traced) (limitsOf _ _ _ _) (asJob _ _ _ _ _ _ _ _) (start .args .out .now) _ (c .before .before .trace .result) _ _ (c .before .before .before .before .before .before .before .before .before .before .before .before .before .before .before .before .before .before .before .before .before .before .before .before .before .before .before .before .before .before .before .before .before .before .before .before .before .before .if1 .taken)
-    (e .0, λ long. e .1 (t .1 (e .3 ∙ start .pre .0 .1) (e .2) (omega (arith, long, e .4, start .pre .0 .0))))
+    let start = c .before .before .before .before .before .before .before .before .before .before .before .before .before .before .before .before .before .before .before .before .before .before .before .before .before .before .before .before .before .before .before .before .before .before .before .before .before .before .before .before .before .before .before .before .before .before .before .before .before .before .before .before in
+    let t = c .before .before .before .trace .ensures in
+    let q = c .before .before .before .before .before .before .before .before .before .before .before .before .before .before .before .before .before .before .before .before .before .before .before .before .before .before .before .before .before .before .before .before .before .before .before .before .before .before .before .if1 .taken in
+    let e = pass-printed (limitsOf _ _ _ _) (asJob _ _ _ _ _ _ _ _) _ _ _ _ _ _ _ (c .before .before .before .before .before .before .before .before .before .before .before .before .before .before .before .before .before .before .before .before .before .before .before .before .before .before .before .before .before .pass-once .ensures) (start .pre .1 .0) (t .0) in
+    let p = c .before .before .before .trace .result in (
+      told-out false p _ (c .for-stream .ensures) (trace-out (start .args .what) (limitsOf _ _ _ _) (asJob _ _ _ _ _ _ _ _) (start .args .out .now) _ p q (e .0)),
+      λ long. told-number false p (c .for-stream .ensures) (e .1 (t .1 (e .3 ∙ start .pre .0 .1) (e .2) (omega (arith, trace-room (start .args .what) _ _ _ _ q long, e .4, start .pre .0 .0)))),
+    )
 
 run-requires : tie.Need-run-requires
 run-requires c κs = search needs
 
-report-requires : tie.Need-report-requires
-report-requires c κs = search needs
+tell-run-requires : tie.Need-tell-run-requires
+tell-run-requires c κs =
+    let start = c .before .before .before .before .before .before .before .before .before .before .before .before .before .before .before .before .before .before .before .before .before .before .before .before .before .before .before .before .before .before .before .before .before .before .before .before .before .before .before .before .before in (
+      after-run (limitsOf _ _ _ _) (asJob _ _ _ _ _ _ _ _) _ _ _ _ (c .before .before .before .before .before .before .before .before .before .before .before .before .before .before .before .before .before .before .run .ensures) (start .pre .1 .0) (start .args .bytes) (start .pre .1 .1 .0) (omega (arith, c .before .before .before .before .before .before .before .before .before .before .before .before .before .before .before .before .before .sides2 .given, start .pre .0 .1)) (start .pre .0 .0),
+      start .pre .1 .1 .1,
+    )
 
 same-length-11 : tie.Need-same-length-11
 same-length-11 c = search needs
@@ -89,10 +101,10 @@ same-length-20 c = search needs
 returns-2 : tie.Need-returns-2
 returns-2 c =
     let start = c .before .before .before .before .before .before .before .before .before .before .before .before .before .before .before .before .before .before .before .before .before .before .before .before .before .before .before .before .before .before .before .before .before .before .before .before .before .before .before .before .before .before .before .before in
-    let r = c .before .before .report .ensures in
-    let e = run-printed (limitsOf _ _ _ _) (asJob _ _ _ _ _ _ _ _) _ _ _ _ _ _ _ (c .before .before .before .before .before .before .before .before .before .before .before .before .before .before .before .before .before .before .before .before .before .run .ensures) (start .pre .1) (r .0) in
-    run-told-of (start .args .traced) (limitsOf _ _ _ _) (asJob _ _ _ _ _ _ _ _) (start .args .out .now) _ (c .before .before .report .result) _ _ (c .before .before .before .before .before .before .before .before .before .before .before .before .before .before .before .before .before .before .before .before .before .before .before .before .before .before .before .before .before .before .before .if1 .left)
-    (e .0, λ long. e .1 (r .1 (omega (arith, c .before .before .before .before .before .before .before .before .before .before .before .before .before .before .before .before .before .before .before .before .sides2 .given, start .pre .0 .1)) (omega (arith, long, c .before .before .before .before .before .before .before .before .before .before .before .before .before .before .before .before .before .before .before .before .sides2 .given, start .pre .0 .0, start .pre .0 .1))))
+    let t = c .before .before .tell-run .ensures in
+    let q = c .before .before .before .before .before .before .before .before .before .before .before .before .before .before .before .before .before .before .before .before .before .before .before .before .before .before .before .before .before .before .before .if1 .left in
+    let o = run-out (limitsOf _ _ _ _) (asJob _ _ _ _ _ _ _ _) _ _ _ _ (c .before .before .before .before .before .before .before .before .before .before .before .before .before .before .before .before .before .before .before .before .before .run .ensures) (start .pre .1 .0) (start .args .what) q in
+    (t .0 ∙ ap (λ (x : HandedOut). handInto x (start .args .out .now)) o, λ long. t .1 (run-room (start .args .what) _ _ _ _ q long))
 
 pub print-with-spec : {M : Type 1} → statement M
 print-with-spec =
@@ -100,6 +112,7 @@ print-with-spec =
     (tie.spec
     pass-once-requires
     trace-requires
+    for-stream-requires
     same-length
     same-length-2
     same-length-3
@@ -112,7 +125,7 @@ print-with-spec =
     same-length-10
     returns
     run-requires
-    report-requires
+    tell-run-requires
     same-length-11
     same-length-12
     same-length-13

@@ -1,0 +1,173 @@
+-- A job with the sides that its run leaves, and what `resettle` hands out. Assumes nothing.
+use mathlib.Core.Path.{_≡_, refl, sym, ap, _∙_}
+use mathlib.Core.Logic.{_≢_}
+use Prim.Native.Nat.{ℕ}
+use mathlib.Core.Bool.{Bool, true, not}
+use mathlib.Core.List.{List, [], _∷_}
+use native.Mathlib.Omega.{arith}
+use borrow.Author.Tests.{eq-eqb, ne-eqb}
+use Rattle.rules.specs.declared.Verdict.{Verdict}
+use Rattle.rules.specs.declared.RunFigures.{RunFigures}
+use Rattle.rules.specs.Lists.{allBelow}
+use Rattle.rules.specs.Job.{Job, Limits, TwoByte, fits}
+use Rattle.rules.specs.Split.{cut, balanced}
+use Rattle.rules.specs.Check.{done, refuseIf, _orElse_, check1to6, check7to9, check, checkJob}
+use Rattle.rules.specs.Pass.{Pass, tries, pass}
+use Rattle.rules.specs.Run.{settles, mostPasses, passes, run, lastOf, figuresOf, runFiguresOf, Ended, leftBy}
+use Rattle.rules.specs.Stored.{jobOf, readVerdict}
+use Rattle.rules.specs.Report.{refusal, allRoom, allLent, allRun, prints}
+use Rattle.rules.specs.Writing.{headerFor, blocksOf, withSides, HandedOut, resettles}
+use Rattle.rules.specs.Theorems.{Sound, Accepted}
+use Rattle.rules.specs.RoundTrip.{BlocksHold, lastPass, resettled, ResettledHolds, ResettleRefuses, HandsBack}
+use Rattle.rules.proofs.Verdicts.{passes-both, both-pass, chain-go}
+use Rattle.rules.proofs.SoundJob.{sound}
+use Rattle.rules.proofs.Proved.{accepted, answers, run-holds}
+use Rattle.rules.proofs.OtherSides.{same-recipes, same-size, same-pass, check-again}
+use Rattle.rules.proofs.Reports.{last-sides}
+use Rattle.rules.proofs.Lending.{runText, room-enough, lent-enough, prints-run}
+use Rattle.rules.proofs.Reading.{read-holds}
+use Rattle.rules.proofs.Runs.{onePass, pass-from, settled-none, settled-stays, settled-only, Passes, passes-come, come-last, turns-some}
+use Rattle.rules.proofs.RoundTrip.{blocks-hold, read-few, read-length}
+use Rattle.rules.proofs.CutOff.{resettles-no}
+
+-- ---- the sides after a run
+
+module _ (job : Job) (settled : settles (lastPass job) ≡ true) where
+  -- the last pass is the pass from some sides
+  last-from : (before : List ℕ) × (lastPass job ≡ pass job before)
+  unfolding passes
+  last-from =
+      let try : List ℕ → List ℕ = tries job in
+      let came : Passes job try (mostPasses job) (job .sides) (run job) = passes-come job try (mostPasses job) (job .sides) in
+      let last = come-last job try (λ x. List ℕ) (λ x y. y) came [] (onePass job try (job .sides)) (job .sides, [], refl) in
+      (last .0, last .2)
+
+  settled-there : settles (pass job (last-from .0)) ≡ true
+  settled-there = ap settles (sym (last-from .1)) ∙ settled
+
+  -- which it left as they were, so that the next is the same pass
+  next-same : pass (resettled job) (lastPass job .sidesAfter) ≡ lastPass job
+  next-same =
+      let sides : List ℕ = lastPass job .sidesAfter in
+      let there : sides ≡ last-from .0 = ap (λ (p : Pass). p .sidesAfter) (last-from .1) ∙ settled-stays job (tries job) (last-from .0) settled-there in
+      same-pass job sides sides ∙ ap (pass job) there ∙ sym (last-from .1)
+
+  run-again : run (resettled job) ≡ lastPass job ∷ []
+  unfolding passes
+  run-again =
+      let new : Job = resettled job in
+      settled-only new (tries new) (mostPasses new) (new .sides) (turns-some new) (ap settles next-same ∙ settled) ∙ ap (λ (p : Pass). p ∷ []) next-same
+
+  none-kept : lastPass job .kept ≡ 0
+  none-kept = ap (λ (p : Pass). p .kept) (last-from .1) ∙ settled-none job (tries job) (last-from .0) settled-there
+
+  resettled-still : resettled (resettled job) ≡ resettled job
+  unfolding lastOf
+  resettled-still = ap (λ (ps : List Pass). withSides job (lastOf (pass (resettled job) (resettled job .sides)) ps .sidesAfter)) run-again
+
+pub resettled-holds : (most : Limits) (job : Job) → checkJob most job .number ≡ 0 → ResettledHolds most job
+resettled-holds most job ok =
+    let a : Accepted most job = accepted most job true ok in
+    let r = run-holds most job (a .sound) in
+    let sides : List ℕ = lastPass job .sidesAfter in
+    record {
+      accepted = check-again job sides most true ok (last-sides most job (a .sound)) (ap (balanced job) (sym (r .size)) ∙ r .returns (a .balanced));
+      cut = pass-from (resettled job) (tries (resettled job)) sides ∙ ap (cut sides) (same-recipes job sides) ∙ sym (r .cut);
+      size = same-size job sides 0 sides ∙ sym (r .size);
+      settled = λ e. (run-again job e, none-kept job e);
+      still = λ e. resettled-still job e;
+    }
+
+-- ---- the run of the program
+
+module _ (most : Limits) (job : Job) (s : Sound most job) where
+  -- its lists are long enough, so that the check of the run is that of the job
+  run-check : check most job (fits job (allLent most job)) ≡ checkJob most job
+  run-check = ap (check most job) (lent-enough most job (s .fewFiles) (s .fewRecipes) (s .fewPins))
+
+  run-refused : checkJob most job .number ≢ 0 → allRun most job .answer .figures .verdict ≡ checkJob most job
+  run-refused n =
+      ap (λ (e : Ended RunFigures). e .answer .figures .verdict) (answers most job (allLent most job) .runRefused (λ z. n (sym (ap (λ (v : Verdict). v .number) run-check) ∙ z))) ∙ run-check
+
+  run-done : checkJob most job .number ≡ 0 → allRun most job ≡ leftBy job (allLent most job) (runFiguresOf done (pass job (job .sides)) (run job)) (lastPass job)
+  run-done z = answers most job (allLent most job) .runDone (ap (λ (v : Verdict). v .number) run-check ∙ z)
+
+-- ---- the program
+
+module _ (most : Limits) (input : List ℕ) (read : readVerdict most input (allRoom most) .number ≡ 0) where
+  read-sound : Sound most (jobOf input)
+  read-sound = read-holds most input (allRoom most) .sound read
+
+  -- after reading's verdict the run's
+  abbrev ran : Verdict
+  ran = allRun most (jobOf input) .answer .figures .verdict
+
+  run-no : checkJob most (jobOf input) .number ≢ 0 → resettles most input ≡ record { output = []; errors = refusal (checkJob most (jobOf input)) }
+  unfolding resettles
+  run-no n =
+      let v : Verdict = readVerdict most input (allRoom most) orElse ran in
+      let e : checkJob most (jobOf input) ≡ v = chain-go refl read (sym (run-refused most (jobOf input) read-sound n)) in
+      rw (ne-eqb (v .number) 0 (λ z. n (ap (λ (w : Verdict). w .number) e ∙ z)), resettles) (ap (λ (w : Verdict). record { output = []; errors = refusal w }) (sym e))
+
+  module _ (ok : checkJob most (jobOf input) .number ≡ 0) where
+    abbrev new : Job
+    new = resettled (jobOf input)
+
+    handed : resettles most input ≡ record { output = blocksOf new; errors = [] }
+    unfolding resettles
+    handed =
+        let e = run-done most (jobOf input) read-sound ok in
+        let passed : ran .number ≡ 0 = ap (λ (x : Ended RunFigures). x .answer .figures .verdict .number) e ∙ (unfold runFiguresOf figuresOf in refl) in
+        let both = both-pass (readVerdict most input (allRoom most)) ran read passed in
+        rw (eq-eqb ((readVerdict most input (allRoom most) orElse ran) .number) 0 both, resettles)
+        (ap (λ (x : Ended RunFigures). record { output = blocksOf (withSides (jobOf input) (x .sides)); errors = [] }) e)
+
+    -- the new job passes 1 to 9, and so its blocks are read and run
+    passes-nine : checkJob most new .number ≡ 0
+    passes-nine = ap (λ (v : Verdict). v .number) (resettled-holds most (jobOf input) ok .accepted)
+
+    passes-six : check1to6 most new true .number ≡ 0
+    unfolding check
+    passes-six = passes-both (check1to6 most new true) (check7to9 most new) passes-nine .0
+
+    new-blocks : BlocksHold most new
+    new-blocks = blocks-hold most new passes-six
+
+    new-read : readVerdict most (blocksOf new) (allRoom most) ≡ done
+    new-read = new-blocks .verdict (allRoom most) ∙ ap (λ (b : Bool). refuseIf (not b) 3 0) (let s = sound most new true passes-six in room-enough most (headerFor new) (s .fewFiles) (s .fewRecipes) (s .fewPins))
+
+    new-prints : prints most (blocksOf new) ≡ runText new
+    new-prints =
+        prints-run most (blocksOf new) new-read (ap (checkJob most) (new-blocks .same) ∙ resettled-holds most (jobOf input) ok .accepted)
+        ∙ ap runText (new-blocks .same)
+
+    -- but for the sides its numbers are those read
+    new-small : allBelow 256 input → TwoByte new
+    new-small small =
+        let t : TwoByte (jobOf input) = read-holds most input (allRoom most) .small small in
+        let w = last-sides most (jobOf input) read-sound in
+        record {
+          sizes = t .sizes;
+          sides = λ i h. omega (arith, w .binary i);
+          marks = t .marks;
+          bounds = t .bounds;
+          pins = t .pins;
+          num = t .num;
+          den = t .den;
+          cap = t .cap;
+        }
+
+    pub hands-back : HandsBack most input
+    hands-back =
+        let out : resettles most input .output ≡ blocksOf new = ap (λ (x : HandedOut). x .output) handed in
+        record {
+          hands = handed;
+          long = rw out (new-blocks .long ∙ sym (read-length most input (allRoom most) read));
+          bytes = λ small. rw out (new-blocks .bytes (new-small small) (read-few input small));
+          read = rw out new-read;
+          same = rw out (new-blocks .same);
+          night = rw out new-prints;
+        }
+
+pub refuses : (most : Limits) (input : List ℕ) → ResettleRefuses most input
+refuses most input = record { byReading = resettles-no most input; byRun = run-no most input }

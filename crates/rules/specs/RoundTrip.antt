@@ -1,0 +1,104 @@
+-- What holds of writing, of reading what was written, and of `resettle`, a fact to a field. A line above each record names its proof and what that
+-- asks. Assumes nothing.
+use mathlib.Core.Path.{_≡_}
+use mathlib.Core.Logic.{_≢_}
+use Prim.Native.Nat.{ℕ, _*_, _≤_, _<_}
+use mathlib.Core.Bool.{true, not}
+use mathlib.Core.List.{List, [], _∷_}
+use lib.ListN.{length}
+use Rattle.rules.specs.Lists.{allBelow}
+use Rattle.rules.specs.Job.{Job, asJob, Limits, TwoByte, fileCount}
+use Rattle.rules.specs.Check.{done, refuseIf, check1to6, checkJob}
+use Rattle.rules.specs.Stored.{headerOf, blockCount, jobOf, Room, roomy, readVerdict, written, reading}
+use Rattle.rules.specs.Split.{sizeA}
+use Rattle.rules.specs.Pass.{Pass, pass}
+use Rattle.rules.specs.Run.{settles, run, lastOf, runFiguresOf}
+use Rattle.rules.specs.Report.{refusal, report, allRoom, prints}
+use Rattle.rules.specs.Writing.{headerFor, blocksOf, writingOf, writeVerdict, writing, withSides, resettles}
+
+-- ---- reading what was written gives the same job (RoundTrip `blocks-hold`, of a job that passes 1 to 6)
+
+pub record BlocksHold (most : Limits) (job : Job) : Type 0 where
+  -- as long as the header makes them; each byte is one, where every number of the job is a two-byte number, C among them
+  pub long : length (blocksOf job) ≡ 512 * blockCount (headerFor job)
+  pub bytes : TwoByte job → fileCount job < 65536 → allBelow 256 (blocksOf job)
+  -- the header and the job that are stored
+  pub header : headerOf (blocksOf job) ≡ headerFor job
+  pub same : jobOf (blocksOf job) ≡ job
+  -- reading refuses them only for want of room, as 3; else it answers the six figures and writes the job's entries
+  pub verdict : (room : Room) → readVerdict most (blocksOf job) room ≡ refuseIf (not (roomy (headerFor job) room)) 3 0
+  pub reads : (room : Room) → roomy (headerFor job) room ≡ true
+      → reading most (blocksOf job) room ≡ record { answer = record { verdict = done; header = headerFor job }; room = written job room }
+
+-- ---- any file that is read past layout and 1 to 6 is written back (RoundTrip `back-holds`, of any bytes, each below 256)
+
+pub record BackHolds (most : Limits) (bytes : List ℕ) (room : Room) : Type 0 where
+  -- byte for byte
+  pub same : readVerdict most bytes room .number ≡ 0 → blocksOf (jobOf bytes) ≡ bytes
+  -- so no two files mean one job
+  pub one : (others : List ℕ) (lent : Room) → allBelow 256 others → readVerdict most bytes room .number ≡ 0 → readVerdict most others lent .number ≡ 0
+      → jobOf bytes ≡ jobOf others → bytes ≡ others
+  -- and the reader lets through exactly what the writer writes, where it has room for it
+  pub only : readVerdict most bytes room .number ≡ 0
+      → (job : Job) × (check1to6 most job true .number ≡ 0) × TwoByte job × (fileCount job < 65536) × (roomy (headerFor job) room ≡ true) × (bytes ≡ blocksOf job)
+  pub each : (job : Job) → check1to6 most job true .number ≡ 0 → roomy (headerFor job) room ≡ true → bytes ≡ blocksOf job → readVerdict most bytes room ≡ done
+
+-- ---- the call that writes (Writes `write-holds`, of any input)
+
+pub record WriteHolds (most : Limits) (job : Job) (out : List ℕ) : Type 0 where
+  -- refused, with one of 1 to 6, no byte of the output list changes
+  pub refused : writeVerdict most job out .number ≢ 0 → writing most job out ≡ writingOf (writeVerdict most job out) out
+  pub numbers : writeVerdict most job out .number ≤ 6
+  -- else it answers done, and the list is exactly the blocks
+  pub writes : writeVerdict most job out .number ≡ 0 → writing most job out ≡ writingOf done (blocksOf job)
+  -- which it is long enough for, of a job that passes 1 to 6
+  pub exact : writeVerdict most job out .number ≡ 0 → length out ≡ 512 * blockCount (headerFor job)
+  pub passes : writeVerdict most job out .number ≡ 0 → check1to6 most job true .number ≡ 0
+  -- and every such job is written to such a list, whatever its ratio and its cap
+  pub all : length out ≡ 512 * blockCount (headerFor job) → writeVerdict most job out ≡ check1to6 most job true
+  pub carried : (num den cap : ℕ)
+      → writeVerdict most (asJob (job .sizes) (job .sides) (job .marks) (job .bounds) (job .pins) num den cap) out ≡ writeVerdict most job out
+  -- the list's length never changes
+  pub long : length (writing most job out .out) ≡ length out
+
+-- ---- the sides after a run, taken up again
+
+-- the last pass of a job's run
+abbrev pub lastPass : Job → Pass
+lastPass job = lastOf (pass job (job .sides)) (run job)
+
+-- the job with the sides that its run leaves
+abbrev pub resettled : Job → Job
+resettled job = withSides job (lastPass job .sidesAfter)
+
+-- (Resettling `resettled-holds`, of a job that passes 1 to 9)
+pub record ResettledHolds (most : Limits) (job : Job) : Type 0 where
+  -- it passes 1 to 9 again, so that it is never refused
+  pub accepted : checkJob most (resettled job) ≡ done
+  -- it starts from the split that the run left: its cut before is the cut after, and so with |A|
+  pub cut : pass (resettled job) (resettled job .sides) .cutBefore ≡ lastPass job .cutAfter
+  pub size : sizeA (resettled job) (resettled job .sides) ≡ lastPass job .sizeAfter
+  -- where the run settled, its own run is one pass, that one, which keeps no move and so leaves the sides as they are
+  pub settled : settles (lastPass job) ≡ true → (run (resettled job) ≡ lastPass job ∷ []) × (lastPass job .kept ≡ 0)
+  pub still : settles (lastPass job) ≡ true → resettled (resettled job) ≡ resettled job
+
+-- ---- the program `resettle`
+
+-- refused by reading, or then by the run: nothing on standard output, the refusal's line on standard error (Resettling `refuses`, of any input)
+pub record ResettleRefuses (most : Limits) (input : List ℕ) : Type 0 where
+  pub byReading : readVerdict most input (allRoom most) .number ≢ 0 → resettles most input ≡ record { output = []; errors = refusal (readVerdict most input (allRoom most)) }
+  pub byRun : readVerdict most input (allRoom most) .number ≡ 0 → checkJob most (jobOf input) .number ≢ 0
+      → resettles most input ≡ record { output = []; errors = refusal (checkJob most (jobOf input)) }
+
+-- (Resettling `hands-back`, of an input that is read and whose job passes 1 to 9)
+pub record HandsBack (most : Limits) (input : List ℕ) : Type 0 where
+  -- the blocks of the job with the sides after the run, and no line
+  pub hands : resettles most input ≡ record { output = blocksOf (resettled (jobOf input)); errors = [] }
+  -- as many bytes as were read; each is one, where those were
+  pub long : length (resettles most input .output) ≡ length input
+  pub bytes : allBelow 256 input → allBelow 256 (resettles most input .output)
+  -- read back they are that job, and `night` runs it
+  pub read : readVerdict most (resettles most input .output) (allRoom most) ≡ done
+  pub same : jobOf (resettles most input .output) ≡ resettled (jobOf input)
+  pub night : prints most (resettles most input .output)
+      ≡ (let new = resettled (jobOf input) in report new (runFiguresOf done (pass new (new .sides)) (run new)) (lastPass new .sidesAfter))

@@ -1,0 +1,62 @@
+use Prim.Native.Nat.{_≤_, _-_}
+use lib.ListN.{length}
+use borrow.Author.Needs.{needs}
+use Rattle.write_cases.proofs.show_blocks.Statement.{statement}
+use Rattle.write_cases.proofs.show_blocks.Tie as tie
+
+abbrev Inv-loop : tie.InvT-loop
+Inv-loop bytes at₀ at = at ≤ length bytes
+
+abbrev μ-loop : tie.MeasureT-loop
+μ-loop bytes at₀ at = length bytes - at
+
+loop-holds : tie.Need-loop-holds Inv-loop μ-loop
+loop-holds c = search needs
+
+sub-show-line : tie.Need-sub-show-line Inv-loop μ-loop
+sub-show-line c = search needs
+
+part-show-line-start : tie.Need-part-show-line-start Inv-loop μ-loop
+part-show-line-start c = search needs
+
+part-show-line-end : tie.Need-part-show-line-end Inv-loop μ-loop
+part-show-line-end c = search needs
+
+show-line-requires : tie.Need-show-line-requires Inv-loop μ-loop
+show-line-requires c κs = search needs
+
+sub-if1 : tie.Need-sub-if1 Inv-loop μ-loop
+sub-if1 c = search needs
+
+returns : tie.Need-returns Inv-loop μ-loop
+returns c = search needs
+
+add-at : tie.Need-add-at Inv-loop μ-loop
+add-at c = search needs
+
+loop-less : tie.Need-loop-less Inv-loop μ-loop
+loop-less c = search needs
+
+loop-again : tie.Need-loop-again Inv-loop μ-loop
+loop-again c = search needs
+
+returns-2 : tie.Need-returns-2 Inv-loop μ-loop
+returns-2 c = search needs
+
+pub show-blocks-spec : {M : Type 1} → statement M
+show-blocks-spec =
+    tie.close
+    (tie.spec
+    Inv-loop
+    μ-loop
+    loop-holds
+    sub-show-line
+    part-show-line-start
+    part-show-line-end
+    show-line-requires
+    sub-if1
+    returns
+    add-at
+    loop-less
+    loop-again
+    returns-2)

@@ -1,0 +1,4 @@
+pub mod Filled
+pub mod Walked
+pub mod Counts
+pub mod Unique

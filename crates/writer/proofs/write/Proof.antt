@@ -1,0 +1,99 @@
+use mathlib.Core.Path.{refl, sym, ap, _∙_}
+use Prim.Native.Nat.{_*_}
+use native.Mathlib.Omega.{arith}
+use lib.ListN.{length}
+use Rattle.rules.specs.declared.Header.{Header}
+use Rattle.rules.specs.Job.{Job, limitsOf}
+use Rattle.rules.specs.Stored.{blockCount}
+use Rattle.rules.specs.Writing.{blocksOf}
+use Rattle.rules.proofs.Verdicts.{zero-of}
+use Rattle.rules.proofs.SoundJob.{sound}
+use Rattle.rules.proofs.RoundTrip.{blocks-length}
+use Rattle.rules.proofs.Writes.{write-stays, write-done, write-exact}
+use Rattle.job.specs.Parts.{wholeJob}
+use Rattle.writer.proofs.Counts.{counts-stop, counts-few, verdict-is, own-job, writable}
+use borrow.Author.Needs.{needs}
+use Rattle.writer.proofs.write.Statement.{statement}
+use Rattle.writer.proofs.write.Tie as tie
+
+recipe-count-requires : tie.Need-recipe-count-requires
+recipe-count-requires c κs = search needs
+
+check1-requires : tie.Need-check1-requires
+check1-requires c κs = search needs
+
+check2-requires : tie.Need-check2-requires
+check2-requires c κs = search needs
+
+or-else-requires : tie.Need-or-else-requires
+or-else-requires c κs = search needs
+
+returns : tie.Need-returns
+returns c =
+    let a = c .before .before .before .before .before .before .before .before .before .before .before .before .args in
+    let job : Job = wholeJob (a .job) (a .sizes .now) (a .sides .now) (a .marks .now) (a .bounds .now) (a .pins .now) in
+    write-stays _ job (a .out .now) (counts-stop _ job (c .before .before .before .before .before .recipe-count .ensures) (c .before .before .or-else .ensures) (c .before .before .before .before .check1 .ensures) (c .before .before .before .check2 .ensures) _ (c .if1 .taken)) (c .if1 .taken)
+
+header-for-requires : tie.Need-header-for-requires
+header-for-requires c κs =
+    let a = c .before .before .before .before .before .before .before .before .before .before .before .before .args in
+    let job : Job = wholeJob (a .job) (a .sizes .now) (a .sides .now) (a .marks .now) (a .bounds .now) (a .pins .now) in
+    let r = counts-few (limitsOf _ _ _ 0) job (c .before .before .before .before .before .recipe-count .ensures) (c .before .before .or-else .ensures) (c .before .before .before .before .check1 .ensures) (c .before .before .before .check2 .ensures) (c .if1 .left) in
+    (omega (arith, r .0), omega (arith, r .1), omega (arith, r .2))
+
+block-count-requires : tie.Need-block-count-requires
+block-count-requires c κs = search needs
+
+wide-requires : tie.Need-wide-requires
+wide-requires c κs = search needs
+
+mul-fits : tie.Need-mul-fits
+mul-fits c = search needs
+
+check1to6-requires : tie.Need-check1to6-requires
+check1to6-requires c κs = search needs
+
+returns-2 : tie.Need-returns-2
+returns-2 c =
+    let a = c .before .before .before .before .before .before .before .before .before .before .before .before .before .before .before .before .before .before .args in
+    let job : Job = wholeJob (a .job) (a .sizes .now) (a .sides .now) (a .marks .now) (a .bounds .now) (a .pins .now) in
+    write-stays _ job (a .out .now) (verdict-is _ job (a .out .now) (c .before .before .check1to6 .ensures) (c .before .before .before .wide .ensures ∙ c .before .before .before .before .block-count .ensures ∙ ap blockCount (c .before .before .before .before .before .header-for .ensures)) refl) (c .if2 .taken)
+
+put-blocks-requires : tie.Need-put-blocks-requires
+put-blocks-requires c κs =
+    let a = c .before .before .before .before .before .before .before .before .before .before .before .before .before .before .before .before .before .before .before .args in
+    let job : Job = wholeJob (a .job) (a .sizes .now) (a .sides .now) (a .marks .now) (a .bounds .now) (a .pins .now) in
+    let v = verdict-is _ job (a .out .now) (c .before .before .before .check1to6 .ensures) (c .before .before .before .before .wide .ensures ∙ c .before .before .before .before .before .block-count .ensures ∙ ap blockCount (c .before .before .before .before .before .before .header-for .ensures)) refl in
+    let e = c .before .before .before .before .before .before .header-for .ensures in
+    (writable job e _ (sound _ job _ (zero-of v (c .before .if2 .left))), write-exact _ job (a .out .now) v (c .before .if2 .left) ∙ ap (λ (k : Header). 512 * blockCount k) (sym e))
+
+same-length : tie.Need-same-length
+same-length c =
+    let a = c .before .before .before .before .before .before .before .before .before .before .before .before .before .before .before .before .before .before .before .before .before .before .args in
+    let job : Job = wholeJob (a .job) (a .sizes .now) (a .sides .now) (a .marks .now) (a .bounds .now) (a .pins .now) in
+    ap length (c .before .before .put-blocks .ensures ∙ ap blocksOf (own-job job (c .before .before .before .before .before .before .before .before .before .header-for .ensures))) ∙ blocks-length job ∙ sym (write-exact _ job (a .out .now) (verdict-is _ job (a .out .now) (c .before .before .before .before .before .before .check1to6 .ensures) (c .before .before .before .before .before .before .before .wide .ensures ∙ c .before .before .before .before .before .before .before .before .block-count .ensures ∙ ap blockCount (c .before .before .before .before .before .before .before .before .before .header-for .ensures)) refl) (c .before .before .before .before .if2 .left))
+
+returns-3 : tie.Need-returns-3
+returns-3 c =
+    let a = c .before .before .before .before .before .before .before .before .before .before .before .before .before .before .before .before .before .before .before .before .before .before .args in
+    let job : Job = wholeJob (a .job) (a .sizes .now) (a .sides .now) (a .marks .now) (a .bounds .now) (a .pins .now) in
+    write-done _ job (a .out .now) (verdict-is _ job (a .out .now) (c .before .before .before .before .before .before .check1to6 .ensures) (c .before .before .before .before .before .before .before .wide .ensures ∙ c .before .before .before .before .before .before .before .before .block-count .ensures ∙ ap blockCount (c .before .before .before .before .before .before .before .before .before .header-for .ensures)) refl) (c .before .before .before .before .if2 .left) (c .before .before .put-blocks .ensures ∙ ap blocksOf (own-job job (c .before .before .before .before .before .before .before .before .before .header-for .ensures)))
+
+pub write-spec : {M : Type 1} → statement M
+write-spec =
+    tie.close
+    (tie.spec
+    recipe-count-requires
+    check1-requires
+    check2-requires
+    or-else-requires
+    returns
+    header-for-requires
+    block-count-requires
+    wide-requires
+    mul-fits
+    check1to6-requires
+    returns-2
+    put-blocks-requires
+    same-length
+    returns-3)
