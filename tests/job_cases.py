@@ -71,6 +71,19 @@ def lopsided(*rows):
     ]
 
 
+def heavy_first(*rows):
+    """1,024 files, the first of size 1,023 and the others of 1, all of these on the
+    other side but so many: its mark, its side, and how many."""
+    return [
+        LARGE.changed(
+            sizes=[1023] + [1] * 1023,
+            sides=[side] * (1 + beside) + [1 - side] * (1023 - beside),
+            marks=[mark] + [0] * 1023,
+        )
+        for mark, side, beside in rows
+    ]
+
+
 # A fault of each number; that of 1 is one of 4 too, and that of 2 one of 5.
 FAULTS = {
     1: {"bounds": [1]},
@@ -277,12 +290,18 @@ FROM_7_ON = (
     *chains("sides", [0, 1, 1, 1], [0, 0, 0, 1]),
     # |A| of 2 under other ratios: at the edge, and past it.
     *ratios((1, 4), (249, 1000), (3, 4), (751, 1000), (1, 1000), (999, 1000)),
-    # The largest file is pinned, and still gives the slack.
+    # The largest file is pinned, and gives no slack.
     CHAIN.changed(sizes=[9, 1, 1, 1], sides=[0, 1, 1, 1], marks=[1, 0, 0, 0]),
     CHAIN.changed(sizes=[1, 9, 1, 1], sides=[0, 0, 0, 0], marks=[0, 1, 0, 0]),
     # Products over 32 bits.
     *lopsided((65535, 999, 1000), (65535, 998, 1000), (65535, 997, 1000)),
     *lopsided((65535, 1, 1000), (1, 999, 1000)),
+    "the window of the free files",
+    *(job for _, job in samples.window_jobs().values()),
+    # One heavy file in the largest job, pinned at the edge and past it, or free.
+    *heavy_first((1, 0, 1), (1, 0, 2), (0, 0, 2), (1, 1, 1), (1, 1, 2), (0, 1, 2)),
+    # No file is free, and no start is balanced: 8.
+    samples.archive().changed(marks=[1, 1, 1, 1]),
 )
 
 SEVERAL_FAULTS = (

@@ -59,16 +59,7 @@ def one_recipe(pins):
 
 def row(files):
     """So many files in a row, each in one recipe with the next."""
-    pairs = [[i, i + 1] for i in range(files - 1)]
-    return samples.job_of_recipes(
-        pairs,
-        sizes=[1] * files,
-        sides=[i % 2 for i in range(files)],
-        marks=[FREE] * files,
-        num=1,
-        den=2,
-        cap=0,
-    )
+    return samples.in_a_row([], samples.in_turn(1, files))
 
 
 def large(length, **fields):
@@ -322,15 +313,33 @@ def full_jobs():
             den=1000,
             cap=0,
         )
-        job = job.changed(sides=samples.balanced_sides(rng, job))
+        job = job.changed(sides=samples.wide_window_sides(rng, job))
         yield f"full_{name}", write_job(job)
 
 
 def mill_job():
+    """As it came, which is refused as 9; and under a ratio near to its start."""
     yield "mill", write_job(mill())
+    yield "mill_at_53", write_job(mill().changed(num=53, den=100))
 
 
-EXAMPLES = ("chain", "mill")
+def windows():
+    """The window of the free files, beside heavy pinned ones and at its edges."""
+    for name, (_, job) in samples.window_jobs().items():
+        yield name, write_job(job)
+
+
+def archived_jobs():
+    """Random jobs whose pinned files are heavy."""
+    rng = random.Random(SEED + 2)
+    for k in range(20):
+        job = samples.random_job(
+            rng, rng.randint(6, 40), rng.randint(6, 50), pinned=0.25
+        )
+        yield f"archived_{k}", write_job(samples.with_archives(rng, job))
+
+
+EXAMPLES = ("chain", "mill", "mill_at_53")
 
 
 GROUPS = (
@@ -346,6 +355,8 @@ GROUPS = (
     random_jobs,
     full_jobs,
     mill_job,
+    windows,
+    archived_jobs,
 )
 
 

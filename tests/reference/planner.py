@@ -63,8 +63,9 @@ class Job:
 
     @cached_property
     def largest(self):
-        """smax, "the largest size in the job", pinned files too."""
-        return max(self.sizes)
+        """smax, "over files with mark 0"; "refusal 8 still stands before 9, so there
+        is always a smax"."""
+        return max(size for size, mark in zip(self.sizes, self.marks) if mark == FREE)
 
     @cached_property
     def recipe_files(self):

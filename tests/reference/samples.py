@@ -1,6 +1,7 @@
-"""Jobs for tests: those that document 01 gives, and random sound ones."""
+"""Jobs for tests: those that the documents give, those at the edges of the window,
+and random ones."""
 
-from planner import A, B, FREE, PINNED, Job, balanced, size_of_a
+from planner import A, B, FREE, PINNED, Job, size_of_a
 
 
 def chain(cap=0):
@@ -36,6 +37,103 @@ def job_of_recipes(recipes, **fields):
     return Job(bounds=bounds, pins=pins, **fields)
 
 
+# ---- Order 2: the window of the free files
+
+
+def in_a_row(pinned, free, num=1, den=2):
+    """Pinned files and then free ones, as (size, side), each in a recipe with the next."""
+    files = [*pinned, *free]
+    return job_of_recipes(
+        [[i, i + 1] for i in range(len(files) - 1)],
+        sizes=[size for size, _ in files],
+        sides=[side for _, side in files],
+        marks=[PINNED] * len(pinned) + [FREE] * len(free),
+        num=num,
+        den=den,
+        cap=0,
+    )
+
+
+def in_turn(size, files):
+    """So many files of one size, A and B in turn."""
+    return [(size, i % 2) for i in range(files)]
+
+
+def archive():
+    """Order 2's: "sizes 10 (pinned in A), 1, 1, 1 with ratio 1/2 and the others in B"."""
+    return in_a_row([(10, A)], [(1, B)] * 3)
+
+
+def window_jobs():
+    """By name, with the number that each is refused as, or 0."""
+    huge_in_a, huge_in_b = [(60000, A)], [(60000, B)]
+    light = in_turn(100, 10)
+    lone = [(8, B), (7, B), (7, A)]
+    return {
+        "archive": (9, archive()),
+        # Under the ratio of its start, and where everything else should go to B.
+        "archive_in_a": (0, in_a_row(huge_in_a, light, 992, 1000)),
+        "archive_in_a_halved": (9, in_a_row(huge_in_a, light)),
+        "archive_in_a_free_in_b": (0, in_a_row(huge_in_a, [(100, B)] * 10, 984, 1000)),
+        "archive_in_b": (0, in_a_row(huge_in_b, light, 8, 1000)),
+        "archive_in_b_halved": (9, in_a_row(huge_in_b, light)),
+        "archive_in_b_free_in_a": (0, in_a_row(huge_in_b, [(100, A)] * 10, 16, 1000)),
+        "archives_on_both_sides": (0, in_a_row(huge_in_a + huge_in_b, light)),
+        "archives_uneven": (9, in_a_row(huge_in_a + [(59000, B)], light)),
+        "archives_evened": (0, in_a_row(huge_in_a + [(59000, B)], [(100, B)] * 10)),
+        "free_of_one_size": (
+            0,
+            in_a_row([(3, A), (9, B), (27, A), (2, B)], in_turn(5, 12), 3, 5),
+        ),
+        # smax is 50: the largest of all files, and the largest but a pinned one.
+        "second_largest_pinned": (0, in_a_row([(49, B)], [(50, A)] + in_turn(3, 5))),
+        "largest_pinned_by_one": (0, in_a_row([(51, B)], [(50, A)] + in_turn(3, 5))),
+        # One free file, the smallest: it can move, it cannot, and no start is balanced.
+        "smallest_free_alone": (0, in_a_row([(9, A)] + lone, [(1, B)])),
+        "smallest_free_alone_held": (0, in_a_row([(11, A)] + lone, [(1, B)])),
+        "smallest_free_alone_missed": (9, in_a_row([(12, A)] + lone, [(1, B)])),
+        # W is 14 and smax 1: |A| from 6 up to 8.
+        "low_edge_hit": (0, in_a_row([(6, A)], [(1, B)] * 8)),
+        "low_edge_hit_by_free": (0, in_a_row([(6, B)], [(1, A)] * 6 + [(1, B)] * 2)),
+        "low_edge_missed": (9, in_a_row([(6, B)], [(1, A)] * 5 + [(1, B)] * 3)),
+        "high_edge_hit": (0, in_a_row([(6, B)], [(1, A)] * 8)),
+        "high_edge_hit_by_free": (0, in_a_row([(6, A)], [(1, A)] * 2 + [(1, B)] * 6)),
+        "high_edge_missed": (9, in_a_row([(6, A)], [(1, A)] * 3 + [(1, B)] * 5)),
+        # W is 1,501 and smax 100. Of 501·W, 752,001, a |A| of 652 lacks 1; of
+        # 499·W, 748,999, one of 849 is 1 too much.
+        "low_edge_missed_by_1": (
+            9,
+            in_a_row([(652, A)], [(100, B)] * 8 + [(49, B)], 501, 1000),
+        ),
+        "low_edge_kept": (
+            0,
+            in_a_row([(653, A)], [(100, B)] * 8 + [(48, B)], 501, 1000),
+        ),
+        "high_edge_missed_by_1": (
+            9,
+            in_a_row([(652, B)], [(100, A)] * 8 + [(49, A)], 499, 1000),
+        ),
+        "high_edge_kept": (
+            0,
+            in_a_row([(653, B)], [(100, A)] * 8 + [(48, A)], 499, 1000),
+        ),
+    }
+
+
+def with_archives(rng, job):
+    """The job with its pinned files made heavy, under the ratio of its sides."""
+    sizes = [
+        min(size * rng.randint(20, 200), 65535) if mark == PINNED else size
+        for size, mark in zip(job.sizes, job.marks)
+    ]
+    heavy = job.changed(sizes=sizes, den=1000)
+    part = round(1000 * size_of_a(heavy, job.sides) / heavy.total)
+    return heavy.changed(num=min(max(part, 1), 999))
+
+
+# ---- Random jobs
+
+
 def recipe_lengths(rng, files, recipes, most_pins, longest):
     """Lengths of two and more that stay within the pins allowed."""
     lengths = []
@@ -54,15 +152,24 @@ def near_files(rng, files, length, reach):
     return rng.sample(range(start, start + span), length)
 
 
-def balanced_sides(rng, job):
-    """Random sides that are balanced: flip one file after the other until they are."""
+def in_wide_window(job, size_a):
+    """Balanced by document 01 before order 2, when pinned sizes counted in smax too."""
+    return abs(job.den * size_a - job.num * job.total) <= job.den * max(job.sizes)
+
+
+def wide_window_sides(rng, job):
+    """Random sides in the wide window: flip one file after the other until they are.
+
+    The random jobs go by it so that they stay what they were. Of those with heavy
+    pinned files some are now refused as 9.
+    """
     sides = [rng.randint(A, B) for _ in job.sizes]
     order = list(range(job.files))
     rng.shuffle(order)
     goal = job.num * job.total
     for file in order:
         size_a = size_of_a(job, sides)
-        if balanced(job, size_a):
+        if in_wide_window(job, size_a):
             break
         # Only a flip towards the goal; no single flip can pass over the band,
         # since the band is at least as wide as two files.
@@ -83,7 +190,10 @@ def random_job(
     den=None,
     cap=0,
 ):
-    """A sound job. reach 0: recipes over all files; else over near ones only."""
+    """A job that passes check 8, with sides in the wide window.
+
+    reach 0: recipes over all files; else over near ones only.
+    """
     den = den or rng.randint(2, 1000)
     lengths = recipe_lengths(rng, files, recipes, most_pins, longest)
     lists = [near_files(rng, files, n, reach or files) for n in lengths]
@@ -98,4 +208,4 @@ def random_job(
         den=den,
         cap=cap,
     )
-    return job.changed(sides=balanced_sides(rng, job))
+    return job.changed(sides=wide_window_sides(rng, job))

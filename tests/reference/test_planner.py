@@ -4,6 +4,7 @@ The last class plants the errors that document 01 names and asks that the same
 tests see them, so that none of them passes for want of looking.
 """
 
+import functools
 import itertools
 import random
 import unittest
@@ -18,19 +19,27 @@ from planner import A, B, FREE, PINNED
 RANDOM_JOBS = 300
 
 
-def small_jobs(count=RANDOM_JOBS):
+@functools.cache
+def small_jobs():
     """Random sound jobs from two files up, of many shapes; always the same ones."""
-    for seed in range(count):
-        rng = random.Random(seed)
-        yield samples.random_job(
-            rng,
-            files=rng.randint(2, 24),
-            recipes=rng.randint(1, 30),
-            longest=rng.choice([2, 3, 5, 24]),
-            top_size=rng.choice([1, 3, 9, 65535]),
-            pinned=rng.choice([0, 0.1, 0.5, 0.9]),
-            cap=rng.choice([0, 0, 1, 2, 65535]),
-        )
+    jobs = map(random_of_seed, itertools.count())
+    sound = (job for job in jobs if planner.check(job) == (0, 0))
+    return list(itertools.islice(sound, RANDOM_JOBS))
+
+
+def random_of_seed(seed):
+    """Sound but for its balance; every fourth has heavy pinned files."""
+    rng = random.Random(seed)
+    job = samples.random_job(
+        rng,
+        files=rng.randint(2, 24),
+        recipes=rng.randint(1, 30),
+        longest=rng.choice([2, 3, 5, 24]),
+        top_size=rng.choice([1, 3, 9, 65535]),
+        pinned=rng.choice([0, 0.1, 0.5, 0.9]),
+        cap=rng.choice([0, 0, 1, 2, 65535]),
+    )
+    return samples.with_archives(rng, job) if seed % 4 == 3 else job
 
 
 def moves_of(answer):
@@ -126,13 +135,14 @@ def see_moves(job, start):
 
 def legal_moves(job, sides, locked):
     """Each legal file with its rank, the gain taken as what the cut loses."""
+    free_sizes = [job.sizes[i] for i in range(job.files) if job.marks[i] == 0]
     legal = {}
     for file in range(job.files):
         after = planner.sides_after(sides, [file])
         in_a = sum(job.sizes[i] for i in range(job.files) if after[i] == A)
         # Both of the two tests of balance say that this is at most den·smax.
         off = job.den * in_a - job.num * sum(job.sizes)
-        if locked[file] or abs(off) > job.den * max(job.sizes):
+        if locked[file] or abs(off) > job.den * max(free_sizes):
             continue
         lost = planner.cut(job, sides) - planner.cut(job, after)
         legal[file] = (-lost, abs(off), file)
@@ -834,9 +844,47 @@ class Resettled(unittest.TestCase):
             self.assertEqual(told, (b"", f"refused {number} {place}\n"))
 
 
+class Window(unittest.TestCase):
+    """Order 2: "smax is over files with mark 0"."""
+
+    def test_the_worked_case(self):
+        """It starts at 10, "and A may be 6 or 7"."""
+        job = samples.archive()
+        self.assertEqual(planner.size_of_a(job, job.sides), 10)
+        self.assertEqual(planner.check(job), (9, 0))
+        balanced = [size_a for size_a in range(14) if planner.balanced(job, size_a)]
+        self.assertEqual(balanced, [6, 7])
+
+    def test_8_stands_before_9(self):
+        job = samples.archive().changed(marks=[PINNED] * 4)
+        self.assertEqual(planner.check(job), (8, 0))
+
+    def test_window_jobs(self):
+        for name, (number, job) in samples.window_jobs().items():
+            self.assertEqual(planner.check(job), (number, 0), name)
+
+    def test_everything_else_stays_apart(self):
+        """One more file of ten finds room beside the archive, and not all."""
+        _, job = samples.window_jobs()["archive_in_a_free_in_b"]
+        answer = planner.one_pass(job, job.sides)
+        for k in range(answer.tried + 1):
+            sides = planner.sides_after(job.sides, moves_of(answer)[:k])
+            self.assertIn(planner.size_of_a(job, sides), (60000, 60100))
+
+    def test_measure_and_writer_know_no_window(self):
+        job = samples.archive()
+        self.assertEqual(planner.measure(job), (0, 0, 1, 10))
+        length = planner.stored_length(job)
+        self.assertEqual(planner.write(job, bytes(length))[:2], (0, 0))
+
+
 class Mill(unittest.TestCase):
-    def test_it_is_sound_and_gains_much(self):
-        job = mill()
+    def test_it_is_refused_as_it_came(self):
+        """Its archives are pinned, and give no slack: |A| lacks 221 of 39,804."""
+        self.assertEqual(planner.check(mill()), (9, 0))
+
+    def test_it_is_sound_near_its_start_and_gains_much(self):
+        job = mill().changed(num=53, den=100)
         self.assertEqual((job.files, job.recipes, len(job.pins)), (306, 300, 857))
         self.assertEqual(planner.check(job), (0, 0))
         answer = planner.run(job)
@@ -886,8 +934,9 @@ class CanFail(unittest.TestCase):
     """Each error that document 01 names is seen by the test that is meant for it."""
 
     def seen(self, see, name, wrong):
+        jobs = small_jobs()
         with mock.patch.object(planner, name, wrong):
-            for job in small_jobs():
+            for job in jobs:
                 try:
                     see(job, job.sides)
                 except AssertionError:
@@ -933,6 +982,11 @@ class CanFail(unittest.TestCase):
             return min(free, key=lambda i: (-gains[i], i)) if free else None
 
         self.assertTrue(self.seen(see_moves, "choose", any_free))
+
+    def test_window_of_all_files(self):
+        self.assertTrue(self.seen(see_moves, "balanced", samples.in_wide_window))
+        with mock.patch.object(planner, "balanced", samples.in_wide_window):
+            self.assertEqual(planner.check(samples.archive()), (0, 0))
 
     def test_gain_list_of_the_end(self):
         def not_kept(job, sides, move_files, move_gains):

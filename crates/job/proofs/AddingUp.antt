@@ -8,10 +8,10 @@ use lib.Dec.{eqb}
 use lib.ListN.{getD}
 use Rattle.rules.specs.Lists.{bit, total, count, largest, upTo}
 use Rattle.rules.specs.Job.{Job}
-use Rattle.rules.specs.Split.{sideOf, onSide, sizeOf}
+use Rattle.rules.specs.Split.{sideOf, onSide, sizeOf, isFree}
 use Rattle.rules.proofs.Count.{bit-most, total-upTo, largest-upTo}
 use Rattle.job.specs.declared.figures.Totals.{Totals}
-use Rattle.job.specs.Totals.{isFree, totalsOf, withFile, Within, Added}
+use Rattle.job.specs.Totals.{totalsOf, withFile, Within, Added}
 
 same-totals : (t u : Totals) → t .weight ≡ u .weight → t .largest ≡ u .largest → t .size ≡ u .size → t .free ≡ u .free → t ≡ u
 same-totals t u p q r s = λ i. record { weight = p i; largest = q i; size = r i; free = s i }
@@ -36,6 +36,7 @@ module _ {job : Job} {n i : ℕ} {t : Totals} (w : Walked job n i t) where
   walked-more r h l e =
       let file : Totals → Totals = λ y. withFile y (sizeOf job i) (sideOf (job .sides) i) (getD (job .marks) i 0) in
       let in-a : ℕ → ℕ = λ f. bit (onSide (job .sides) 0 f) * sizeOf job f in
+      let if-free : ℕ → ℕ = λ f. bit (isFree job f) * sizeOf job f in
       let was = w .added .within in
       record {
         stop = omega arith;
@@ -43,11 +44,11 @@ module _ {job : Job} {n i : ℕ} {t : Totals} (w : Walked job n i t) where
           is =
               e ∙ ap file (w .added .is)
               ∙ same-totals (file (totalsOf job i)) (totalsOf job (suc i))
-              (sym (total-upTo (sizeOf job) i)) (sym (largest-upTo (sizeOf job) i)) (sym (total-upTo in-a i)) (sym (total-upTo (λ f. bit (isFree job f)) i))
+              (sym (total-upTo (sizeOf job) i)) (sym (largest-upTo if-free i)) (sym (total-upTo in-a i)) (sym (total-upTo (λ f. bit (isFree job f)) i))
               ∙ ap (totalsOf job) (sym (add-one i));
           within = record {
             weight = omega (arith, ap (λ (y : Totals). y .weight) e, was .weight);
-            largest = rw (ap (λ (y : Totals). y .largest) e) (max-le (omega (arith, was .largest)) (omega arith));
+            largest = rw (ap (λ (y : Totals). y .largest) e) (max-le (omega (arith, was .largest)) (omega (arith, bit-most (isFree job i) (sizeOf job i))));
             size = omega (arith, ap (λ (y : Totals). y .size) e, was .size, bit-most (eqb (sideOf (job .sides) i) 0) (sizeOf job i));
             free = omega (arith, ap (λ (y : Totals). y .free) e, was .free, bit-most (eqb (getD (job .marks) i 0) 0) 1);
           };

@@ -1,26 +1,21 @@
 -- W, smax, |A| and the number of free files, as one walk over the files adds them up. Assumes nothing.
 use Prim.Native.Nat.{ℕ, _+_, _*_, _≤_, max}
 use mathlib.Core.Path.{_≡_}
-use mathlib.Core.Bool.{Bool}
-use lib.ListN.{getD}
 use lib.Dec.{eqb}
 use Rattle.job.specs.declared.Job.{Job as Figures}
 use Rattle.job.specs.declared.figures.Totals.{Totals}
 use Rattle.job.specs.Parts.{wholeJob}
 use Rattle.rules.specs.Lists.{bit, total, count, largest, upTo}
 use Rattle.rules.specs.Job.{Job, Limits, fileCount}
-use Rattle.rules.specs.Split.{onSide, sizeOf}
+use Rattle.rules.specs.Split.{onSide, sizeOf, isFree}
 use Rattle.rules.specs.declared.Verdict.{Verdict}
 use Rattle.rules.specs.Check.{check7to9}
-
-abbrev pub isFree : Job → ℕ → Bool
-isFree job f = eqb (getD (job .marks) f 0) 0
 
 -- those of the first n files
 unfoldable pub totalsOf : Job → ℕ → Totals
 totalsOf job n = record {
   weight = total (sizeOf job) (upTo n);
-  largest = largest (sizeOf job) (upTo n);
+  largest = largest (λ f. bit (isFree job f) * sizeOf job f) (upTo n);
   size = total (λ f. bit (onSide (job .sides) 0 f) * sizeOf job f) (upTo n);
   free = count (isFree job) (upTo n);
 }
@@ -29,7 +24,7 @@ totalsOf job n = record {
 abbrev pub withFile : Totals → ℕ → ℕ → ℕ → Totals
 withFile t size side mark = record {
   weight = t .weight + size;
-  largest = max (t .largest) size;
+  largest = max (t .largest) (bit (eqb mark 0) * size);
   size = t .size + bit (eqb side 0) * size;
   free = t .free + bit (eqb mark 0);
 }

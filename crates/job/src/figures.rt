@@ -41,7 +41,7 @@ fn with_file(t: Totals, size: u16, side: u16, mark: u16) -> Totals
     let s = long(size);
     Totals {
         weight: t.weight + s,
-        largest: larger(t.largest, s),
+        largest: larger(t.largest, if_zero(mark, s)),
         size: t.size + if_zero(side, s),
         free: t.free + if_zero(mark, 1),
     }

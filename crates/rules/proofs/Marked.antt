@@ -14,7 +14,7 @@ use Rattle.rules.specs.Stored.{weigh, blockCheck, headerOf, laidOut, blo
 use Rattle.rules.specs.Report.{text, digitsIn, spaced, line, refusal, sizeLine, sidesLine, figureLines, report, allRoom, prints}
 use Rattle.rules.specs.Writing.{valueBytes, contents}
 use Rattle.rules.specs.Trace.{signed, gainWords, scanLines, moveLines, movesLines, passLines, trace, traces}
-use Rattle.rules.specs.Marked.{chain, pair, chainBytes, pairBytes, Marked}
+use Rattle.rules.specs.Marked.{chain, pair, archive, chainBytes, pairBytes, Marked}
 use Rattle.rules.proofs.Lending.{runText, passText, prints-run, traces-pass, read-same}
 
 -- ---- from bytes to bytes, of a stored job that the programs accept under these limits
@@ -57,6 +57,12 @@ module _ (most : Limits) (f : 2 ≤ most .files) (r : 1 ≤ most .recipes) (p : 
   unfolding total count largest upTo lowest bestUpTo diff viewOf files views countOn isCut cut times alone together gain weight smax sizeOn balanced check1 check2 check3 check4 badPin check5 check6 check7 check8 check9 check4to6 check7to9 check1to6 check
   pair-checked d = rw (le-ltb (most .files) 2 f, le-ltb (most .recipes) 1 r, le-ltb (most .pins) 2 p, le-ltb (most .den) 2 d) refl
 
+-- ---- the archive of order 2
+
+archive-checked : (most : Limits) → 4 ≤ most .files → 2 ≤ most .recipes → 4 ≤ most .pins → 2 ≤ most .den → checkJob most archive ≡ record { number = 9; place = 0 }
+unfolding total count largest upTo lowest viewOf files views weight smax sizeOn balanced check1 check2 check3 check4 badPin check5 check6 check7 check8 check9 check4to6 check7to9 check1to6 check
+archive-checked m f r p d = rw (le-ltb (m .files) 4 f, le-ltb (m .recipes) 2 r, le-ltb (m .pins) 4 p, le-ltb (m .den) 2 d) refl
+
 pub marked : Marked
 unfolding total count largest upTo lowest bestUpTo diff viewOf files views countOn isCut cut times alone together gain weight smax sizeOn balanced moved stepsBy sizeAfter legal distAfter challenge firstBelow choose movesBy moves fileOn kindsIn kindsOf scansFrom scans endsFrom visits gainsWhen cutsAfter cutAt keeps standing gainsAfter passOf passesBy mostPasses passes lastOf figuresOf runFiguresOf weigh blockCheck headerOf laidOut blockVerdict blocksVerdict layoutVerdict readVerdict text digitsIn spaced line refusal sizeLine sidesLine figureLines report onto padded leaves signed gainWords scanLines moveLines movesLines passLines trace prints
 marked = record {
@@ -80,4 +86,6 @@ marked = record {
   m8 = refl;
   m9·reads = λ most room. refl;
   m9·prints = λ most. refl;
+  order2·refused = archive-checked;
+  order2·window = refl;
 }

@@ -7,7 +7,7 @@ use Rattle.rules.specs.declared.Verdict.{Verdict}
 use Rattle.rules.specs.declared.Measure.{Measure}
 use Rattle.rules.specs.Lists.{count, lowest, someBelow}
 use Rattle.rules.specs.Job.{Job, Limits, fileCount, recipeCount, pinCount, bound, pin, files, recipes}
-use Rattle.rules.specs.Split.{sizeOf, sizeA, balanced, cut}
+use Rattle.rules.specs.Split.{sizeOf, isFree, sizeA, balanced, cut}
 
 abbrev pub done : Verdict
 done = record { number = 0; place = 0 }
@@ -110,7 +110,7 @@ check7 most job = refuseIf (badRatio most job) 7 0
 -- ---- 8: no file is free
 
 abbrev pub noneFree : Job → Bool
-noneFree job = eqb (count (λ f. eqb (getD (job .marks) f 0) 0) (files job)) 0
+noneFree job = eqb (count (isFree job) (files job)) 0
 
 unfoldable pub check8 : Job → Verdict
 check8 job = refuseIf (noneFree job) 8 0

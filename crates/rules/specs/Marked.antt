@@ -1,4 +1,5 @@
--- Document 01's marked table, m1 to m9, as one statement about the definitions (Marked `marked` of proofs/). Assumes nothing.
+-- Document 01's marked table, m1 to m9, and the worked cases of document 02's orders, as one statement about the definitions (Marked `marked` of proofs/).
+-- Assumes nothing.
 use Prim.Native.Nat.{ℕ, _≤_}
 use mathlib.Core.Path.{_≡_}
 use mathlib.Core.Bool.{true, false}
@@ -6,7 +7,7 @@ use mathlib.Core.List.{List, [], _∷_, _++_, map}
 use lib.ListN.{length, take, set, replicate}
 use lib.IntN.{pos, negsuc}
 use Rattle.rules.specs.Writing.{contents}
-use Rattle.rules.specs.Job.{Job, Limits, files, views, recipes}
+use Rattle.rules.specs.Job.{Job, asJob, Limits, files, views, recipes}
 use Rattle.rules.specs.Split.{gain, balanced}
 use Rattle.rules.specs.Check.{done, checkJob}
 use Rattle.rules.specs.Move.{State, start, after, scans, visits}
@@ -61,6 +62,10 @@ pairBytes =
 abbrev pub triple : Job
 triple = small (0 ∷ 0 ∷ 1 ∷ []) (0 ∷ 3 ∷ []) (0 ∷ 1 ∷ 2 ∷ [])
 
+-- document 02, order 2: sizes 10 (pinned in A), 1, 1, 1, ratio 1/2 and the others in B; recipes {0,1}, {2,3}
+abbrev pub archive : Job
+archive = asJob (10 ∷ 1 ∷ 1 ∷ 1 ∷ []) (0 ∷ 1 ∷ 1 ∷ 1 ∷ []) (1 ∷ 0 ∷ 0 ∷ 0 ∷ []) (0 ∷ 2 ∷ 4 ∷ []) (0 ∷ 1 ∷ 2 ∷ 3 ∷ []) 1 2 0
+
 abbrev pub begin : Job → State
 begin job = start job (job .sides)
 
@@ -112,3 +117,6 @@ pub record Marked : Type 0 where
   -- a 512-byte file of zeros is refused 21, under any limits: by reading, whatever is lent, and so by the program
   pub m9·reads : (most : Limits) (room : Room) → readVerdict most (replicate 512 0) room ≡ record { number = 21; place = 0 }
   pub m9·prints : (most : Limits) → prints most (replicate 512 0) ≡ text "refused 21 0\n"
+  -- order 2's worked case: it starts at 10 and is refused 9, under any limits wide enough; A may be 6 or 7
+  pub order2·refused : (most : Limits) → 4 ≤ most .files → 2 ≤ most .recipes → 4 ≤ most .pins → 2 ≤ most .den → checkJob most archive ≡ record { number = 9; place = 0 }
+  pub order2·window : map (balanced archive) (5 ∷ 6 ∷ 7 ∷ 8 ∷ 10 ∷ []) ≡ false ∷ true ∷ true ∷ false ∷ false ∷ []

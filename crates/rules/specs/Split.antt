@@ -67,13 +67,16 @@ gain sides rs f = diff (count (alone sides f) rs) (count (together sides f) rs)
 abbrev pub sizeOf : Job → ℕ → ℕ
 sizeOf job f = getD (job .sizes) f 0
 
+abbrev pub isFree : Job → ℕ → Bool
+isFree job f = eqb (getD (job .marks) f 0) 0
+
 -- W, the sum of all sizes
 unfoldable pub weight : Job → ℕ
 weight job = total (sizeOf job) (files job)
 
--- the largest size in the job
+-- the largest size among the files with mark 0 (document 02, order 2)
 unfoldable pub smax : Job → ℕ
-smax job = largest (sizeOf job) (files job)
+smax job = largest (λ f. bit (isFree job f) * sizeOf job f) (files job)
 
 -- the sum on side u; |A| is that of side 0
 unfoldable pub sizeOn : Job → ℕ → List ℕ → ℕ

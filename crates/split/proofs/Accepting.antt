@@ -9,13 +9,13 @@ use native.Mathlib.Nat.{max-le}
 use lib.IntN.{ℤ}
 use Rattle.rules.specs.declared.Verdict.{Verdict}
 use Rattle.rules.specs.declared.Figures.{Figures}
-use Rattle.rules.specs.Lists.{total, largest, upTo}
+use Rattle.rules.specs.Lists.{bit, total, largest, upTo}
 use Rattle.rules.specs.Job.{Job, Limits, fileCount, files, Lent, lentOf, fits}
-use Rattle.rules.specs.Split.{sizeOf, weight, smax}
+use Rattle.rules.specs.Split.{sizeOf, isFree, weight, smax}
 use Rattle.rules.specs.Check.{check}
 use Rattle.rules.specs.Run.{endedOf, Ended, noFigures, passEnds}
 use Rattle.rules.specs.Theorems.{Accepted}
-use Rattle.rules.proofs.Count.{total-upTo, largest-upTo}
+use Rattle.rules.proofs.Count.{bit-most, total-upTo, largest-upTo}
 use Rattle.rules.proofs.Verdicts.{zero-of}
 use Rattle.rules.proofs.Proved.{accepted, answers}
 use Rattle.job.specs.declared.figures.Survey.{Survey}
@@ -45,7 +45,7 @@ module _ (job : Job) (two : (i : ℕ) → sizeOf job i < 65536) where
 
   smax-most : smax job ≤ 65535
   unfolding smax files
-  smax-most = largest-most (sizeOf job) two (fileCount job)
+  smax-most = largest-most (λ f. bit (isFree job f) * sizeOf job f) (λ f. omega (arith, bit-most (isFree job f) (sizeOf job f), two f)) (fileCount job)
 
 -- s answers for the job and the lists lent, and g and z are then the gains and the scratch; sizes are two-byte numbers
 pub record Accepting (most : Limits) (job : Job) (l : Lent) (g : List ℤ) (z : List ℕ) (s : Survey) : Type 0 where
