@@ -123,7 +123,7 @@ pub record Listed {ℓ} {A : Type ℓ} (n : ℕ) (z : A) (xs old new : List A) :
   pub then : (d : A) (i : ℕ) → length xs ≤ i → i < n → getD new i d ≡ z
   pub further : (d : A) (i : ℕ) → n ≤ i → getD new i d ≡ getD old i d
 
--- (Proved `left`, of moves that hold and lists that fit)
+-- (Proved `left`, of a sound job, moves that hold and lists that fit)
 pub record Left (job : Job) (l : Lent) (p : Pass) : Type 0 where
   pub gains : leaves job l p .gains ≡ p .gains
   pub tried : Listed (fileCount job) 0 (p .tried) (l .tried) (leaves job l p .tried)
@@ -134,7 +134,7 @@ pub record Left (job : Job) (l : Lent) (p : Pass) : Type 0 where
   pub kinds : Listed (4 * recipeCount job) 0 (map (λ s. s .kind) (p .scanned)) (l .kinds) (leaves job l p .kinds)
   pub scratch : Listed (scratchFor job) 0 [] (l .scratch) (leaves job l p .scratch)
 
--- ---- the replay of the lists that the caller is left with, zeros and all (Proved `replayed`, of moves that hold and lists that fit)
+-- ---- the replay of the lists that the caller is left with, zeros and all (Proved `replayed`, of a sound job, moves that hold and lists that fit)
 
 -- the scans that the two scan lists tell of
 unfoldable pub scansTold : List ℕ → List ℕ → List Scan
