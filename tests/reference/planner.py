@@ -239,11 +239,17 @@ def size_of_a(job, sides):
     return sum(size for size, side in zip(job.sizes, sides) if side == A)
 
 
+def too_small(job, size_a):
+    return job.den * size_a + job.den * job.largest < job.num * job.total
+
+
+def too_large(job, size_a):
+    return job.den * size_a > job.num * job.total + job.den * job.largest
+
+
 def balanced(job, size_a):
     """Both tests in whole numbers, as document 01 writes them."""
-    goal = job.num * job.total
-    slack = job.den * job.largest
-    return job.den * size_a + slack >= goal and job.den * size_a <= goal + slack
+    return not too_small(job, size_a) and not too_large(job, size_a)
 
 
 # ---- One pass
@@ -450,6 +456,69 @@ def run(job, lent_ok=True):
     )
 
 
+# ---- A balanced start
+
+
+@dataclass
+class BalanceAnswer:
+    """The answer of the balancing call, and the sides it leaves."""
+
+    number: int = 0
+    place: int = 0
+    moves: int = 0
+    cut_after: int = 0
+    size_a: int = 0
+    sides: list = None
+
+
+def size_with_free_files(job, side):
+    """|A| with every free file on this side."""
+    sides = [side if m == FREE else s for s, m in zip(job.sides, job.marks)]
+    return size_of_a(job, sides)
+
+
+def no_start_is_balanced(job):
+    """ "No assignment of the free files is balanced."
+
+    A stays too large without any of them, or too small with all. Between these
+    two no step is wider than smax, and the window is twice as wide.
+    """
+    return too_large(job, size_with_free_files(job, B)) or too_small(
+        job, size_with_free_files(job, A)
+    )
+
+
+def choose_from(job, sides, side):
+    """ "The free file of A with the greatest gain, lowest number among equals", or
+    "the same from B"; "gains as they stand"."""
+    gains = all_gains(job, sides)
+    files = [i for i in range(job.files) if job.marks[i] == FREE and sides[i] == side]
+    return max(files, key=lambda file: (gains[file], -file))
+
+
+def balance(job, lent_ok=True):
+    """ "Source 001's special first pass": "refusals are 1 to 8 as before, and 9". """
+    number, place = refusal(job, lent_ok, 8)
+    if number == 0 and no_start_is_balanced(job):
+        number = 9
+    if number:
+        return BalanceAnswer(number, place, sides=list(job.sides))
+    sides = list(job.sides)
+    moves = 0
+    # "While A is too large ...; while A is too small, the same from B."
+    for side, off in ((A, too_large), (B, too_small)):
+        while off(job, size_of_a(job, sides)):
+            file = choose_from(job, sides, side)
+            sides[file] = 1 - side
+            moves += 1
+    return BalanceAnswer(
+        moves=moves,
+        cut_after=cut(job, sides),
+        size_a=size_of_a(job, sides),
+        sides=sides,
+    )
+
+
 # ---- The stored job
 
 BLOCK = 512
@@ -646,21 +715,26 @@ def letters(sides):
     return "".join("AB"[side] for side in sides)
 
 
-def read_and_run(data):
-    """The job in these bytes and its run, whose answer has the refusal of either."""
+def read_and(call, refused, data):
+    """The job in these bytes and the call's answer, which has the refusal of either."""
     number, place, _, job = read_job(data)
-    return job, RunAnswer(number, place) if number else run(job)
+    return job, refused(number, place) if number else call(job)
+
+
+def size_line(job, answer):
+    """The sizes of A and B after."""
+    return f"size {answer.size_a} {job.total - answer.size_a}"
 
 
 def run_stored(data):
     """What the program prints for these bytes on standard input."""
-    job, answer = read_and_run(data)
+    job, answer = read_and(run, RunAnswer, data)
     if answer.number:
         return refused_line(answer.number, answer.place)
     lines = [
         "done",
         f"cut {answer.cut_before} {answer.cut_after}",
-        f"size {answer.size_a} {job.total - answer.size_a}",
+        size_line(job, answer),
         f"passes {answer.passes}",
         f"settled {'yes' if answer.settled else 'no'}",
         f"kept {answer.kept}",
@@ -675,10 +749,24 @@ def resettle(data):
 
     All else is as it was; of a refused job no byte is written.
     """
-    job, answer = read_and_run(data)
+    job, answer = read_and(run, RunAnswer, data)
     if answer.number:
         return b"", refused_line(answer.number, answer.place)
     return write_job(job.changed(sides=answer.last.sides)), ""
+
+
+def balance_stored(data):
+    """The stored job with a balanced start, and what standard error says of it."""
+    job, answer = read_and(balance, BalanceAnswer, data)
+    if answer.number:
+        return b"", refused_line(answer.number, answer.place)
+    lines = [
+        "done",
+        f"moves {answer.moves}",
+        f"cut {answer.cut_after}",
+        size_line(job, answer),
+    ]
+    return write_job(job.changed(sides=answer.sides)), "\n".join(lines) + "\n"
 
 
 def move_lines(answer):
@@ -711,7 +799,7 @@ def trace(data):
     lines += [
         "gains " + " ".join(str(gain) for gain in answer.gains),
         f"cut {answer.cut_before} {answer.cut_after}",
-        f"size {answer.size_a} {job.total - answer.size_a}",
+        size_line(job, answer),
         f"tried {answer.tried}",
         f"kept {answer.kept}",
         f"scans {answer.scans}",

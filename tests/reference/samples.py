@@ -209,3 +209,11 @@ def random_job(
         cap=cap,
     )
     return job.changed(sides=wide_window_sides(rng, job))
+
+
+def unbalanced_job(rng, files, recipes, side):
+    """A job with all files on this side, or, with none, each on any: few start balanced."""
+    pinned, top_size = rng.choice([0, 0.1, 0.4, 0.8]), rng.choice([1, 3, 9, 65535])
+    job = random_job(rng, files, recipes, pinned=pinned, top_size=top_size)
+    sides = [rng.randint(A, B) if side is None else side for _ in range(files)]
+    return job.changed(sides=sides, num=rng.randint(1, job.den - 1))

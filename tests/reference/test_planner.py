@@ -133,19 +133,28 @@ def see_moves(job, start):
     assert not legal_moves(job, sides, locked), "a legal move was left"
 
 
+def off_goal(job, sides):
+    """How far den·|A| is above num·W, less than 0 where below; and the slack."""
+    in_a = sum(size for size, side in zip(job.sizes, sides) if side == A)
+    free_sizes = [size for size, mark in zip(job.sizes, job.marks) if mark == FREE]
+    return job.den * in_a - job.num * sum(job.sizes), job.den * max(free_sizes)
+
+
+def in_window(job, sides):
+    """Both of the two tests of balance say that it is off by the slack at most."""
+    off, slack = off_goal(job, sides)
+    return abs(off) <= slack
+
+
 def legal_moves(job, sides, locked):
     """Each legal file with its rank, the gain taken as what the cut loses."""
-    free_sizes = [job.sizes[i] for i in range(job.files) if job.marks[i] == 0]
     legal = {}
     for file in range(job.files):
         after = planner.sides_after(sides, [file])
-        in_a = sum(job.sizes[i] for i in range(job.files) if after[i] == A)
-        # Both of the two tests of balance say that this is at most den·smax.
-        off = job.den * in_a - job.num * sum(job.sizes)
-        if locked[file] or abs(off) > job.den * max(free_sizes):
+        if locked[file] or not in_window(job, after):
             continue
         lost = planner.cut(job, sides) - planner.cut(job, after)
-        legal[file] = (-lost, abs(off), file)
+        legal[file] = (-lost, abs(off_goal(job, after)[0]), file)
     return legal
 
 
@@ -878,7 +887,149 @@ class Window(unittest.TestCase):
         self.assertEqual(planner.write(job, bytes(length))[:2], (0, 0))
 
 
+@functools.cache
+def bad_starts():
+    """Random jobs of few files, two in three of which a run refuses as 9."""
+    rng = random.Random(3)
+    sides = itertools.cycle((A, B, None))
+    return [
+        samples.unbalanced_job(rng, rng.randint(2, 10), rng.randint(1, 12), side)
+        for side in itertools.islice(sides, RANDOM_JOBS)
+    ]
+
+
+def assignments(job):
+    """Every assignment of the free files, as sides."""
+    free = [i for i in range(job.files) if job.marks[i] == FREE]
+    for chosen in itertools.product((A, B), repeat=len(free)):
+        sides = list(job.sides)
+        for file, side in zip(free, chosen):
+            sides[file] = side
+        yield sides
+
+
+def free_on(job, sides, side):
+    return [i for i in range(job.files) if job.marks[i] == FREE and sides[i] == side]
+
+
+def see_balance(job, start):
+    """The moves one by one: each takes from the heavy side what leaves the least cut."""
+    answer = planner.balance(job.changed(sides=start))
+    sides, moves = list(start), 0
+    while not in_window(job, sides):
+        heavy = A if off_goal(job, sides)[0] > 0 else B
+        afters = [planner.sides_after(sides, [i]) for i in free_on(job, sides, heavy)]
+        # Of equals the first, which is that of the lowest file.
+        sides = min(afters, key=lambda after: planner.cut(job, after))
+        moves += 1
+    told = (answer.number, answer.place, answer.moves, answer.sides)
+    assert told == (0, 0, moves, sides), "other moves"
+    assert answer.cut_after == planner.cut(job, sides), "another cut"
+    assert answer.size_a == planner.size_of_a(job, sides), "another size of A"
+
+
+def balanceable():
+    return [job for job in bad_starts() if planner.balance(job).number == 0]
+
+
+class Balanced(unittest.TestCase):
+    """Order 3: the balanced start."""
+
+    def test_9_exactly_if_no_assignment_is_balanced(self):
+        refused = 0
+        for job in bad_starts():
+            found = any(in_window(job, sides) for sides in assignments(job))
+            answer = planner.balance(job)
+            self.assertEqual(answer.number, 0 if found else 9)
+            refused += not found
+        self.assertGreater(refused, 20)
+        self.assertGreater(RANDOM_JOBS - refused, 100)
+
+    def test_moves(self):
+        moved = 0
+        for job in balanceable():
+            see_balance(job, job.sides)
+            moved += planner.balance(job).moves > 1
+        self.assertGreater(moved, 20)
+
+    def test_the_start_is_balanced_and_runs(self):
+        for job in balanceable():
+            answer = planner.balance(job)
+            after = job.changed(sides=answer.sides)
+            self.assertEqual(planner.check(after), (0, 0))
+            # A second call finds nothing to do.
+            again = planner.balance(after)
+            self.assertEqual((again.moves, again.sides), (0, answer.sides))
+            self.assertEqual(
+                (again.cut_after, again.size_a), (answer.cut_after, answer.size_a)
+            )
+
+    def test_one_way_and_free_files_only(self):
+        """No file moves twice: as many sides differ as moves were made."""
+        for job in balanceable():
+            answer = planner.balance(job)
+            changed = [i for i in range(job.files) if answer.sides[i] != job.sides[i]]
+            self.assertEqual(len(changed), answer.moves)
+            self.assertFalse(any(job.marks[i] for i in changed))
+            self.assertLessEqual(len({job.sides[i] for i in changed}), 1)
+
+    def test_balanced_starts_stay(self):
+        for job in small_jobs():
+            answer = planner.balance(job)
+            self.assertEqual((answer.number, answer.moves), (0, 0))
+            self.assertEqual(answer.sides, list(job.sides))
+
+    def test_the_chain_in_one_vault(self):
+        """Gains -1, -2, -2, -1: file 0 moves, and three of four are balanced."""
+        for side, sizes in ((A, "3 1"), (B, "1 3")):
+            job = samples.chain().changed(sides=[side] * 4)
+            data, said = planner.balance_stored(planner.write_job(job))
+            self.assertEqual(said, f"done\nmoves 1\ncut 1\nsize {sizes}\n")
+            sides = (1 - side, side, side, side)
+            self.assertEqual(planner.read_job(data)[3], job.changed(sides=sides))
+
+    def test_gains_as_they_stand_after_each_move(self):
+        """Six files in a row, all in A, to B: 0 and then its neighbour, and so on."""
+        job = samples.in_a_row([], [(1, A)] * 6, num=1, den=6)
+        # W is 6 and smax 1: |A| from 0 up to 2.
+        answer = planner.balance(job)
+        self.assertEqual(answer.sides, [B, B, B, B, A, A])
+        self.assertEqual((answer.moves, answer.cut_after, answer.size_a), (4, 1, 2))
+
+    def test_refusals_1_to_8(self):
+        for number in range(1, 9):
+            job = samples.chain().changed(**JOB_FAULTS[number])
+            answer = planner.balance(job)
+            self.assertEqual((answer.number, answer.place), planner.check(job))
+            self.assertEqual(answer.sides, list(job.sides))
+            self.assertFalse(answer.moves or answer.cut_after or answer.size_a)
+        self.assertEqual(planner.balance(samples.chain(), lent_ok=False).number, 3)
+        # 8 before 9, and 7 before both.
+        archive = samples.archive().changed(marks=[PINNED] * 4)
+        self.assertEqual(planner.balance(archive).number, 8)
+        self.assertEqual(planner.balance(archive.changed(num=2)).number, 7)
+
+    def test_9(self):
+        """Order 2's archive alone is more than A may hold; and too little in B."""
+        for side in (A, B):
+            job = samples.in_a_row([(10, side)], [(1, 1 - side)] * 3)
+            self.assertEqual(planner.balance(job).number, 9)
+            told = planner.balance_stored(planner.write_job(job))
+            self.assertEqual(told, (b"", "refused 9 0\n"))
+
+    def test_refused_stored_jobs(self):
+        for fault in faults.IN_ORDER[:-1]:
+            (number, place), _ = fault
+            told = planner.balance_stored(faults.stored_chain([fault]))
+            self.assertEqual(told, (b"", f"refused {number} {place}\n"))
+
+
 class Mill(unittest.TestCase):
+    def test_it_is_balanced_and_then_runs(self):
+        data, said = planner.balance_stored(planner.write_job(mill()))
+        self.assertTrue(said.startswith("done\n"))
+        self.assertTrue(planner.run_stored(data).startswith("done\n"))
+
     def test_it_is_refused_as_it_came(self):
         """Its archives are pinned, and give no slack: |A| lacks 221 of 39,804."""
         self.assertEqual(planner.check(mill()), (9, 0))
@@ -933,8 +1084,8 @@ def last_prefix(cuts):
 class CanFail(unittest.TestCase):
     """Each error that document 01 names is seen by the test that is meant for it."""
 
-    def seen(self, see, name, wrong):
-        jobs = small_jobs()
+    def seen(self, see, name, wrong, jobs=None):
+        jobs = jobs or small_jobs()
         with mock.patch.object(planner, name, wrong):
             for job in jobs:
                 try:
@@ -987,6 +1138,20 @@ class CanFail(unittest.TestCase):
         self.assertTrue(self.seen(see_moves, "balanced", samples.in_wide_window))
         with mock.patch.object(planner, "balanced", samples.in_wide_window):
             self.assertEqual(planner.check(samples.archive()), (0, 0))
+
+    def test_balance_by_the_highest_number(self):
+        def highest(job, sides, side):
+            gains = planner.all_gains(job, sides)
+            return max(free_on(job, sides, side), key=lambda i: (gains[i], i))
+
+        self.assertTrue(self.seen(see_balance, "choose_from", highest, balanceable()))
+
+    def test_balance_by_the_first_gains(self):
+        def by_first(job, sides, side):
+            gains = planner.all_gains(job, job.sides)
+            return max(free_on(job, sides, side), key=lambda i: (gains[i], -i))
+
+        self.assertTrue(self.seen(see_balance, "choose_from", by_first, balanceable()))
 
     def test_gain_list_of_the_end(self):
         def not_kept(job, sides, move_files, move_gains):

@@ -3,7 +3,7 @@ use mathlib.Core.Path.{_≡_, refl, sym, ap, ap₂, subst, _∙_}
 use mathlib.Core.Logic.{_≢_}
 use Prim.Native.Nat.{ℕ, _+_, _*_, _≤_, _<_}
 use mathlib.Core.Bool.{Bool, true, false, cond, _&&_}
-use mathlib.Core.List.{List}
+use mathlib.Core.List.{List, []}
 use native.Mathlib.Decide.{ℕ-discrete, decLt}
 use native.Mathlib.Omega.{arith}
 use lib.Dec.{T, eqb}
@@ -93,8 +93,8 @@ module _ (most : Limits) (job : Job) (r : RunFigures) (sides : List ℕ) (own le
   pub run-out : (what : ℕ) → what ≢ 1 → runOut (eqb what 2) r (withSides job sides) ≡ jobOut what most job
   run-out what n = rw (ne-eqb what 1 n) (go (eqb what 2))
     where
-      go : (b : Bool) → runOut b r (withSides job sides) ≡ cond b (let x = allRun most job in handsOut (x .answer .figures .verdict) (withSides job (x .sides))) (let x = allRun most job in textOut false (report job (x .answer) (x .sides)))
-      go true = ap (λ (x : Ended RunFigures). handsOut (x .answer .figures .verdict) (withSides job (x .sides))) ran
+      go : (b : Bool) → runOut b r (withSides job sides) ≡ cond b (let x = allRun most job in handsOut (x .answer .figures .verdict) (withSides job (x .sides)) []) (let x = allRun most job in textOut false (report job (x .answer) (x .sides)))
+      go true = ap (λ (x : Ended RunFigures). handsOut (x .answer .figures .verdict) (withSides job (x .sides)) []) ran
       go false = ap (textOut false) (report-sides job r sides ∙ ap (λ (x : Ended RunFigures). report job (x .answer) (x .sides)) ran)
 
 -- the blocks, of a run that was made
@@ -168,7 +168,7 @@ out-read what most bytes z = go (eqb what 1) (eqb what 2)
     read = eq-eqb (readVerdict most bytes (allRoom most) .number) 0 z
 
     go : (b c : Bool) → cond b (textOut false (traces most bytes)) (cond c (resettles most bytes) (textOut false (prints most bytes)))
-        ≡ cond b (textOut false (passTrace most (jobOf bytes))) (cond c (let e = allRun most (jobOf bytes) in handsOut (e .answer .figures .verdict) (withSides (jobOf bytes) (e .sides))) (let e = allRun most (jobOf bytes) in textOut false (report (jobOf bytes) (e .answer) (e .sides))))
+        ≡ cond b (textOut false (passTrace most (jobOf bytes))) (cond c (let e = allRun most (jobOf bytes) in handsOut (e .answer .figures .verdict) (withSides (jobOf bytes) (e .sides)) []) (let e = allRun most (jobOf bytes) in textOut false (report (jobOf bytes) (e .answer) (e .sides))))
     go true c = rw (read, traces) refl
     go false true = rw (read, resettles) refl
     go false false = rw (read, prints) refl

@@ -42,11 +42,11 @@ blocksOut job = textOut false (blocksOf job)
 
 -- of a run's answer and the job with the sides after it
 abbrev pub runOut : Bool → RunFigures → Job → HandedOut
-runOut stored answer job = cond stored (handsOut (answer .figures .verdict) job) (textOut false (report job answer (job .sides)))
+runOut stored answer job = cond stored (handsOut (answer .figures .verdict) job []) (textOut false (report job answer (job .sides)))
 
 -- the job as it is stored after its run
 abbrev pub storedOut : Limits → Job → HandedOut
-storedOut most job = let e = allRun most job in handsOut (e .answer .figures .verdict) (withSides job (e .sides))
+storedOut most job = let e = allRun most job in handsOut (e .answer .figures .verdict) (withSides job (e .sides)) []
 
 -- 0 the report, 1 the trace, 2 the job as it is stored after its run: of a job and of an input
 abbrev pub jobOut : ℕ → Limits → Job → HandedOut

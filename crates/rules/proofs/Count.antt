@@ -100,6 +100,11 @@ pub total-upTo : (w : ℕ → ℕ) (n : ℕ) → total w (upTo (suc n)) ≡ tota
 unfolding upTo total
 total-upTo w n = total-append w (upTo n) (n ∷ []) ∙ ap (λ (k : ℕ). total w (upTo n) + k) (add-zero (w n))
 
+-- a weight that is below another at every number below n
+pub total-below : (w v : ℕ → ℕ) (n : ℕ) → ((x : ℕ) → x < n → v x ≤ w x) → total v (upTo n) ≤ total w (upTo n)
+total-below w v zero h = unfold upTo total in omega arith
+total-below w v (suc n) h = omega (arith, total-upTo w n, total-upTo v n, h n (omega arith), total-below w v n (λ x l. h x (omega arith)))
+
 pub count-le {ℓ} : {A : Type ℓ} (p : A → Bool) (l : List A) → count p l ≤ length l
 unfolding count total
 count-le p [] = omega arith
@@ -301,3 +306,11 @@ largest-append w (x ∷ a) b = ap (max (w x)) (largest-append w a b) ∙ sym (ma
 pub largest-upTo : (w : ℕ → ℕ) (n : ℕ) → largest w (upTo (suc n)) ≡ max (largest w (upTo n)) (w n)
 unfolding largest upTo
 largest-upTo w n = largest-append w (upTo n) (n ∷ []) ∙ ap (max (largest w (upTo n))) (max-zero (w n))
+
+-- no number is larger
+pub largest-has : (w : ℕ → ℕ) (n i : ℕ) → i < n → w i ≤ largest w (upTo n)
+largest-has w zero i h = absurd (omega arith)
+largest-has w (suc n) i h = rw (largest-upTo w n) (elim (ℕ-discrete i n) [
+  | yes e ↦ le-trans (omega (arith, ap w e)) (le-max-right (largest w (upTo n)) (w n))
+  | no m ↦ le-trans (largest-has w n i (omega arith)) (le-max-left (largest w (upTo n)) (w n))
+])

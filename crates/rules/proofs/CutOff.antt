@@ -140,7 +140,7 @@ resettles-no most bytes n =
     rw (ne-eqb (v .number) 0 (λ z. n (ap (λ (w : Verdict). w .number) e ∙ z)), resettles) (ap (λ (w : Verdict). record { output = []; errors = refusal w }) (sym e))
 
 -- what a program tells of a refused input, it tells of the input cut off
-cut-same : {A : Type 0} (most : Limits) (k : ℕ) (input : List ℕ) (tell : List ℕ → A) (line : Verdict → A)
+pub cut-same : {A : Type 0} (most : Limits) (k : ℕ) (input : List ℕ) (tell : List ℕ → A) (line : Verdict → A)
     → ((bytes : List ℕ) → readVerdict most bytes (allRoom most) .number ≢ 0 → tell bytes ≡ line (readVerdict most bytes (allRoom most)))
     → mostBytes most < k → tell (take k input) ≡ tell input
 cut-same most k input tell line told more = elim (decLt k (length input)) [

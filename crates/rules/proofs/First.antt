@@ -20,10 +20,10 @@ pub record First (ok : ℕ → Bool) (goes : ℕ → ℕ → Bool) (n f : ℕ) :
   pub before : (g : ℕ) → g < n → ok g ≡ true → goes g f ≡ false
   pub lower : (g : ℕ) → g < f → ok g ≡ true → goes f g ≡ true
 
-some-inj : (a b : ℕ) → _≡_ {A = Option ℕ} (some a) (some b) → a ≡ b
+pub some-inj : (a b : ℕ) → _≡_ {A = Option ℕ} (some a) (some b) → a ≡ b
 some-inj a b e = cc
 
-no-some {ℓ} : {X : Type ℓ} (a : ℕ) → _≡_ {A = Option ℕ} none (some a) → X
+pub no-some {ℓ} : {X : Type ℓ} (a : ℕ) → _≡_ {A = Option ℕ} none (some a) → X
 no-some a e = let z : _≡_ {A = ℕ} 0 1 = cc in absurd (omega arith)
 
 module _ (ok : ℕ → Bool) (goes : ℕ → ℕ → Bool) where

@@ -36,3 +36,6 @@ pub mod Words
 pub mod RoundTrip
 pub mod Writes
 pub mod Resettling
+pub mod Balance
+pub mod Balancing
+pub mod Worked

@@ -9,7 +9,7 @@ use native.Mathlib.Decide.{ℕ-discrete}
 use native.Mathlib.Omega.{arith}
 use lib.Dec.{eqb}
 use lib.ListN.{length, getD, set, take, length-set}
-use lib.Seq.{getD-set-same, getD-set-other}
+use lib.Seq.{getD-set-same, getD-set-other, take-nil}
 use borrow.Author.Tests.{eqb-true}
 use Rattle.rules.specs.Lists.{total, count}
 use Rattle.rules.specs.Job.{Job, fileCount}
@@ -47,6 +47,33 @@ module _ {ℓ} {S : Type ℓ} (pick : S → Option ℕ) (step : S → ℕ → S)
       go (some f) e (suc i) h ih =
           let q : suc i < suc (length (movesBy pick step k (step s f))) = rw (moves-go k s f e) at h in
           rw (moves-go k s f e) (ih f i (omega arith))
+
+-- what each move keeps: it holds after every move, and another choice that agrees where it holds makes the same moves
+module _ {ℓ κ} {S : Type ℓ} (pick : S → Option ℕ) (step : S → ℕ → S) (good : S → Type κ) (keep : (s : S) (f : ℕ) → good s → pick s ≡ some f → good (step s f)) where
+  pub moves-keep : (k : ℕ) (s : S) → good s → (i : ℕ) → good (stepsBy step s (take i (movesBy pick step k s)))
+  unfolding stepsBy
+  moves-keep zero s g i = rw (moves-none, take-nil) g
+    where
+      moves-none : movesBy pick step zero s ≡ []
+      moves-none = unfold movesBy in refl
+  moves-keep (suc k) s g i = go (pick s) refl i (λ f. moves-keep k (step s f))
+    where
+      go : (o : Option ℕ) → pick s ≡ o → (i : ℕ)
+          → ((f : ℕ) → good (step s f) → (i : ℕ) → good (stepsBy step (step s f) (take i (movesBy pick step k (step s f)))))
+          → good (stepsBy step s (take i (movesBy pick step (suc k) s)))
+      go none e i ih = rw (moves-stop pick step (suc k) s e, take-nil) g
+      go (some f) e zero ih = g
+      go (some f) e (suc i) ih = rw (moves-go pick step k s f e) (ih f (keep s f g e) i)
+
+  pub moves-same : (pick' : S → Option ℕ) → ((s : S) → good s → pick s ≡ pick' s) → (k : ℕ) (s : S) → good s → movesBy pick step k s ≡ movesBy pick' step k s
+  moves-same pick' same zero s g = unfold movesBy in refl
+  moves-same pick' same (suc k) s g = go (pick s) refl (λ f. moves-same pick' same k (step s f))
+    where
+      go : (o : Option ℕ) → pick s ≡ o → ((f : ℕ) → good (step s f) → movesBy pick step k (step s f) ≡ movesBy pick' step k (step s f))
+          → movesBy pick step (suc k) s ≡ movesBy pick' step (suc k) s
+      go none e ih = moves-stop pick step (suc k) s e ∙ sym (moves-stop pick' step (suc k) s (sym (same s g) ∙ e))
+      go (some f) e ih =
+          moves-go pick step k s f e ∙ ap (λ (l : List ℕ). f ∷ l) (ih f (keep s f g e)) ∙ sym (moves-go pick' step k s f (sym (same s g) ∙ e))
 
 -- how many files are free
 abbrev pub freeCount : State → ℕ

@@ -125,7 +125,7 @@ never-given k (r ∷ rows) h z = go (r .given) refl (never-given k rows (lacks-f
 -- ---- the tables of the check
 
 -- a chain may end in done
-or-done : (b : Bool) (n p : ℕ) → refuseIf b (suc n) p ≡ (refuseIf b (suc n) p orElse done)
+pub or-done : (b : Bool) (n p : ℕ) → refuseIf b (suc n) p ≡ (refuseIf b (suc n) p orElse done)
 or-done true n p = rw (ne-eqb (suc n) 0 (λ e. omega arith)) refl
 or-done false n p = refl
 
@@ -144,7 +144,7 @@ module _ (job : Job) where
   unfolding check7to9 check7 check8 check9 answerOf
   rows-seven most = ap (λ (v : Verdict). check7 most job orElse check8 job orElse v) (or-done (not (balanced job (sizeA job (job .sides)))) 8 0)
 
-  rows-six : (most : Limits) (lent : Bool) → check1to6 most job lent ≡ answerOf (rows1to6 most job lent)
+  pub rows-six : (most : Limits) (lent : Bool) → check1to6 most job lent ≡ answerOf (rows1to6 most job lent)
   unfolding check1to6 check1 check2 check3 answerOf
   rows-six most lent = ap (λ (v : Verdict). check1 job orElse check2 most job orElse check3 job lent orElse v) rows-four
 

@@ -1,8 +1,9 @@
--- The call that writes, refused or not. Assumes nothing.
+-- The call that writes, and a program that hands a stored job on, refused or not. Assumes nothing.
 use mathlib.Core.Path.{_≡_, refl, sym, ap, ap₂, _∙_}
-use Prim.Native.Nat.{ℕ, suc, _*_, _≤_}
+use mathlib.Core.Logic.{_≢_}
+use Prim.Native.Nat.{ℕ, _*_, _≤_}
 use mathlib.Core.Bool.{Bool, true, false, not, cond, _&&_, _||_}
-use mathlib.Core.List.{List}
+use mathlib.Core.List.{List, []}
 use native.Mathlib.Decide.{ℕ-discrete}
 use native.Mathlib.Omega.{arith}
 use lib.Dec.{eqb, ltb}
@@ -13,25 +14,26 @@ use Rattle.rules.specs.Lists.{lowest, someBelow}
 use Rattle.rules.specs.Job.{Job, Limits, fileCount, recipeCount, pinCount, bound}
 use Rattle.rules.specs.Check.{refuseIf, refuseAt, _orElse_, check1, check2, check3, short, check4, badPin, check5, badFile, check6, check4to6, check1to6}
 use Rattle.rules.specs.Stored.{blockCount}
-use Rattle.rules.specs.Writing.{headerFor, blocksOf, writingOf, writeVerdict, writing}
+use Rattle.rules.specs.Report.{refusal}
+use Rattle.rules.specs.Writing.{headerFor, blocksOf, writingOf, writeVerdict, writing, handsOut}
 use Rattle.rules.specs.RoundTrip.{WriteHolds}
 use Rattle.rules.proofs.Verdicts.{zero-of}
 use Rattle.rules.proofs.Proved.{plain-six, lent-six}
 use Rattle.rules.proofs.RoundTrip.{blocks-length}
 
 -- a number is given only by a check
-few-if : (b : Bool) (n p m : ℕ) → n ≤ m → refuseIf b n p .number ≤ m
+pub few-if : (b : Bool) (n p m : ℕ) → n ≤ m → refuseIf b n p .number ≤ m
 few-if true n p m h = h
 few-if false n p m h = omega arith
 
-few-or : (v w : Verdict) (m : ℕ) → v .number ≤ m → w .number ≤ m → (v orElse w) .number ≤ m
+pub few-or : (v w : Verdict) (m : ℕ) → v .number ≤ m → w .number ≤ m → (v orElse w) .number ≤ m
 few-or v w m h k = go (eqb (v .number) 0)
   where
     go : (b : Bool) → cond b w v .number ≤ m
     go true = k
     go false = h
 
-few-numbers : (most : Limits) (job : Job) (lent : Bool) → check1to6 most job lent .number ≤ 6
+pub few-numbers : (most : Limits) (job : Job) (lent : Bool) → check1to6 most job lent .number ≤ 6
 unfolding check1to6 check4to6 check1 check2 check3 check4 check5 check6
 few-numbers most job lent =
     let c : ℕ = fileCount job in
@@ -79,3 +81,11 @@ module _ (most : Limits) (job : Job) (out : List ℕ) {v : Verdict} (e : v ≡ w
 
   pub write-exact : v .number ≡ 0 → length out ≡ 512 * blockCount (headerFor job)
   write-exact z = write-holds most job out .exact (zero-of e z)
+
+-- ---- a program that hands a stored job on, refused or not
+
+pub handed-refused : (v : Verdict) (job : Job) (told : List ℕ) → v .number ≢ 0 → handsOut v job told ≡ record { output = []; errors = refusal v }
+handed-refused v job told n = rw (ne-eqb (v .number) 0 n) refl
+
+pub handed-done : (v : Verdict) (job : Job) (told : List ℕ) → v .number ≡ 0 → handsOut v job told ≡ record { output = blocksOf job; errors = told }
+handed-done v job told z = rw (eq-eqb (v .number) 0 z) refl

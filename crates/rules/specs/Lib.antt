@@ -10,6 +10,8 @@ pub mod Refusals
 pub mod Report
 pub mod Trace
 pub mod Writing
+pub mod Balance
 pub mod Marked
 pub mod Theorems
 pub mod RoundTrip
+pub mod Balancing

@@ -68,9 +68,13 @@ distance x y = (x - y) + (y - x)
 unfoldable pub distAfter : Job → State → ℕ → ℕ
 distAfter job st f = distance (job .den * sizeAfter job st f) (job .num * weight job)
 
+-- f has the greater gain
+abbrev pub greater : (ℕ → ℤ) → ℕ → ℕ → Bool
+greater gains f g = ltZ (gains g) (gains f)
+
 -- f goes before the lower-numbered g: it has the greater gain, or an equal one and the less distance
 abbrev pub better : (ℕ → ℤ) → (ℕ → ℕ) → ℕ → ℕ → Bool
-better gains dists f g = ltZ (gains g) (gains f) || (not (ltZ (gains f) (gains g)) && ltb (dists f) (dists g))
+better gains dists f g = greater gains f g || (not (greater gains g f) && ltb (dists f) (dists g))
 
 -- the best of those below f, against f
 unfoldable pub challenge : (ℕ → Bool) → (ℕ → ℕ → Bool) → Option ℕ → ℕ → Option ℕ

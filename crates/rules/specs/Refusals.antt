@@ -47,10 +47,13 @@ rows4to6 job =
     ∷ rowAt 6 (badFile job) (fileCount job)
     ∷ []
 
--- num 0, num not below den, or den over its most; no file is free; the start is not balanced
+-- num 0, num not below den, or den over its most; no file is free
+abbrev pub rows7and8 : Limits → Job → List Row
+rows7and8 most job = row 7 (badRatio most job) 0 ∷ row 8 (noneFree job) 0 ∷ []
+
+-- the start is not balanced
 abbrev pub rows7to9 : Limits → Job → List Row
-rows7to9 most job =
-    row 7 (badRatio most job) 0 ∷ row 8 (noneFree job) 0 ∷ row 9 (badStart job) 0 ∷ []
+rows7to9 most job = rows7and8 most job ++ (row 9 (badStart job) 0 ∷ [])
 
 -- 3: sides or marks not C long, or a lent list of wrong length
 abbrev pub rows1to6 : Limits → Job → Bool → List Row

@@ -85,9 +85,17 @@ sizeOn job u sides = total (λ f. bit (onSide sides u f) * sizeOf job f) (files 
 abbrev pub sizeA : Job → List ℕ → ℕ
 sizeA job sides = sizeOn job 0 sides
 
--- den·|A| + den·smax is at least num·W, and den·|A| is at most num·W + den·smax
+-- den·|A| + den·smax is at least num·W
+abbrev pub largeEnough : ℕ → ℕ → ℕ → ℕ → ℕ → Bool
+largeEnough num den w m a = leb (num * w) (den * a + den * m)
+
+-- den·|A| is at most num·W + den·smax
+abbrev pub smallEnough : ℕ → ℕ → ℕ → ℕ → ℕ → Bool
+smallEnough num den w m a = leb (den * a) (num * w + den * m)
+
+-- both
 abbrev pub inWindow : ℕ → ℕ → ℕ → ℕ → ℕ → Bool
-inWindow num den w m a = leb (num * w) (den * a + den * m) && leb (den * a) (num * w + den * m)
+inWindow num den w m a = largeEnough num den w m a && smallEnough num den w m a
 
 -- |A| of a is balanced
 unfoldable pub balanced : Job → ℕ → Bool

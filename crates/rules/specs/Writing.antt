@@ -96,7 +96,7 @@ writing most job out =
     let v = writeVerdict most job out in
     elim (isDone v) [ true ↦ writingOf v (blocksOf job) | false ↦ writingOf v out ]
 
--- ---- the program `resettle`: it reads a stored job from standard input, runs it, and writes it with the sides after the run
+-- ---- a program that hands a stored job on with other sides
 
 -- all else as it was
 abbrev pub withSides : Job → List ℕ → Job
@@ -116,15 +116,16 @@ pub record HandedOut : Type 0 where
   pub output : List ℕ
   pub errors : List ℕ
 
--- a refusal, reading's or the run's, writes nothing to standard output and its line to standard error
-abbrev pub handsOut : Verdict → Job → HandedOut
-handsOut v job = cond (isDone v) (record { output = blocksOf job; errors = [] }) (record { output = []; errors = refusal v })
+-- v is reading's refusal or that of the call: refused, nothing goes to standard output and its line to standard error; else the job, and what is told of it
+abbrev pub handsOut : Verdict → Job → List ℕ → HandedOut
+handsOut v job told = cond (isDone v) (record { output = blocksOf job; errors = told }) (record { output = []; errors = refusal v })
 
+-- the program `resettle`: it reads a stored job from standard input, runs it, and writes it with the sides after the run
 unfoldable pub resettles : Limits → List ℕ → HandedOut
 resettles most input =
     let e = allRun most (jobOf input) in
     let v = readVerdict most input (allRoom most) orElse (e .answer .figures .verdict) in
-    handsOut v (withSides (jobOf input) (e .sides))
+    handsOut v (withSides (jobOf input) (e .sides)) []
 
 -- ---- a call that hands out: it is lent one room, in which the bytes for standard output stand first and those for standard error after them
 

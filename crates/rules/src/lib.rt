@@ -61,3 +61,11 @@ pub struct Handed {
     pub output: usize,
     pub errors: usize,
 }
+
+// The answer of balancing: the moves made, and the cut and |A| after them.
+pub struct BalanceFigures {
+    pub verdict: Verdict,
+    pub moves: usize,
+    pub cut: usize,
+    pub size: u64,
+}

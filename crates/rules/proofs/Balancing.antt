@@ -1,0 +1,370 @@
+-- The theorems of specs/Balancing.antt: the moves, 9 exactly if impossible, the call and the program. Assumes nothing.
+use mathlib.Core.Path.{_≡_, refl, sym, ap, ap₂, _∙_}
+use mathlib.Core.Logic.{_≢_}
+use Prim.Native.Nat.{ℕ, _≤_, _<_}
+use mathlib.Core.Bool.{Bool, true, false, not, _||_}
+use mathlib.Core.List.{List, []}
+use mathlib.Core.Option.{Option, none, some}
+use native.Mathlib.Decide.{ℕ-discrete}
+use native.Mathlib.Omega.{arith}
+use lib.Dec.{eqb, leb, ltb}
+use lib.ListN.{length, getD, take}
+use lib.Seq.{take-length}
+use borrow.Author.Tests.{eqb-false, leb-true, le-leb, le-ltb, eq-eqb, ne-eqb}
+use Rattle.rules.specs.declared.Verdict.{Verdict}
+use Rattle.rules.specs.Lists.{count, listed}
+use Rattle.rules.specs.Job.{Job, Limits, fileCount, recipeCount, pinCount, files, recipes, scratchFor}
+use Rattle.rules.specs.Split.{sideOf, cut, gain, isFree, weight, smax, sizeOn, sizeA, balanced}
+use Rattle.rules.specs.Check.{done, refuseIf, _orElse_, check2Of, check2, check7, check8, check9, check1to6, check7to9, check}
+use Rattle.rules.specs.Move.{stepsBy, State, start, moved, after, Frees, greater, movesBy}
+use Rattle.rules.specs.Stored.{jobOf, readVerdict}
+use Rattle.rules.specs.Report.{refusal, allRoom, allLent}
+use Rattle.rules.specs.Refusals.{rows1to6}
+use Rattle.rules.specs.Writing.{headerFor, blocksOf, withSides, HandedOut, handsOut}
+use Rattle.rules.specs.Balance.{heavy, freeOn, greatestOn, balanceChoice, balanceMoves, balanceSides, noneBalanced, check1to8, balanceCheck, balanceVerdict, Balancing, balancingOf, balanceFigures, noBalanceFigures, balancing, balanceLines, balances}
+use Rattle.rules.specs.Theorems.{Sound, Sides, stateAt}
+use Rattle.rules.specs.Balancing.{balancedTo, Assignment, BalanceHolds, lastRows, balanceRows, BalanceRows, NineExactly, BalanceAnswers, balancesVerdict, BalanceProgram}
+use Rattle.rules.proofs.Tests.{clash, contra'}
+use Rattle.rules.proofs.Verdicts.{chain-stop, passes-both, or-assoc, or-three, never-chain, not-refused, Plain, plain-if, plain-chain}
+use Rattle.rules.proofs.Count.{count-le}
+use Rattle.rules.proofs.Fits.{long-enough}
+use Rattle.rules.proofs.Entries.{listed-holds}
+use Rattle.rules.proofs.First.{first-none}
+use Rattle.rules.proofs.SoundJob.{sound}
+use Rattle.rules.proofs.MovesEnd.{StateLong, moves-stop, moves-each, moves-keep, moves-same, moves-free, moves-end, locked-stays}
+use Rattle.rules.proofs.Proved.{moves-hold, given-sides, lent-six}
+use Rattle.rules.proofs.Checking.{check-holds}
+use Rattle.rules.proofs.OtherSides.{sound-again}
+use Rattle.rules.proofs.Refusals.{answerOf, answer-append, lacks, first-given, never-given, or-done, rows-six}
+use Rattle.rules.proofs.Reading.{read-holds}
+use Rattle.rules.proofs.CutOff.{cut-same}
+use Rattle.rules.proofs.Lending.{lends-enough}
+use Rattle.rules.proofs.RoundTrip.{blocks-hold}
+use Rattle.rules.proofs.Writes.{few-if, few-or, few-numbers, handed-refused, handed-done}
+use Rattle.rules.proofs.Balance.{Toward, Made, made, toward-next, halves, greatest-one, choice-stop, choice-go, lockedChoice, locked-same, locked-picks, none-balanced, left-balanced}
+
+-- the side to move from; any, where there is none
+abbrev sideIn : Option ℕ → ℕ
+sideIn none = 0
+sideIn (some u) = u
+
+-- ---- the moves, of a sound job
+
+module _ (most : Limits) (job : Job) (s : Sound most job) where
+  abbrev begin : State
+  begin = start job (job .sides)
+
+  abbrev way : ℕ
+  way = sideIn (heavy job (sizeA job (job .sides)))
+
+  begin-long : StateLong (fileCount job) begin
+  begin-long = record { sides = s .sidesLong; locks = s .marksLong }
+
+  toward-begin : Toward job way begin
+  toward-begin = record {
+    long = begin-long;
+    binary = s .binary;
+    unlocked = λ f h e. refl;
+    unmoved = λ f e. e;
+    way = λ v e. sym (ap sideIn e);
+  }
+
+  pub toward-at : (i : ℕ) → Toward job way (after begin (take i (balanceMoves job)))
+  unfolding balanceMoves
+  toward-at i = moves-keep (balanceChoice job) moved (Toward job way) (toward-next job way) (fileCount job) begin toward-begin i
+
+  pub toward-end : Toward job way (after begin (balanceMoves job))
+  toward-end = rw (take-length (balanceMoves job)) at (toward-at (length (balanceMoves job)))
+
+  -- the moves are those of the choice by the locks
+  pub by-locks : balanceMoves job ≡ movesBy (lockedChoice job) moved (fileCount job) begin
+  unfolding balanceMoves
+  by-locks = moves-same (balanceChoice job) moved (Toward job way) (toward-next job way) (lockedChoice job) (locked-same job way) (fileCount job) begin toward-begin
+
+  balance-free : Frees begin (balanceMoves job)
+  balance-free = rw by-locks (moves-free (locked-picks job) (fileCount job) begin begin-long)
+
+  balance-end : balanceChoice job (after begin (balanceMoves job)) ≡ none
+  balance-end =
+      locked-same job way (after begin (balanceMoves job)) toward-end
+      ∙ ap (λ (ms : List ℕ). lockedChoice job (after begin ms)) by-locks
+      ∙ moves-end (locked-picks job) (fileCount job) begin begin-long (omega (arith, count-le (λ l. eqb l 0) (job .marks), s .marksLong))
+
+  pub made-at : (i : ℕ) → i < length (balanceMoves job) → Made job way (after begin (take i (balanceMoves job))) (getD (balanceMoves job) i 0)
+  unfolding balanceMoves
+  made-at i h =
+      made job way (after begin (take i (movesBy (balanceChoice job) moved (fileCount job) begin))) (getD (movesBy (balanceChoice job) moved (fileCount job) begin) i 0)
+      (toward-at i) (moves-each (balanceChoice job) moved (fileCount job) begin i h)
+
+  balance-empty : (u f : ℕ) → heavy job (sizeA job (balanceSides job)) ≡ some u → f < fileCount job → freeOn job (balanceSides job) u f ≡ false
+  unfolding greatestOn
+  balance-empty u f e h =
+      first-none (freeOn job (balanceSides job) u) (greater (gain (balanceSides job) (recipes job))) (fileCount job)
+      (sym (choice-go job (after begin (balanceMoves job)) u e) ∙ balance-end) f h
+
+  balance-stays : (f : ℕ) → isFree job f ≡ false → sideOf (balanceSides job) f ≡ sideOf (job .sides) f
+  balance-stays f e = let n : getD (job .marks) f 0 ≢ 0 = eqb-false (getD (job .marks) f 0) 0 e in locked-stays f (omega arith) balance-free
+
+  assigned : Assignment job (balanceSides job)
+  assigned = record {
+    long = toward-end .long .sides ∙ sym (s .sidesLong);
+    stays = λ f h e. balance-stays f e;
+    binary = λ f h e. toward-end .binary f;
+  }
+
+  none-moved : heavy job (sizeA job (job .sides)) ≡ none → balanceMoves job ≡ []
+  unfolding balanceMoves
+  none-moved e = moves-stop (balanceChoice job) moved (fileCount job) begin (choice-stop job begin e)
+
+  pub balance-holds : BalanceHolds job
+  balance-holds =
+      let one : (u i : ℕ) → heavy job (sizeA job (job .sides)) ≡ some u → i < length (balanceMoves job) → Made job u (stateAt job (job .sides) (balanceMoves job) i) (getD (balanceMoves job) i 0)
+      = λ u i e h. rw (ap sideIn e) at (made-at i h) in
+      record {
+        frees = balance-free;
+        moves = moves-hold most job s (job .sides) (balanceMoves job) (given-sides most job s) balance-free;
+        from = λ u i e h. let t = rw (ap sideIn e) at (toward-at i) in t .unmoved (getD (balanceMoves job) i 0) (one u i e h .greatest .there);
+        while = λ u i e h. one u i e h .heavy;
+        each = λ u i e h. one u i e h .greatest;
+        only = λ u i f e h g. greatest-one job (balancedTo job i) u f (getD (balanceMoves job) i 0) g (one u i e h .greatest);
+        ended = balance-end;
+        empty = balance-empty;
+        still = λ b.
+            let z = none-moved (halves job (sizeA job (job .sides)) .even b) in
+            (z, ap (λ (ms : List ℕ). after begin ms .sides) z ∙ (unfold stepsBy in refl));
+        sides = record { long = toward-end .long .sides; binary = toward-end .binary };
+        stays = balance-stays;
+        balances = λ b. left-balanced job (balanceSides job) b assigned balance-empty;
+      }
+
+-- ---- the table of its check
+
+last-rows : (most : Limits) (job : Job) → (check7 most job orElse check8 job orElse refuseIf (noneBalanced job) 9 0) ≡ answerOf (lastRows most job)
+unfolding check7 check8 answerOf
+last-rows most job = ap (λ (v : Verdict). check7 most job orElse check8 job orElse v) (or-done (noneBalanced job) 8 0)
+
+pub balance-rows : (most : Limits) (job : Job) (lent : Bool) → BalanceRows most job lent
+unfolding balanceCheck check1to8 lacks
+balance-rows most job lent =
+    first-given (balanceRows most job lent) refl
+    (or-three (check1to6 most job lent) (check7 most job) (check8 job) (refuseIf (noneBalanced job) 9 0)
+    ∙ ap₂ (λ (v w : Verdict). v orElse w) (rows-six job most lent) (last-rows most job)
+    ∙ sym (answer-append (rows1to6 most job lent) (lastRows most job)))
+
+-- ---- 9 exactly if impossible
+
+module _ (most : Limits) (job : Job) (lent : Bool) where
+  eight-numbers : check1to8 most job lent .number ≤ 8
+  unfolding check1to8 check7 check8
+  eight-numbers =
+      few-or (check1to6 most job lent) (check7 most job orElse check8 job) 8 (omega (arith, few-numbers most job lent))
+      (few-or (check7 most job) (check8 job) 8 (few-if (eqb (job .num) 0 || leb (job .den) (job .num) || ltb (most .den) (job .den)) 7 0 8 (omega arith))
+      (few-if (eqb (count (isFree job) (files job)) 0) 8 0 8 (omega arith)))
+
+  eight-sound : check1to8 most job lent .number ≡ 0 → Sound most job
+  unfolding check1to8
+  eight-sound z = sound most job lent (passes-both (check1to6 most job lent) (check7 most job orElse check8 job) z .0)
+
+  -- after 1 to 8 it is the 9 of its own
+  after-eight : check1to8 most job lent .number ≡ 0 → balanceCheck most job lent ≡ refuseIf (noneBalanced job) 9 0
+  unfolding balanceCheck
+  after-eight z = rw (eq-eqb (check1to8 most job lent .number) 0 z) refl
+
+  stops-before : check1to8 most job lent .number ≢ 0 → balanceCheck most job lent ≡ check1to8 most job lent
+  unfolding balanceCheck
+  stops-before z = rw (ne-eqb (check1to8 most job lent .number) 0 z) refl
+
+  impossible : check1to8 most job lent .number ≡ 0 → ((sides : List ℕ) → Assignment job sides → balanced job (sizeA job sides) ≡ false) → noneBalanced job ≡ true
+  impossible z f =
+      let s = eight-sound z in
+      contra' (noneBalanced job) (λ b. clash (sym (balance-holds most job s .balances b) ∙ f (balanceSides job) (assigned most job s)))
+
+  passed-nine : balanceCheck most job lent .number ≡ 0 → (check1to8 most job lent .number ≡ 0) × (noneBalanced job ≡ false)
+  unfolding balanceCheck
+  passed-nine z =
+      let q = passes-both (check1to8 most job lent) (refuseIf (noneBalanced job) 9 0) z in
+      (q .0, not-refused (noneBalanced job) 8 0 (q .1))
+
+  nine-given : balanceCheck most job lent .number ≡ 9 → noneBalanced job ≡ true
+  nine-given z = elim (ℕ-discrete (check1to8 most job lent .number) 0) [
+    | yes e ↦ contra' (noneBalanced job) (λ b. omega (arith, sym z ∙ ap (λ (v : Verdict). v .number) (after-eight e ∙ ap (λ (t : Bool). refuseIf t 9 0) b)))
+    | no n ↦ absurd (omega (arith, eight-numbers, sym z ∙ ap (λ (v : Verdict). v .number) (stops-before n)))
+  ]
+
+  pub nine-exactly : NineExactly most job lent
+  nine-exactly = record {
+    given = λ z sides w. none-balanced job sides (nine-given z) w;
+    exactly = λ z f. after-eight z ∙ ap (λ (t : Bool). refuseIf t 9 0) (impossible z f);
+    possible = λ z.
+        let q = passed-nine z in
+        let s = eight-sound (q .0) in
+        (assigned most job s, balance-holds most job s .balances (q .1));
+    before = unfold check check7to9 check1to8 in sym (or-three (check1to6 most job lent) (check7 most job) (check8 job) (check9 job));
+    numbers = eight-numbers;
+    first = stops-before;
+  }
+
+-- ---- the job with other sides
+
+module _ (most : Limits) (job : Job) (s : Sound most job) (sides : List ℕ) (w : Sides job sides) where
+  resided-six : check1to6 most (withSides job sides) true ≡ done
+  resided-six = check-holds most (withSides job sides) true .soundPasses (sound-again job sides s w) refl
+
+  -- of the later checks only 9 looks at the sides
+  resided-nine : (check7 most job orElse check8 job) ≡ done → balanced job (sizeA job sides) ≡ true → check most (withSides job sides) true ≡ done
+  unfolding check check7to9 check7 check8 check9 balanced weight smax sizeOn files
+  resided-nine e b =
+      rw resided-six
+      (sym (or-assoc (check7 most job) (check8 job) (refuseIf (not (balanced job (sizeA job sides))) 9 0)) ∙ rw (e, b) refl)
+
+-- ---- the call
+
+module _ (most : Limits) (job : Job) (scratch : List ℕ) where
+  abbrev lent : Bool
+  lent = leb (scratchFor job) (length scratch)
+
+  plain-balance : Plain (balanceVerdict most job scratch)
+  unfolding balanceCheck
+  plain-balance = plain-chain (check1to8 most job lent) (refuseIf (noneBalanced job) 9 0) (plain-if (noneBalanced job) 8 0)
+
+  -- of a job that is let through
+  module _ (z : balanceVerdict most job scratch .number ≡ 0) where
+    through : Sound most job
+    through = eight-sound most job lent (passed-nine most job lent z .0)
+
+    long-scratch : scratchFor job ≤ length scratch
+    unfolding check1to8
+    long-scratch =
+        leb-true (scratchFor job) (length scratch)
+        (lent-six most job lent (passes-both (check1to6 most job lent) (check7 most job orElse check8 job) (passed-nine most job lent z .0) .0))
+
+    seven-eight : (check7 most job orElse check8 job) ≡ done
+    unfolding check1to8 check8
+    seven-eight =
+        plain-chain (check7 most job) (check8 job) (plain-if (eqb (count (isFree job) (files job)) 0) 7 0)
+        (passes-both (check1to6 most job lent) (check7 most job orElse check8 job) (passed-nine most job lent z .0) .1)
+
+    made-equal : balancing most job scratch ≡ balancingOf (balanceFigures job done) (balanceSides job) (listed (scratchFor job) 0 [] scratch)
+    unfolding balancing
+    made-equal =
+        rw (eq-eqb (balanceVerdict most job scratch .number) 0 z, balancing)
+        (ap (λ (v : Verdict). balancingOf (balanceFigures job v) (balanceSides job) (listed (scratchFor job) 0 [] scratch)) (plain-balance z))
+
+    sides-are : balancing most job scratch .sides ≡ balanceSides job
+    sides-are = ap (λ (b : Balancing). b .sides) made-equal
+
+    left-even : balanced job (sizeA job (balanceSides job)) ≡ true
+    left-even = nine-exactly most job lent .possible z .1
+
+    left-checked : check most (withSides job (balanceSides job)) true ≡ done
+    left-checked = resided-nine most job through (balanceSides job) (balance-holds most job through .sides) seven-eight left-even
+
+  refused-equal : balanceVerdict most job scratch .number ≢ 0
+      → balancing most job scratch ≡ balancingOf (noBalanceFigures (balanceVerdict most job scratch)) (job .sides) scratch
+  unfolding balancing
+  refused-equal n = rw (ne-eqb (balanceVerdict most job scratch .number) 0 n, balancing) refl
+
+  pub balance-answers : BalanceAnswers most job scratch
+  unfolding balanceFigures
+  balance-answers = record {
+    place = plain-balance;
+    fitting = long-scratch;
+    refused = refused-equal;
+    made = made-equal;
+    cut = λ z. ap (λ (b : Balancing). b .answer .cut) (made-equal z) ∙ ap (λ (x : List ℕ). cut x (recipes job)) (sym (sides-are z));
+    size = λ z. ap (λ (b : Balancing). b .answer .size) (made-equal z) ∙ ap (sizeA job) (sym (sides-are z));
+    zeros = λ z.
+        rw (ap (λ (b : Balancing). b .scratch) (made-equal z)) (listed-holds (scratchFor job) 0 [] scratch (omega arith) (long-scratch z));
+    even = λ z. rw (sides-are z) (left-even z);
+    passes = λ z. rw (sides-are z) (left-checked z);
+    runs = λ z l e. rw (e, sides-are z) (left-checked z);
+  }
+
+-- ---- the program
+
+answer-verdict : (most : Limits) (job : Job) (scratch : List ℕ) → balancing most job scratch .answer .verdict ≡ balanceVerdict most job scratch
+unfolding balanceFigures
+answer-verdict most job scratch = elim (ℕ-discrete (balanceVerdict most job scratch .number) 0) [
+  | yes z ↦ ap (λ (b : Balancing). b .answer .verdict) (made-equal most job scratch z) ∙ sym (plain-balance most job scratch z)
+  | no n ↦ ap (λ (b : Balancing). b .answer .verdict) (refused-equal most job scratch n)
+]
+
+-- a sound job passes 2
+few-of : (most : Limits) (job : Job) → Sound most job → check2 most job .number ≡ 0
+unfolding check2
+few-of most job s =
+    rw (le-ltb (most .files) (fileCount job) (s .fewFiles), le-ltb (most .recipes) (recipeCount job) (s .fewRecipes), le-ltb (most .pins) (pinCount job) (s .fewPins)) refl
+
+module _ (most : Limits) (input : List ℕ) where
+  abbrev read : Job
+  read = jobOf input
+
+  abbrev own : List ℕ
+  own = allLent most read .scratch
+
+  balances-is : balances most input ≡ handsOut (balancesVerdict most input) (withSides read (balancing most read own .sides)) (balanceLines read (balancing most read own .answer) (balancing most read own .sides))
+  unfolding balances
+  balances-is =
+      ap (λ (v : Verdict). handsOut (readVerdict most input (allRoom most) orElse v) (withSides read (balancing most read own .sides)) (balanceLines read (balancing most read own .answer) (balancing most read own .sides)))
+      (answer-verdict most read own)
+
+  handed-none : balancesVerdict most input .number ≢ 0 → balances most input ≡ record { output = []; errors = refusal (balancesVerdict most input) }
+  handed-none n = balances-is ∙ handed-refused (balancesVerdict most input) _ _ n
+
+  unread : readVerdict most input (allRoom most) .number ≢ 0 → balances most input ≡ record { output = []; errors = refusal (readVerdict most input (allRoom most)) }
+  unread n =
+      let e : readVerdict most input (allRoom most) ≡ balancesVerdict most input = chain-stop (balanceVerdict most read own) refl n in
+      handed-none (λ z. n (ap (λ (v : Verdict). v .number) e ∙ z)) ∙ ap (λ (v : Verdict). record { output = []; errors = refusal v }) (sym e)
+
+  module _ (z : balancesVerdict most input .number ≡ 0) where
+    both-done : (readVerdict most input (allRoom most) .number ≡ 0) × (balanceVerdict most read own .number ≡ 0)
+    both-done = passes-both (readVerdict most input (allRoom most)) (balanceVerdict most read own) z
+
+    handed : balances most input ≡ record { output = blocksOf (withSides read (balanceSides read)); errors = balanceLines read (balanceFigures read done) (balanceSides read) }
+    handed =
+        balances-is
+        ∙ handed-done (balancesVerdict most input) (withSides read (balancing most read own .sides)) (balanceLines read (balancing most read own .answer) (balancing most read own .sides)) z
+        ∙ ap (λ (b : Balancing). record { output = blocksOf (withSides read (b .sides)); errors = balanceLines read (b .answer) (b .sides) }) (made-equal most read own (both-done .1))
+
+    output-is : balances most input .output ≡ blocksOf (withSides read (balanceSides read))
+    output-is = ap (λ (h : HandedOut). h .output) handed
+
+    read-sound : Sound most read
+    read-sound = read-holds most input (allRoom most) .sound (both-done .0)
+
+    even-six : check1to6 most (withSides read (balanceSides read)) true .number ≡ 0
+    even-six =
+        ap (λ (v : Verdict). v .number) (resided-six most read read-sound (balanceSides read) (balance-holds most read read-sound .sides))
+
+    even-read : readVerdict most (blocksOf (withSides read (balanceSides read))) (allRoom most) ≡ done
+    even-read =
+        let job : Job = withSides read (balanceSides read) in
+        let few : check2Of most (fileCount read) (recipeCount read) (pinCount read) .number ≡ 0 = unfold check2 in few-of most read read-sound in
+        blocks-hold most job even-six .verdict (allRoom most) ∙ ap (λ (b : Bool). refuseIf (not b) 3 0) (lends-enough most input .room (headerFor job) few)
+
+    even-same : jobOf (blocksOf (withSides read (balanceSides read))) ≡ withSides read (balanceSides read)
+    even-same = blocks-hold most (withSides read (balanceSides read)) even-six .same
+
+  -- the scratch that it lends is long enough for a job that was read
+  never-three : readVerdict most input (allRoom most) .number ≡ 0 → balanceVerdict most read own .number ≢ 3
+  unfolding balanceCheck check1to8 lacks
+  never-three z =
+      let s : Sound most read = read-holds most input (allRoom most) .sound z in
+      let lends : leb (scratchFor read) (length own) ≡ true
+      = le-leb (scratchFor read) (length own) (long-enough read (allLent most read) (lends-enough most input .lent read (few-of most read s)) .scratch) in
+      rw (check-holds most read (leb (scratchFor read) (length own)) .soundPasses s lends, or-assoc (check7 most read) (check8 read) (refuseIf (noneBalanced read) 9 0), last-rows most read)
+      (never-given 3 (lastRows most read) refl (omega arith))
+
+pub program-holds : (most : Limits) (input : List ℕ) → BalanceProgram most input
+program-holds most input = record {
+  refused = handed-none most input;
+  made = handed most input;
+  reads = λ z. rw (output-is most input z) (even-read most input z);
+  same = λ z. ap jobOf (output-is most input z) ∙ even-same most input z;
+  passes = λ z.
+      rw (output-is most input z, even-same most input z) (left-checked most (jobOf input) (allLent most (jobOf input) .scratch) (both-done most input z .1));
+  enough =
+      never-chain 3 (readVerdict most input (allRoom most)) (balanceVerdict most (jobOf input) (allLent most (jobOf input) .scratch)) (lends-enough most input .read)
+      (never-three most input);
+  longer = λ k. cut-same most k input (balances most) (λ v. record { output = []; errors = refusal v }) (unread most);
+}
