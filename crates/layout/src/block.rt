@@ -21,15 +21,17 @@ fn byte_at(bytes: &[u8], i: usize) -> usize
     byte(bytes[i])
 }
 
-// The check over the first 510 bytes.
+// The check over the first 510 bytes by running sums, from the last byte back: byte i is in i + 1 of them.
 pub fn check_of(block: &[u8; 512]) -> u16
     ensures { λ r. ⌜ r ≡ blockCheck (now (block .entry)) ⌝ }
 {
+    let mut tail: usize = 0;
     let mut sum: usize = 21845;
-    let mut i: usize = 0;
-    while i < 510 {
-        sum += (i + 1) * byte(block[i]);
-        i += 1;
+    let mut i: usize = 510;
+    while 0 < i {
+        i -= 1;
+        tail += byte(block[i]);
+        sum += tail;
     }
     (sum % 65536) as u16
 }

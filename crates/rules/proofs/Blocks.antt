@@ -1,32 +1,37 @@
--- A block's check byte by byte, and the verdict on blocks block by block, as a loop goes. Assumes nothing.
-use mathlib.Core.Path.{_≡_, refl, sym, ap, _∙_}
-use Prim.Native.Nat.{ℕ, zero, suc, _+_, _-_, _*_, _<_, _≤_}
+-- A block's check by running sums, and the verdict on blocks block by block, as a loop goes. Assumes nothing.
+use mathlib.Core.Path.{_≡_, refl, sym}
+use Prim.Native.Nat.{ℕ, zero, suc, _+_, _-_, _<_, _≤_}
 use native.Mathlib.Decide.{ℕ-discrete}
-use native.Mathlib.Numerals.{add-one}
+use native.Mathlib.Nat.{suc-mul}
 use native.Mathlib.Omega.{arith}
 use mathlib.Core.List.{List, [], _∷_}
-use lib.ListN.{getD, take}
-use lib.Seq.{take-nil}
+use lib.ListN.{getD, drop}
+use lib.Seq.{drop-nil}
 use Rattle.rules.specs.declared.Header.{Header}
+use Rattle.rules.specs.Lists.{total}
 use Rattle.rules.specs.Check.{done, _orElse_}
 use Rattle.rules.specs.Stored.{weigh, blockVerdict, blocksVerdict}
 use Rattle.rules.proofs.Verdicts.{or-assoc, passes-both, both-pass}
 
-weigh-suc : (bs : List ℕ) (k i : ℕ) → weigh i (take (suc k) bs) ≡ weigh i (take k bs) + suc (i + k) * getD bs k 0
-unfolding weigh
-weigh-suc [] k i = rw (take-nil k) (omega arith)
-weigh-suc (b ∷ bs) zero i =
-    let e : i + 0 ≡ i = omega arith in
-    rw e (omega arith)
-weigh-suc (b ∷ bs) (suc k) i =
-    let e : i + suc k ≡ suc i + k = omega arith in
-    rw (weigh-suc bs k (suc i), e) (omega arith)
+-- counted from one place later, each byte weighs one more of itself
+weigh-on : (bs : List ℕ) (i : ℕ) → weigh (suc i) bs ≡ total (λ b. b) bs + weigh i bs
+unfolding weigh total
+weigh-on [] i = refl
+weigh-on (b ∷ bs) i = rw (weigh-on bs (suc i), suc-mul (suc i) b) (omega arith)
 
--- one byte more; past the end a byte counts as 0, so this holds at any k
-pub weigh-more : (bs : List ℕ) (k : ℕ) → weigh 0 (take (k + 1) bs) ≡ weigh 0 (take k bs) + (k + 1) * getD bs k 0
-weigh-more bs k =
-    let e : suc (0 + k) ≡ k + 1 = omega arith in
-    ap (λ (j : ℕ). weigh 0 (take j bs)) (add-one k) ∙ weigh-suc bs k 0 ∙ ap (λ (j : ℕ). weigh 0 (take k bs) + j * getD bs k 0) e
+-- the running sum from the last byte back to byte j; past the end a byte counts as 0, so this holds at any j
+pub total-running : (bs : List ℕ) (j : ℕ) → total (λ b. b) (drop j bs) ≡ getD bs j 0 + total (λ b. b) (drop (suc j) bs)
+unfolding total
+total-running [] j = rw (drop-nil {A = ℕ} j)
+total-running (b ∷ bs) zero = refl
+total-running (b ∷ bs) (suc j) = total-running bs j
+
+-- the weighted sum is the sum of the running sums: back to byte j it grows by the running sum there
+pub weigh-running : (bs : List ℕ) (j : ℕ) → weigh 0 (drop j bs) ≡ total (λ b. b) (drop j bs) + weigh 0 (drop (suc j) bs)
+unfolding weigh total
+weigh-running [] j = rw (drop-nil {A = ℕ} j)
+weigh-running (b ∷ bs) zero = rw (weigh-on bs 0) (omega arith)
+weigh-running (b ∷ bs) (suc j) = weigh-running bs j
 
 -- of the n blocks from b on, those from the kth on
 module _ (h : Header) (bytes : List ℕ) (b n k : ℕ) where
