@@ -1,9 +1,10 @@
 """Calls of `job`: what the program `job_cases` reads, and what it must write of it.
 
     python3 tests/job_cases.py            whether its stdin and stdout are as made here
-    python3 tests/job_cases.py --write    writes both
+    python3 tests/job_cases.py --write    writes both, and those of `balance`
 
-A case is a heading, a job, or a view. The answers are the reference's.
+A case is a heading, a job, or a view; behind them stand the calls of the balancing that
+tests/balance_cases.py has. The answers are the reference's.
 """
 
 import sys
@@ -422,9 +423,14 @@ def line(case):
 
 
 def made():
+    # It makes its cases of those that stand here.
+    import balance_cases
+
+    calls, told, others = balance_cases.made()
     return {
-        "crates/job_cases/stdin": b"".join(map(framed, CASES)),
-        "crates/job_cases/stdout": "".join(map(line, CASES)).encode(),
+        "crates/job_cases/stdin": b"".join(map(framed, CASES)) + calls,
+        "crates/job_cases/stdout": "".join(map(line, CASES)).encode() + told,
+        **others,
     }
 
 

@@ -3,7 +3,7 @@
     python3 tests/make_cases.py                  the names, one to a line
     python3 tests/make_cases.py NAME             one name, its bytes and its report
     python3 tests/make_cases.py --write DIR      DIR/NAME.job and DIR/NAME.report of all
-    python3 tests/make_cases.py --examples DIR   the same of the two examples alone
+    python3 tests/make_cases.py --examples DIR   the same of the examples alone
     python3 tests/make_cases.py --program DIR    DIR/stdin and DIR/stdout of the program `cases`
     python3 tests/make_cases.py --compare PROGRAM
                      run the program on every job and compare what it prints
@@ -12,10 +12,13 @@
     python3 tests/make_cases.py --compare-resettled PROGRAM
                      the same of a program that writes stored jobs with new sides;
                      what it says on standard error is compared too
+    python3 tests/make_cases.py --compare-balanced PROGRAM
+                     the same of one that writes stored jobs with balanced sides
 
 The jobs are the same at every run: all that is random goes by a fixed seed.
 """
 
+import functools
 import itertools
 import pathlib
 import random
@@ -77,6 +80,12 @@ def large(length, **fields):
     return job.changed(**fields)
 
 
+def rising(**fields):
+    """The largest job with sizes that differ by as much as they can, under one pass."""
+    sizes = [1 + 64 * i for i in range(1024)]
+    return large(4, sizes=sizes, num=499, den=1000, cap=1, **fields)
+
+
 # ---- Groups: each yields a name and the bytes of a stored job
 
 
@@ -113,8 +122,7 @@ def limits():
     # Products over 32 bits, and a walk in which each distance differs.
     heavy = large(4, sizes=[65535] * 1024, num=500, den=1000, cap=2)
     yield "sizes_65535", write_job(heavy)
-    rising = [1 + 64 * i for i in range(1024)]
-    yield "sizes_rising", write_job(large(4, sizes=rising, num=499, den=1000, cap=1))
+    yield "sizes_rising", write_job(rising())
 
 
 def refusals():
@@ -339,6 +347,37 @@ def archived_jobs():
         yield f"archived_{k}", write_job(samples.with_archives(rng, job))
 
 
+@functools.cache
+def bad_starts():
+    """Order 3's: jobs to be balanced, by name, and two of the largest size."""
+    rng = random.Random(SEED + 3)
+    jobs = {}
+    for name, (_, _, job) in samples.unbalanced_jobs().items():
+        jobs[f"unbalanced_{name}"] = job
+    for k, side in enumerate((A, B, None, A, B, None)):
+        files, recipes = rng.randint(20, 60), rng.randint(20, 60)
+        job = samples.unbalanced_job(rng, files, recipes, side)
+        jobs[f"unbalanced_random_{k}"] = job
+    jobs["large_all_in_a"] = large(4, sides=[A] * 1024)
+    jobs["large_all_in_b"] = rising(sides=[B] * 1024)
+    return jobs
+
+
+def unbalanced_jobs():
+    for name, job in bad_starts().items():
+        yield name, write_job(job)
+
+
+def balanced_jobs():
+    """Those of which files are moved, with the balanced sides: none is refused."""
+    for name, job in bad_starts().items():
+        answer = planner.balance(job)
+        if answer.moves:
+            after = job.changed(sides=answer.sides)
+            assert planner.check(after) == (0, 0), f"{name} is not balanced"
+            yield f"{name}_then_run", write_job(after)
+
+
 EXAMPLES = ("chain", "mill", "mill_at_53")
 
 
@@ -357,6 +396,8 @@ GROUPS = (
     mill_job,
     windows,
     archived_jobs,
+    unbalanced_jobs,
+    balanced_jobs,
 )
 
 
@@ -399,16 +440,21 @@ def prints(told):
     return lambda data, done: done.stdout == told(data).encode()
 
 
-def resettles(data, done):
+def rewrites(told):
     """Whether a program wrote the reference's bytes, and said its words beside."""
-    written, said = planner.resettle(data)
-    return (done.stdout, done.stderr) == (written, said.encode())
+
+    def agrees(data, done):
+        written, said = told(data)
+        return (done.stdout, done.stderr) == (written, said.encode())
+
+    return agrees
 
 
 COMPARED = {
     "--compare": prints(planner.run_stored),
     "--compare-traces": prints(planner.trace),
-    "--compare-resettled": resettles,
+    "--compare-resettled": rewrites(planner.resettle),
+    "--compare-balanced": rewrites(planner.balance_stored),
 }
 
 

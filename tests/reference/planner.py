@@ -191,13 +191,18 @@ def measure(job):
     return 0, 0, cut(job, job.sides), size_of_a(job, job.sides)
 
 
+def scratch_numbers(job):
+    """ "Scratch of at least P + 4C + 4N + 16 numbers." """
+    return len(job.pins) + 4 * job.files + 4 * job.recipes + 16
+
+
 def lent_fits(job, gains, moves, scans, scratch):
     """Whether lent lists of these lengths serve: one, four, two and one of them."""
     return (
         gains == job.files
         and all(length >= job.files for length in moves)
         and all(length >= 4 * job.recipes for length in scans)
-        and scratch >= len(job.pins) + 4 * job.files + 4 * job.recipes + 16
+        and scratch >= scratch_numbers(job)
     )
 
 
@@ -461,7 +466,7 @@ def run(job, lent_ok=True):
 
 @dataclass
 class BalanceAnswer:
-    """The answer of the balancing call, and the sides it leaves."""
+    """The answer of the balancing call, and the sides and the scratch it leaves."""
 
     number: int = 0
     place: int = 0
@@ -469,6 +474,7 @@ class BalanceAnswer:
     cut_after: int = 0
     size_a: int = 0
     sides: list = None
+    scratch: list = None
 
 
 def size_with_free_files(job, side):
@@ -496,13 +502,21 @@ def choose_from(job, sides, side):
     return max(files, key=lambda file: (gains[file], -file))
 
 
-def balance(job, lent_ok=True):
-    """ "Source 001's special first pass": "refusals are 1 to 8 as before, and 9". """
-    number, place = refusal(job, lent_ok, 8)
+def balance(job, scratch=None):
+    """ "Source 001's special first pass": "refusals are 1 to 8 as before, and 9".
+
+    "It is lent the job and a pass's scratch, which holds zeros afterwards as
+    there": the numbers named are 0, "any beyond stay". Without a scratch it is
+    lent one that just serves.
+    """
+    named = scratch_numbers(job)
+    lent = [0] * named if scratch is None else list(scratch)
+    number, place = refusal(job, len(lent) >= named, 8)
     if number == 0 and no_start_is_balanced(job):
         number = 9
     if number:
-        return BalanceAnswer(number, place, sides=list(job.sides))
+        # "No lent list changes."
+        return BalanceAnswer(number, place, sides=list(job.sides), scratch=lent)
     sides = list(job.sides)
     moves = 0
     # "While A is too large ...; while A is too small, the same from B."
@@ -516,6 +530,7 @@ def balance(job, lent_ok=True):
         cut_after=cut(job, sides),
         size_a=size_of_a(job, sides),
         sides=sides,
+        scratch=[0] * named + lent[named:],
     )
 
 

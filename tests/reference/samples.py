@@ -120,6 +120,105 @@ def window_jobs():
     }
 
 
+# ---- Order 3: starts to be balanced
+
+
+def all_on(side, sizes):
+    """Files of these sizes, all on one side."""
+    return [(size, side) for size in sizes]
+
+
+def flipped(files):
+    """The same files, each on the other side."""
+    return [(size, 1 - side) for size, side in files]
+
+
+def ring_and_row(side):
+    """Files 0 to 3 in a ring, 4 to 7 in a row: the ends of the row have the greatest
+    gain, and once one has moved its neighbour has."""
+    return job_of_recipes(
+        [[0, 1], [1, 2], [2, 3], [3, 0], [4, 5], [5, 6], [6, 7]],
+        sizes=[1] * 8,
+        sides=[side] * 8,
+        marks=[FREE] * 8,
+        num=1,
+        den=2,
+        cap=0,
+    )
+
+
+def few_in_recipes():
+    """Eight files in A, and one recipe of the first two."""
+    return ring_and_row(A).changed(bounds=[0, 2], pins=[0, 1])
+
+
+def unbalanced_jobs():
+    """By name, with the number that balancing refuses each as, or 0, and its moves."""
+    ones, by_hundreds = [1] * 14, [100] * 6
+    over, under = [(1, A)] * 9 + [(1, B)] * 5, [(1, A)] * 5 + [(1, B)] * 9
+    lone, heavy = [(4, A), (2, B)], [(6, A), (2, B)]
+    return {
+        # W is 14 and smax 1: |A| from 6 up to 8.
+        "too_large_by_one": (0, 1, in_a_row([], over)),
+        "too_small_by_one": (0, 1, in_a_row([], under)),
+        "all_in_a": (0, 6, in_a_row([], all_on(A, ones))),
+        "all_in_b": (0, 6, in_a_row([], all_on(B, ones))),
+        # |A| at most 1, and at least 13.
+        "too_large_by_much": (0, 13, in_a_row([], all_on(A, ones), 1, 1000)),
+        "too_small_by_much": (0, 13, in_a_row([], all_on(B, ones), 999, 1000)),
+        # The pinned file leaves |A| at 9 and more, or at 5 and less.
+        "impossible_from_above": (9, 0, in_a_row([(9, A)], all_on(B, [1] * 5))),
+        "impossible_from_below": (9, 0, in_a_row([(9, B)], all_on(A, [1] * 5))),
+        # At 8 and more, or at 6 and less: each free file has to move.
+        "just_possible_from_above": (0, 6, in_a_row([(8, A)], all_on(A, [1] * 6))),
+        "just_possible_from_below": (0, 6, in_a_row([(8, B)], all_on(B, [1] * 6))),
+        # W is 1,501 and smax 100. Of 499·W, 748,999, a |A| of 849 is 1 too much, and of
+        # 501·W, 752,001, one of 652 lacks 1.
+        "impossible_from_above_by_1": (
+            9,
+            0,
+            in_a_row([(849, A)], all_on(B, by_hundreds + [52]), 499, 1000),
+        ),
+        "impossible_from_below_by_1": (
+            9,
+            0,
+            in_a_row([(849, B)], all_on(A, by_hundreds + [52]), 501, 1000),
+        ),
+        "just_possible_from_above_by_1": (
+            0,
+            7,
+            in_a_row([(848, A)], all_on(A, by_hundreds + [53]), 499, 1000),
+        ),
+        "just_possible_from_below_by_1": (
+            0,
+            7,
+            in_a_row([(848, B)], all_on(B, by_hundreds + [53]), 501, 1000),
+        ),
+        # One free file of size 1: W is 7, |A| from 2.5 up to 4.5; then W is 9.
+        "one_free_in_a": (0, 1, in_a_row(lone, [(1, A)])),
+        "one_free_in_b": (0, 1, in_a_row(flipped(lone), [(1, B)])),
+        "one_free_held": (0, 0, in_a_row(lone, [(1, B)])),
+        "one_free_missed": (9, 0, in_a_row(heavy, [(1, A)])),
+        # |A| from 3 up to 5: 4, 5, 6 move; by the gains at the start 4, 7, 0 would.
+        "gains_that_change_in_a": (0, 3, ring_and_row(A)),
+        "gains_that_change_in_b": (0, 3, ring_and_row(B)),
+        # The same: 2, 3 and 4 move, whose gain is 0.
+        "files_on_no_recipe": (0, 3, few_in_recipes()),
+        # |A| at most 11 of 21: file 0 of size 1, and then 1 of size 9.
+        "small_file_first": (0, 2, in_a_row([], all_on(A, [1, 9, 1, 1, 9]), 1, 10)),
+        # File 0, pinned, has a gain as great as any: those from the last on move.
+        "pinned_file_first": (0, 6, in_a_row([(1, A)], all_on(A, [1] * 13))),
+        # |A| at most 60,124.
+        "beside_an_archive": (
+            0,
+            9,
+            in_a_row([(60000, A)], all_on(A, [100] * 10), 984, 1000),
+        ),
+        "balanced_already": (0, 0, chain()),
+        "all_pinned": (8, 0, chain().changed(sides=[A] * 4, marks=[PINNED] * 4)),
+    }
+
+
 def with_archives(rng, job):
     """The job with its pinned files made heavy, under the ratio of its sides."""
     sizes = [

@@ -928,8 +928,22 @@ def see_balance(job, start):
     assert answer.size_a == planner.size_of_a(job, sides), "another size of A"
 
 
+def see_9(job, start):
+    """9 exactly if none of all assignments is balanced."""
+    answer = planner.balance(job.changed(sides=start))
+    found = any(in_window(job, sides) for sides in assignments(job))
+    assert answer.number == (0 if found else 9), "9 is wrong"
+
+
 def balanceable():
     return [job for job in bad_starts() if planner.balance(job).number == 0]
+
+
+# As JOB_FAULTS, but no assignment of the free files is balanced: 9 of 12 stay in A.
+BALANCE_FAULTS = {
+    **JOB_FAULTS,
+    9: dict(sizes=[9, 1, 1, 1], sides=[A, B, B, B], marks=[PINNED, 0, 0, 0]),
+}
 
 
 class Balanced(unittest.TestCase):
@@ -938,12 +952,20 @@ class Balanced(unittest.TestCase):
     def test_9_exactly_if_no_assignment_is_balanced(self):
         refused = 0
         for job in bad_starts():
-            found = any(in_window(job, sides) for sides in assignments(job))
-            answer = planner.balance(job)
-            self.assertEqual(answer.number, 0 if found else 9)
-            refused += not found
+            see_9(job, job.sides)
+            refused += planner.balance(job).number == 9
         self.assertGreater(refused, 20)
         self.assertGreater(RANDOM_JOBS - refused, 100)
+
+    def test_unbalanced_jobs(self):
+        for name, (number, moves, job) in samples.unbalanced_jobs().items():
+            answer = planner.balance(job)
+            told = (answer.number, answer.place, answer.moves)
+            self.assertEqual(told, (number, 0, moves), name)
+            if number == 0:
+                see_balance(job, job.sides)
+                after = job.changed(sides=answer.sides)
+                self.assertEqual(planner.run(after).number, 0, name)
 
     def test_moves(self):
         moved = 0
@@ -996,18 +1018,40 @@ class Balanced(unittest.TestCase):
         self.assertEqual(answer.sides, [B, B, B, B, A, A])
         self.assertEqual((answer.moves, answer.cut_after, answer.size_a), (4, 1, 2))
 
-    def test_refusals_1_to_8(self):
-        for number in range(1, 9):
-            job = samples.chain().changed(**JOB_FAULTS[number])
-            answer = planner.balance(job)
-            self.assertEqual((answer.number, answer.place), planner.check(job))
-            self.assertEqual(answer.sides, list(job.sides))
-            self.assertFalse(answer.moves or answer.cut_after or answer.size_a)
-        self.assertEqual(planner.balance(samples.chain(), lent_ok=False).number, 3)
-        # 8 before 9, and 7 before both.
-        archive = samples.archive().changed(marks=[PINNED] * 4)
-        self.assertEqual(planner.balance(archive).number, 8)
-        self.assertEqual(planner.balance(archive.changed(num=2)).number, 7)
+    def see_refused(self, job, scratch, refused):
+        """No number but those of the refusal, and no lent list is changed."""
+        answer = planner.balance(job, scratch)
+        self.assertEqual((answer.number, answer.place), refused)
+        self.assertFalse(answer.moves or answer.cut_after or answer.size_a)
+        self.assertEqual((answer.sides, answer.scratch), (list(job.sides), scratch))
+
+    def test_refusals(self):
+        for number, fields in BALANCE_FAULTS.items():
+            job = samples.chain().changed(**fields)
+            scratch = list(range(1, 1 + planner.scratch_numbers(job)))
+            self.see_refused(job, scratch, planner.check(job))
+            self.assertEqual(planner.check(job)[0], number)
+
+    def test_order_of_the_refusals(self):
+        """The lower of two; a scratch that is too short is one of 3."""
+        for low, high in itertools.combinations(BALANCE_FAULTS, 2):
+            fields = {**BALANCE_FAULTS[high], **BALANCE_FAULTS[low]}
+            job = samples.chain().changed(**fields)
+            self.assertEqual(planner.balance(job).number, low, (low, high))
+        for number, fields in BALANCE_FAULTS.items():
+            job = samples.chain().changed(**fields)
+            short = [7] * (planner.scratch_numbers(job) - 1)
+            self.see_refused(job, short, (min(number, 3), 0))
+
+    def test_scratch(self):
+        """P + 4C + 4N + 16 numbers, which is 50 for the chain, hold zeros afterwards."""
+        job = samples.chain().changed(sides=[A] * 4)
+        for length in (50, 51, 500):
+            answer = planner.balance(job, [7] * length)
+            self.assertEqual((answer.number, answer.moves), (0, 1))
+            self.assertEqual(answer.scratch, [0] * 50 + [7] * (length - 50))
+        for length in (0, 49):
+            self.see_refused(job, [7] * length, (3, 0))
 
     def test_9(self):
         """Order 2's archive alone is more than A may hold; and too little in B."""
@@ -1152,6 +1196,21 @@ class CanFail(unittest.TestCase):
             return max(free_on(job, sides, side), key=lambda i: (gains[i], -i))
 
         self.assertTrue(self.seen(see_balance, "choose_from", by_first, balanceable()))
+
+    def test_balance_of_pinned_files(self):
+        def any_file(job, sides, side):
+            gains = planner.all_gains(job, sides)
+            files = [i for i in range(job.files) if sides[i] == side]
+            return max(files, key=lambda i: (gains[i], -i))
+
+        self.assertTrue(self.seen(see_balance, "choose_from", any_file, balanceable()))
+
+    def test_balance_by_the_pass_s_own_9(self):
+        def start_is_not(job):
+            return planner.find_9(job, True) == 0
+
+        wrong = ("no_start_is_balanced", start_is_not)
+        self.assertTrue(self.seen(see_9, *wrong, bad_starts()))
 
     def test_gain_list_of_the_end(self):
         def not_kept(job, sides, move_files, move_gains):

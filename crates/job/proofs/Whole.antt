@@ -1,19 +1,20 @@
 -- What the steps found, put together into the answers of the public calls. Assumes nothing.
 use mathlib.Core.Path.{_≡_, refl, sym, ap, _∙_}
 use Prim.Native.Nat.{ℕ}
-use mathlib.Core.Bool.{Bool, true, false, not}
+use mathlib.Core.Bool.{Bool, true, false, not, _&&_, _||_}
 use lib.Dec.{eqb}
 use borrow.Author.Tests.{eq-eqb, ne-eqb}
 use Rattle.rules.specs.declared.Verdict.{Verdict}
 use Rattle.rules.specs.Job.{Job, Limits, recipes, files, fileCount}
-use Rattle.rules.specs.Split.{cut, weight, smax, sizeOn, sizeA, inWindow, balanced}
-use Rattle.rules.specs.Check.{isDone, refuseIf, check1, check2, check3, check4, badPin, check5, check6, check7, check8, check9, check4to6, check1to6, check, measure}
-use Rattle.rules.proofs.Verdicts.{zero-of}
+use Rattle.rules.specs.Split.{cut, weight, smax, sizeOn, sizeA, largeEnough, smallEnough, balanced}
+use Rattle.rules.specs.Check.{isDone, refuseIf, _orElse_, check1, check2, check3, check4, badPin, check5, check6, check7, check8, check9, check4to6, check1to6, check7to9, check, measure}
+use Rattle.rules.specs.Balance.{tooLarge, tooSmall, leastA, mostA, noneBalanced, check1to8, balanceCheck}
+use Rattle.rules.proofs.Verdicts.{zero-of, or-three}
 use Rattle.job.specs.declared.Job.{Job as Figures}
 use Rattle.job.specs.declared.figures.Totals.{Totals}
 use Rattle.job.specs.Parts.{ofLists, ofFigures}
-use Rattle.job.specs.Totals.{totalsOf, Has}
-use Rattle.job.specs.Survey.{surveyOf}
+use Rattle.job.specs.Totals.{totalsOf, reaches, Has, nineFor}
+use Rattle.job.specs.Survey.{checkFor, surveyOf}
 
 -- 1 to 6 ask for no ratio and no cap
 pub lists-only : (most : Limits) (job : Job) (lent : Bool)
@@ -27,11 +28,27 @@ refused {v} {w} e h = ne-eqb (w .number) 0 (λ z. h (ap (λ (y : Verdict). y .nu
 passes-done : {v w : Verdict} → v ≡ w → v .number ≡ 0 → isDone w ≡ true
 passes-done {v} {w} e z = eq-eqb (w .number) 0 (zero-of e z)
 
+-- the check as one chain, whosever its 9
+pub nine-last : (balancing : Bool) (most : Limits) (job : Job) (lent : Bool)
+    → checkFor balancing most job lent ≡ (check1to6 most job lent orElse check7 most job orElse check8 job orElse nineFor balancing job)
+unfolding check check7to9 balanceCheck check1to8
+nine-last true most job lent = or-three (check1to6 most job lent) (check7 most job) (check8 job) (refuseIf (noneBalanced job) 9 0)
+nine-last false most job lent = refl
+
+not-both : (a b : Bool) → not (a && b) ≡ (not b || not a)
+not-both true true = refl
+not-both true false = refl
+not-both false true = refl
+not-both false false = refl
+
 -- ---- from the totals of all files
 
 size-is : (job : Job) (t : Totals) → t ≡ totalsOf job (fileCount job) → t .size ≡ sizeA job (job .sides)
 unfolding totalsOf sizeOn files
 size-is job t p = ap (λ (u : Totals). u .size) p
+
+abbrev figuresOf : Job → Figures
+figuresOf job = record { num = job .num; den = job .den; cap = job .cap }
 
 module _ {job : Job} {figures : Figures} {t : Totals} (has : Has job figures t) where
   pub ratio-is : (most : Limits) → check7 most (ofFigures figures) ≡ check7 most job
@@ -42,11 +59,22 @@ module _ {job : Job} {figures : Figures} {t : Totals} (has : Has job figures t) 
   unfolding totalsOf files check8
   free-is = ap (λ (u : Totals). refuseIf (eqb (u .free) 0) 8 0) (has .totals)
 
-  pub balance-is : refuseIf (not (inWindow (figures .num) (figures .den) (t .weight) (t .largest) (t .size))) 9 0 ≡ check9 job
+  -- the test of 9, of this least and most
+  reaches-is : (least most : Totals → ℕ)
+      → reaches figures t (least t) (most t) ≡ reaches (figuresOf job) (totalsOf job (fileCount job)) (least (totalsOf job (fileCount job))) (most (totalsOf job (fileCount job)))
+  reaches-is least most =
+      ap (λ (j : Job). reaches (figuresOf j) t (least t) (most t)) (sym (has .job-is)) ∙ ap (λ (u : Totals). reaches (figuresOf job) u (least u) (most u)) (has .totals)
+
+  pub start-is : refuseIf (not (reaches figures t (t .size) (t .size))) 9 0 ≡ check9 job
   unfolding totalsOf weight smax sizeOn files balanced check9
-  balance-is =
-      ap (λ (j : Job). refuseIf (not (inWindow (j .num) (j .den) (t .weight) (t .largest) (t .size))) 9 0) (sym (has .job-is))
-      ∙ ap (λ (u : Totals). refuseIf (not (inWindow (job .num) (job .den) (u .weight) (u .largest) (u .size))) 9 0) (has .totals)
+  start-is = ap (λ (b : Bool). refuseIf (not b) 9 0) (reaches-is (λ u. u .size) (λ u. u .size))
+
+  pub possible-is : refuseIf (not (reaches figures t (t .least) (t .most))) 9 0 ≡ refuseIf (noneBalanced job) 9 0
+  unfolding totalsOf weight smax leastA mostA files tooLarge tooSmall noneBalanced
+  possible-is =
+      ap (λ (b : Bool). refuseIf b 9 0)
+      (ap not (reaches-is (λ u. u .least) (λ u. u .most))
+      ∙ not-both (largeEnough (job .num) (job .den) (weight job) (smax job) (mostA job)) (smallEnough (job .num) (job .den) (weight job) (smax job) (leastA job)))
 
 -- ---- the measure and the survey
 
@@ -61,12 +89,15 @@ module _ (most : Limits) (job : Job) {v : Verdict} where
     unfolding measure
     measure-done x t z p q = rw (e, p, size-is job t q, passes-done e z, measure)
 
-  module _ (lent : Bool) (e : v ≡ check most job lent) where
-    pub survey-refused : (v .number ≡ 0 → ⊥) → record { verdict = v; weight = 0; largest = 0; size = 0; cut = 0 } ≡ surveyOf most job lent
+  module _ (balancing lent : Bool) (e : v ≡ (check1to6 most job lent orElse check7 most job orElse check8 job orElse nineFor balancing job)) where
+    told : v ≡ checkFor balancing most job lent
+    told = e ∙ sym (nine-last balancing most job lent)
+
+    pub survey-refused : (v .number ≡ 0 → ⊥) → record { verdict = v; weight = 0; largest = 0; size = 0; cut = 0 } ≡ surveyOf balancing most job lent
     unfolding surveyOf
-    survey-refused h = rw (e, refused e h, surveyOf)
+    survey-refused h = rw (told, refused told h, surveyOf)
 
     pub survey-done : (x : ℕ) (t : Totals) → v .number ≡ 0 → x ≡ cut (job .sides) (recipes job) → t ≡ totalsOf job (fileCount job)
-        → record { verdict = v; weight = t .weight; largest = t .largest; size = t .size; cut = x } ≡ surveyOf most job lent
+        → record { verdict = v; weight = t .weight; largest = t .largest; size = t .size; cut = x } ≡ surveyOf balancing most job lent
     unfolding surveyOf totalsOf weight smax sizeOn files
-    survey-done x t z p q = rw (e, p, q, passes-done e z, surveyOf)
+    survey-done x t z p q = rw (told, p, q, passes-done told z, surveyOf)

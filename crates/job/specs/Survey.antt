@@ -1,14 +1,20 @@
--- The survey: the check, and the figures that a pass or run starts from. Assumes nothing.
-use mathlib.Core.Bool.{Bool, true, false}
+-- The survey: the check, and the figures that a pass, a run or the balancing starts from. Assumes nothing.
+use mathlib.Core.Bool.{Bool, true, false, cond}
 use Rattle.job.specs.declared.figures.Survey.{Survey}
+use Rattle.rules.specs.declared.Verdict.{Verdict}
 use Rattle.rules.specs.Job.{Job, Limits, recipes}
 use Rattle.rules.specs.Split.{cut, weight, smax, sizeA}
 use Rattle.rules.specs.Check.{isDone, check}
+use Rattle.rules.specs.Balance.{balanceCheck}
+
+-- 1 to 8, and then the 9 of the balancing or that of a pass
+abbrev pub checkFor : Bool → Limits → Job → Bool → Verdict
+checkFor balancing most job lent = cond balancing (balanceCheck most job lent) (check most job lent)
 
 -- all other numbers of a refused answer are 0
-unfoldable pub surveyOf : Limits → Job → Bool → Survey
-surveyOf most job lent =
-    let v = check most job lent in
+unfoldable pub surveyOf : Bool → Limits → Job → Bool → Survey
+surveyOf balancing most job lent =
+    let v = checkFor balancing most job lent in
     elim (isDone v) [
       | true ↦ record {
         verdict = v;

@@ -1,15 +1,17 @@
--- W, smax, |A| and the number of free files, as one walk over the files adds them up. Assumes nothing.
+-- W, smax, |A|, the least and the most that it can be, and the number of free files, as one walk over the files adds them up. Assumes nothing.
 use Prim.Native.Nat.{ℕ, _+_, _*_, _≤_, max}
 use mathlib.Core.Path.{_≡_}
+use mathlib.Core.Bool.{Bool, not, cond, _&&_, _||_}
 use lib.Dec.{eqb}
 use Rattle.job.specs.declared.Job.{Job as Figures}
 use Rattle.job.specs.declared.figures.Totals.{Totals}
 use Rattle.job.specs.Parts.{wholeJob}
 use Rattle.rules.specs.Lists.{bit, total, count, largest, upTo}
 use Rattle.rules.specs.Job.{Job, Limits, fileCount}
-use Rattle.rules.specs.Split.{onSide, sizeOf, isFree}
+use Rattle.rules.specs.Split.{onSide, sizeOf, isFree, largeEnough, smallEnough}
 use Rattle.rules.specs.declared.Verdict.{Verdict}
-use Rattle.rules.specs.Check.{check7to9}
+use Rattle.rules.specs.Check.{refuseIf, _orElse_, check7, check8, check9}
+use Rattle.rules.specs.Balance.{noneBalanced}
 
 -- those of the first n files
 unfoldable pub totalsOf : Job → ℕ → Totals
@@ -17,6 +19,8 @@ totalsOf job n = record {
   weight = total (sizeOf job) (upTo n);
   largest = largest (λ f. bit (isFree job f) * sizeOf job f) (upTo n);
   size = total (λ f. bit (onSide (job .sides) 0 f) * sizeOf job f) (upTo n);
+  least = total (λ f. bit (not (isFree job f) && onSide (job .sides) 0 f) * sizeOf job f) (upTo n);
+  most = total (λ f. bit (isFree job f || onSide (job .sides) 0 f) * sizeOf job f) (upTo n);
   free = count (isFree job) (upTo n);
 }
 
@@ -26,6 +30,8 @@ withFile t size side mark = record {
   weight = t .weight + size;
   largest = max (t .largest) (bit (eqb mark 0) * size);
   size = t .size + bit (eqb side 0) * size;
+  least = t .least + bit (not (eqb mark 0) && eqb side 0) * size;
+  most = t .most + bit (eqb mark 0 || eqb side 0) * size;
   free = t .free + bit (eqb mark 0);
 }
 
@@ -34,6 +40,8 @@ pub record Within (t : Totals) (b : ℕ) : Type 0 where
   pub weight : t .weight ≤ b
   pub largest : t .largest ≤ b
   pub size : t .size ≤ b
+  pub least : t .least ≤ b
+  pub most : t .most ≤ b
   pub free : t .free ≤ b
 
 -- t are the totals of n files, each of a two-byte size
@@ -46,6 +54,19 @@ pub record Has (job : Job) (figures : Figures) (t : Totals) : Type 0 where
   pub job-is : job ≡ wholeJob figures (job .sizes) (job .sides) (job .marks) (job .bounds) (job .pins)
   pub totals : t ≡ totalsOf job (fileCount job)
 
--- v is what 7 to 9 give of every job with these figures and totals t
-abbrev pub Gives7to9 : Limits → Figures → Totals → Verdict → Type 0
-Gives7to9 most figures t v = (job : Job) → Has job figures t → v ≡ check7to9 most job
+-- the most that |A| can be is large enough, and the least small enough
+abbrev pub reaches : Figures → Totals → ℕ → ℕ → Bool
+reaches figures t least most =
+    largeEnough (figures .num) (figures .den) (t .weight) (t .largest) most && smallEnough (figures .num) (figures .den) (t .weight) (t .largest) least
+
+-- the 9 of the balancing, or that of a pass
+abbrev pub nineFor : Bool → Job → Verdict
+nineFor balancing job = cond balancing (refuseIf (noneBalanced job) 9 0) (check9 job)
+
+-- v is what 9 gives of every job with these figures and totals t
+abbrev pub Gives9 : Bool → Figures → Totals → Verdict → Type 0
+Gives9 balancing figures t v = (job : Job) → Has job figures t → v ≡ nineFor balancing job
+
+-- v is what 7 to 9 give of it
+abbrev pub Gives7to9 : Bool → Limits → Figures → Totals → Verdict → Type 0
+Gives7to9 balancing most figures t v = (job : Job) → Has job figures t → v ≡ (check7 most job orElse check8 job orElse nineFor balancing job)

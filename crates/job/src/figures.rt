@@ -3,9 +3,9 @@ use crate::Job;
 use crate::bounds::recipe_count;
 use crate::numbers::bit;
 use crate::numbers::entry_at;
-use crate::numbers::if_zero;
 use crate::numbers::larger;
 use crate::numbers::long;
+use crate::numbers::when;
 use crate::numbers::wide;
 use crate::view;
 use rules::Verdict;
@@ -13,15 +13,17 @@ ghost use mathlib.Core.Path.{_≡_};
 ghost use Prim.Native.Nat.{_*_, _≤_, _<_};
 ghost use lib.ListN.{length};
 ghost use Rattle.rules.specs.Job.{recipes};
-ghost use Rattle.rules.specs.Split.{inWindow, countOn, isCut, «cut»};
+ghost use Rattle.rules.specs.Split.{countOn, isCut, «cut»};
 ghost use Rattle.job.specs.Parts.{ofFiles, ofRecipes};
-ghost use Rattle.job.specs.Totals.{withFile, Within, Added};
+ghost use Rattle.job.specs.Totals.{withFile, Within, Added, reaches};
 
-// W, smax, |A| and the number of free files.
+// W, smax, |A|, the least and the most that it can be, and the number of free files.
 pub(crate) struct Totals {
     pub weight: u64,
     pub largest: u64,
     pub size: u64,
+    pub least: u64,
+    pub most: u64,
     pub free: u64,
 }
 
@@ -39,11 +41,15 @@ fn with_file(t: Totals, size: u16, side: u16, mark: u16) -> Totals
     ensures { λ r. ⌜ r ≡ withFile t size side mark ⌝ }
 {
     let s = long(size);
+    let free = mark == 0;
+    let in_a = side == 0;
     Totals {
         weight: t.weight + s,
-        largest: larger(t.largest, if_zero(mark, s)),
-        size: t.size + if_zero(side, s),
-        free: t.free + if_zero(mark, 1),
+        largest: larger(t.largest, when(free, s)),
+        size: t.size + when(in_a, s),
+        least: t.least + when(!free & in_a, s),
+        most: t.most + when(free | in_a, s),
+        free: t.free + when(free, 1),
     }
 }
 
@@ -56,6 +62,8 @@ pub(crate) fn totals_of(sizes: &[u16], sides: &[u16], marks: &[u16]) -> Totals
         weight: 0,
         largest: 0,
         size: 0,
+        least: 0,
+        most: 0,
         free: 0,
     };
     let mut f = 0;
@@ -66,16 +74,16 @@ pub(crate) fn totals_of(sizes: &[u16], sides: &[u16], marks: &[u16]) -> Totals
     t
 }
 
-pub(crate) fn is_balanced(job: Job, t: Totals) -> bool
-    requires { do ⌜ Within t ((← ⟦Job::MOST_FILES⟧) * 65535) ⌝ }
-    ensures { λ r. ⌜ r ≡ inWindow (job .num) (job .den) (t .weight) (t .largest) (t .size) ⌝ }
+// Whether the most that |A| can be is large enough, and the least small enough: for a pass both are |A| itself.
+pub(crate) fn is_balanced(job: Job, t: Totals, least: u64, most: u64) -> bool
+    requires { do ⌜ Within t ((← ⟦Job::MOST_FILES⟧) * 65535) × (least ≤ (← ⟦Job::MOST_FILES⟧) * 65535) × (most ≤ (← ⟦Job::MOST_FILES⟧) * 65535) ⌝ }
+    ensures { λ r. ⌜ r ≡ reaches job t least most ⌝ }
 {
     let num = long(job.num);
     let den = long(job.den);
     let w = num * t.weight;
     let m = den * t.largest;
-    let a = den * t.size;
-    (w <= a + m) & (a <= w + m)
+    (w <= den * most + m) & (den * least <= w + m)
 }
 
 // How many numbers of the list have u at their place in the table: a recipe's files on a side, a file's recipes with a count. A place beyond the table reads as 0.

@@ -85,7 +85,7 @@ pub fn check(
     if v.number != 0 {
         return v;
     }
-    check7to9(job, totals_of(sizes, sides, marks))
+    check7to9(job, totals_of(sizes, sides, marks), false)
 }
 
 // 1 to 6, else the cut and |A|.
@@ -115,7 +115,7 @@ pub fn measure(
     }
 }
 
-// 1 to 9, where `lent` says that the lent lists have the right lengths, and the figures that a pass or run starts from.
+// 1 to 9, where `lent` says that the lent lists have the right lengths and `balancing` whose 9 it is, and the figures that a pass, a run or the balancing starts from.
 pub fn survey(
     job: Job,
     sizes: &[u16],
@@ -124,8 +124,9 @@ pub fn survey(
     bounds: &[u16],
     pins: &[u16],
     lent: bool,
+    balancing: bool,
 ) -> Survey
-    ensures { λ r. do ⌜ r ≡ surveyOf (limitsOf (← ⟦Job::MOST_FILES⟧ .entry) (← ⟦Job::MOST_RECIPES⟧ .entry) (← ⟦Job::MOST_PINS⟧ .entry) (← ⟦Job::MOST_DEN⟧ .entry)) (wholeJob job (now (sizes .entry)) (now (sides .entry)) (now (marks .entry)) (now (bounds .entry)) (now (pins .entry))) lent ⌝ }
+    ensures { λ r. do ⌜ r ≡ surveyOf balancing (limitsOf (← ⟦Job::MOST_FILES⟧ .entry) (← ⟦Job::MOST_RECIPES⟧ .entry) (← ⟦Job::MOST_PINS⟧ .entry) (← ⟦Job::MOST_DEN⟧ .entry)) (wholeJob job (now (sizes .entry)) (now (sides .entry)) (now (marks .entry)) (now (bounds .entry)) (now (pins .entry))) lent ⌝ }
 {
     let v = check1to6(sizes, sides, marks, bounds, pins, lent);
     if v.number != 0 {
@@ -138,7 +139,7 @@ pub fn survey(
         };
     }
     let t = totals_of(sizes, sides, marks);
-    let verdict = check7to9(job, t);
+    let verdict = check7to9(job, t, balancing);
     if verdict.number != 0 {
         return Survey {
             verdict,

@@ -2,7 +2,6 @@
 ghost use mathlib.Core.Path.{_≡_};
 ghost use Prim.Native.Nat.{_*_, _≤_, max};
 ghost use lib.ListN.{getD};
-ghost use lib.Dec.{eqb};
 ghost use Rattle.rules.specs.Lists.{«bit»};
 
 pub fn wide(x: u16) -> usize
@@ -36,11 +35,11 @@ pub fn bit(test: bool) -> usize
     0
 }
 
-// x where the other number is 0, else 0.
-pub(crate) fn if_zero(other: u16, x: u64) -> u64
-    ensures { λ r. ⌜ r ≡ «bit» (eqb other 0) * x ⌝ }
+// x where the test passes, else 0.
+pub(crate) fn when(test: bool, x: u64) -> u64
+    ensures { λ r. ⌜ (r ≡ «bit» test * x) × (r ≤ x) ⌝ }
 {
-    if other == 0 {
+    if test {
         return x;
     }
     0

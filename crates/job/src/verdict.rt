@@ -14,7 +14,7 @@ ghost use lib.ListN.{length};
 ghost use Rattle.rules.specs.Job.{limitsOf};
 ghost use Rattle.rules.specs.Check.{refuseIf, _orElse_, check1Of, check2Of, «check3», «check4», «check5», «check6», «check7», «check4to6», «check1to6»};
 ghost use Rattle.job.specs.Parts.{ofFiles, ofRecipes, ofPins, ofLists, ofFigures};
-ghost use Rattle.job.specs.Totals.{Within, Gives7to9};
+ghost use Rattle.job.specs.Totals.{Within, Gives9, Gives7to9};
 
 // Refused with this number and place, if the test passes; else done.
 pub fn refuse_if(test: bool, number: usize, place: usize) -> Verdict
@@ -147,13 +147,23 @@ pub fn check1to6(
     check4to6(sizes, sides, marks, bounds, pins)
 }
 
-// 8 and 9 need no list, only what its files add up to.
-pub(crate) fn check7to9(job: Job, t: Totals) -> Verdict
+// A pass is refused where |A| is not balanced, the balancing where it cannot be.
+fn check9(job: Job, t: Totals, balancing: bool) -> Verdict
     requires { do ⌜ Within t ((← ⟦Job::MOST_FILES⟧) * 65535) ⌝ }
-    ensures { λ r. do ⌜ Gives7to9 (limitsOf (← ⟦Job::MOST_FILES⟧ .entry) (← ⟦Job::MOST_RECIPES⟧ .entry) (← ⟦Job::MOST_PINS⟧ .entry) (← ⟦Job::MOST_DEN⟧ .entry)) job t r ⌝ }
+    ensures { λ r. ⌜ Gives9 balancing job t r ⌝ }
+{
+    if balancing {
+        return refuse_if(!is_balanced(job, t, t.least, t.most), 9, 0);
+    }
+    refuse_if(!is_balanced(job, t, t.size, t.size), 9, 0)
+}
+
+// 8 and 9 need no list, only what its files add up to.
+pub(crate) fn check7to9(job: Job, t: Totals, balancing: bool) -> Verdict
+    requires { do ⌜ Within t ((← ⟦Job::MOST_FILES⟧) * 65535) ⌝ }
+    ensures { λ r. do ⌜ Gives7to9 balancing (limitsOf (← ⟦Job::MOST_FILES⟧ .entry) (← ⟦Job::MOST_RECIPES⟧ .entry) (← ⟦Job::MOST_PINS⟧ .entry) (← ⟦Job::MOST_DEN⟧ .entry)) job t r ⌝ }
 {
     let v7 = check7(job);
     let v8 = refuse_if(t.free == 0, 8, 0);
-    let v9 = refuse_if(!is_balanced(job, t), 9, 0);
-    or_else(v7, or_else(v8, v9))
+    or_else(v7, or_else(v8, check9(job, t, balancing)))
 }

@@ -1,12 +1,17 @@
-// Cases on standard input: a heading, a job that the check and the measure are asked of, or a pin list that the view is asked of.
+// Cases on standard input: a heading, a job that the check and the measure are asked of, a job that is balanced, or a pin list that the view is asked of.
 //
 // The line of a job: the check's number and place, then the measure's number, place, cut and size
-// of A. The line of a view: how many entries its part has, then the entries.
+// of A. The lines of a balancing: its number, place, moves, cut and size of A; the sides as it leaves them; the scratch.
+// The line of a list, as of a view: how many entries it has, then the entries.
 use libc::STDOUT_FILENO;
+use rules::BalanceFigures;
 ghost use Prim.Native.Nat.{_<_};
 
 // Room for one number more than the longest list of a job may have.
 const MOST: usize = job::Job::MOST_PINS + 1;
+
+// Room for some numbers more than the largest job asks.
+const MOST_SCRATCH: usize = tables::MOST_NUMBERS + 16;
 
 // That it is small is what the sum of take_recipe needs.
 fn widened(x: u16) -> usize
@@ -39,6 +44,12 @@ fn entries(list: &[u16]) {
     }
 }
 
+fn show_list(list: &[u16]) {
+    number(list.len());
+    entries(list);
+    word(b"\n");
+}
+
 // ---- Asking
 
 fn show_answers(v: rules::Verdict, m: rules::Measure) {
@@ -58,13 +69,38 @@ fn ask(job: job::Job, sizes: &[u16], sides: &[u16], marks: &[u16], bounds: &[u16
     show_answers(v, m);
 }
 
+fn show_balancing(r: BalanceFigures, sides: &[u16], scratch: &[u16]) {
+    let v = r.verdict;
+    number(v.number);
+    next(v.place);
+    next(r.moves);
+    next(r.cut);
+    next(r.size as usize);
+    word(b"\n");
+    show_list(sides);
+    show_list(scratch);
+}
+
+fn balance(
+    job: job::Job,
+    sizes: &[u16],
+    sides: &mut [u16],
+    marks: &[u16],
+    bounds: &[u16],
+    pins: &[u16],
+    scratch: &mut [u16],
+) {
+    let r = split::balance(job, sizes, sides, marks, bounds, pins, scratch);
+    show_balancing(r, sides, scratch);
+}
+
 fn take_job() -> job::Job {
     let mut figures = [0u16; 3];
     frames::take_numbers(&mut figures);
     job::Job::new(figures[0], figures[1], figures[2])
 }
 
-fn show_job() {
+fn show_job(balanced: bool) {
     let job = take_job();
     let mut sizes = [0u16; MOST];
     let s = frames::take_numbers(&mut sizes);
@@ -76,6 +112,20 @@ fn show_job() {
     let b = frames::take_numbers(&mut bounds);
     let mut pins = [0u16; MOST];
     let p = frames::take_numbers(&mut pins);
+    if balanced {
+        let mut scratch = [0u16; MOST_SCRATCH];
+        let z = frames::take_numbers(&mut scratch);
+        balance(
+            job,
+            &sizes[..s],
+            &mut sides[..d],
+            &marks[..m],
+            &bounds[..b],
+            &pins[..p],
+            &mut scratch[..z],
+        );
+        return;
+    }
     ask(
         job,
         &sizes[..s],
@@ -100,9 +150,7 @@ fn show_view() {
     let mut pins = [0u16; MOST];
     let p = frames::take_numbers(&mut pins);
     let view = job::view(&bounds[..b], &pins[..p], j);
-    number(view.len());
-    entries(view);
-    word(b"\n");
+    show_list(view);
 }
 
 fn show_heading() {
@@ -119,7 +167,8 @@ fn show_case() -> bool {
         return false;
     }
     match kind[0] {
-        b'j' => show_job(),
+        b'j' => show_job(false),
+        b'b' => show_job(true),
         b'v' => show_view(),
         _ => show_heading(),
     }

@@ -1,5 +1,5 @@
 -- Bytes that are handed out, in the room, for the one stream and the other. Assumes nothing.
-use mathlib.Core.Path.{_≡_, refl, sym, ap, ap₂, _∙_}
+use mathlib.Core.Path.{_≡_, refl, sym, ap, _∙_}
 use Prim.Native.Nat.{ℕ, _*_, _≤_, _<_}
 use mathlib.Core.Bool.{Bool, true, false, not, cond}
 use mathlib.Core.List.{List, [], _++_, append-nil}
@@ -78,6 +78,11 @@ both-lendable h room room' a e = go (leb (length (h .output ++ h .errors)) (leng
 
 -- ---- the blocks of a job, n bytes
 
+-- a part just as long as they are is written
+pub blocks-written : (most : Limits) (job : Job) (part : List ℕ) → check1to6 most job true .number ≡ 0 → length part ≡ 512 * blockCount (headerFor job)
+    → writing most job part ≡ writingOf done (blocksOf job)
+blocks-written most job part passes long = let w = write-holds most job part in w .writes (ap (λ (x : Verdict). x .number) (w .all long) ∙ passes)
+
 module _ (job : Job) (room : List ℕ) (n : ℕ) (l : n ≡ 512 * blockCount (headerFor job)) where
   pub blocks-short : length room < n → handingOf (record { verdict = record { number = 3; place = 0 }; output = 0; errors = 0 }) room ≡ handInto (blocksOut job) room
   unfolding printing
@@ -90,9 +95,7 @@ module _ (job : Job) (room : List ℕ) (n : ℕ) (l : n ≡ 512 * blockCount (he
       → (handingOf (record { verdict = v; output = n; errors = 0 }) (part ++ drop n room) ≡ handInto (blocksOut job) room) × (v .number ≡ 0)
   unfolding printing onto
   blocks-handed most passes fits v part e =
-      let long : length (take n room) ≡ 512 * blockCount (headerFor job) = length-take-le n room fits ∙ l in
-      let w = write-holds most job (take n room) in
-      let all : writingOf v part ≡ writingOf done (blocksOf job) = e ∙ w .writes (ap (λ (x : Verdict). x .number) (w .all long) ∙ passes) in
+      let all : writingOf v part ≡ writingOf done (blocksOf job) = e ∙ blocks-written most job (take n room) passes (length-take-le n room fits ∙ l) in
       let bytes : n ≡ length (blocksOf job) = l ∙ sym (blocks-length job) in
       let enough : leb (length (blocksOf job)) (length room) ≡ true = le-leb (length (blocksOf job)) (length room) (omega (arith, fits, bytes)) in
       let told : printed (record { verdict = done; bytes = n }) (blocksOf job ++ drop n room) ≡ intoRoom (blocksOf job) room

@@ -1,4 +1,5 @@
 pub mod Handing
+pub mod Taken
 pub mod Telling
 pub mod WholeInput
 pub mod Unique

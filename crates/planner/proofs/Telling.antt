@@ -1,10 +1,10 @@
 -- What is read, run and told: each step's lists are those that document 01's program has. Assumes nothing.
-use mathlib.Core.Path.{_≡_, refl, sym, ap, ap₂, subst, _∙_}
+use mathlib.Core.Path.{_≡_, refl, sym, ap, subst, _∙_}
 use mathlib.Core.Logic.{_≢_}
-use Prim.Native.Nat.{ℕ, _+_, _*_, _≤_, _<_}
+use Prim.Native.Nat.{ℕ, _*_, _≤_}
 use mathlib.Core.Bool.{Bool, true, false, cond, _&&_}
 use mathlib.Core.List.{List, []}
-use native.Mathlib.Decide.{ℕ-discrete, decLt}
+use native.Mathlib.Decide.{ℕ-discrete}
 use native.Mathlib.Omega.{arith}
 use lib.Dec.{T, eqb}
 use lib.ListN.{length, take, replicate, length-replicate}
@@ -15,32 +15,26 @@ use Rattle.rules.specs.declared.Verdict.{Verdict}
 use Rattle.rules.specs.declared.Figures.{Figures}
 use Rattle.rules.specs.declared.RunFigures.{RunFigures}
 use Rattle.rules.specs.declared.ReadFigures.{ReadFigures}
-use Rattle.rules.specs.declared.Header.{Header}
 use Rattle.rules.specs.declared.Printed.{Printed}
-use Rattle.job.specs.declared.Job.{Job as JobFigures}
-use Rattle.job.specs.Parts.{wholeJob}
 use Rattle.rules.specs.Job.{Job, Limits, fileCount, files, Lent, fits}
 use Rattle.rules.specs.Check.{check1to6, check7to9, check}
 use Rattle.rules.specs.Split.{sizeOn}
 use Rattle.rules.specs.Run.{Ended, endedOf, noRunFigures, passEnds, runEnds}
-use Rattle.rules.specs.Stored.{Room, headerOf, blockCount, jobOf, Reading, written, reading, readVerdict}
+use Rattle.rules.specs.Stored.{Room, blockCount, jobOf, reading, readVerdict}
 use Rattle.rules.specs.Report.{refusal, sizeLine, figureLines, report, Printing, printed, intoRoom, reporting, prints, allRoom, ownLent, allLent, allRun}
 use Rattle.rules.specs.Trace.{listing, holdsPass, tracing, traces}
 use Rattle.rules.specs.Writing.{headerFor, withSides, HandedOut, Handing, handingOf, handInto, handsOut, resettles}
-use Rattle.rules.specs.Theorems.{mostBytes}
 use Rattle.rules.specs.RoundTrip.{lastPass, resettled}
-use Rattle.rules.proofs.Entries.{onto-least, take-replicate}
-use Rattle.rules.proofs.Reading.{read-files, read-sides, read-marks, read-bounds, read-pins, read-holds, reading-verdict}
+use Rattle.rules.proofs.Entries.{take-replicate}
 use Rattle.rules.proofs.Verdicts.{passes-both}
 use Rattle.rules.proofs.Proved.{answers}
-use Rattle.rules.proofs.CutOff.{prints-no, traces-no, resettles-no, read-no}
+use Rattle.rules.proofs.CutOff.{prints-no, traces-no, resettles-no}
 use Rattle.rules.proofs.Resettling.{resettled-holds}
-use Rattle.rules.proofs.RoundTrip.{read-length}
 use Rattle.rules.proofs.Reports.{into-number, into-bytes, reporting-refusal, run-told, pass-held, pass-long, pass-traced}
 use Rattle.stored.specs.Steps.{firstOf}
-use Rattle.stored.proofs.Readings.{first-written}
 use Rattle.rules.specs.declared.Handed.{Handed}
-use Rattle.planner.specs.Answering.{figuresIn, passTrace, textOut, handedTo, blocksOut, runOut, jobOut, inputOut, roomFor, AfterRun, Answered, Lendable}
+use Rattle.planner.specs.Answering.{passTrace, textOut, handedTo, blocksOut, runOut, jobOut, inputOut, roomFor, AfterRun, Lendable}
+use Rattle.planner.proofs.Taken.{verdict-read, number-read, job-read}
 use Rattle.planner.proofs.Handing.{hand-text}
 
 -- what is refused is told as a refused run is
@@ -138,17 +132,6 @@ pass-printed most job a f sides room room' own lent e q g =
 pub own-lent : (most : Limits) (sizes : List ℕ) (n : ℕ) → length sizes ≡ n → n ≤ most .files → ownLent most (take n (replicate (most .files) (pos 0))) ≡ ownLent most (replicate (length sizes) (pos 0))
 own-lent most sizes n e few = ap (ownLent most) (take-replicate n (most .files) (pos 0) few ∙ ap (λ (i : ℕ). replicate i (pos 0)) (sym e))
 
-pub figures-whole : (figures : JobFigures) (h : Header) → (figures .num ≡ h .num) × (figures .den ≡ h .den) × (figures .cap ≡ h .cap) → figures ≡ figuresIn h
-figures-whole figures h e = λ i. record { num = e .0 i; den = e .1 i; cap = e .2 i }
-
--- the figures of the header are those of the job
-pub first-out : (what : ℕ) (most : Limits) (h : Header) (lists : Room) (figures : JobFigures) (x : Handing) (room : List ℕ) → figures ≡ figuresIn h
-    → x ≡ handInto (jobOut what most (wholeJob figures (take (h .files) (lists .sizes)) (take (h .files) (lists .sides)) (take (h .files) (lists .marks)) (take (h .recipes + 1) (lists .bounds)) (take (h .pins) (lists .pins)))) room
-    → x ≡ handInto (jobOut what most (firstOf h lists)) room
-first-out what most h lists figures x room e f =
-    f
-    ∙ ap (λ (g : JobFigures). handInto (jobOut what most (wholeJob g (take (h .files) (lists .sizes)) (take (h .files) (lists .sides)) (take (h .files) (lists .marks)) (take (h .recipes + 1) (lists .bounds)) (take (h .pins) (lists .pins)))) room) e
-
 -- what reading refuses goes to the stream that a refused run goes to
 out-no : (what : ℕ) (most : Limits) (bytes : List ℕ) → readVerdict most bytes (allRoom most) .number ≢ 0 → inputOut what most bytes ≡ textOut (eqb what 2) (refusal (readVerdict most bytes (allRoom most)))
 out-no what most bytes n = elim (ℕ-discrete what 1) [
@@ -174,65 +157,18 @@ out-read what most bytes z = go (eqb what 1) (eqb what 2)
     go false false = rw (read, prints) refl
 
 module _ (what : ℕ) (most : Limits) (bytes : List ℕ) (r : ReadFigures) (lists : Room) (e : r ≡ reading most bytes (allRoom most) .answer) (f : lists ≡ reading most bytes (allRoom most) .room) where
-  verdict-read : r .verdict ≡ readVerdict most bytes (allRoom most)
-  verdict-read = ap (λ (x : ReadFigures). x .verdict) e ∙ reading-verdict most bytes (allRoom most)
-
-  number-read : r .verdict .number ≡ readVerdict most bytes (allRoom most) .number
-  number-read = ap (λ (v : Verdict). v .number) verdict-read
-
   pub refusal-out : (a : Printed) (room room' : List ℕ) → r .verdict .number ≢ 0 → printed a room' ≡ intoRoom (refusal (r .verdict)) room
       → handingOf (handedTo (eqb what 2) a) room' ≡ handInto (inputOut what most bytes) room
   refusal-out a room room' n h =
       hand-text (eqb what 2) (refusal (r .verdict)) room room' a h
-      ∙ ap (λ (x : HandedOut). handInto x room) (ap (λ (v : Verdict). textOut (eqb what 2) (refusal v)) verdict-read ∙ sym (out-no what most bytes (λ z. n (number-read ∙ z))))
+      ∙ ap (λ (x : HandedOut). handInto x room)
+      (ap (λ (v : Verdict). textOut (eqb what 2) (refusal v)) (verdict-read most bytes r lists e f) ∙ sym (out-no what most bytes (λ z. n (number-read most bytes r lists e f ∙ z))))
 
-  module _ (z : r .verdict .number ≡ 0) where
-    read : reading most bytes (allRoom most) ≡ record { answer = record { verdict = readVerdict most bytes (allRoom most); header = headerOf bytes }; room = written (jobOf bytes) (allRoom most) }
-    read = read-holds most bytes (allRoom most) .reads (sym number-read ∙ z)
-
-    header-read : r .header ≡ headerOf bytes
-    header-read = ap (λ (x : ReadFigures). x .header) e ∙ ap (λ (x : Reading). x .answer .header) read
-
-    lists-read : lists ≡ written (jobOf bytes) (allRoom most)
-    lists-read = f ∙ ap (λ (x : Reading). x .room) read
-
-    job-read : firstOf (r .header) lists ≡ jobOf bytes
-    job-read = ap₂ firstOf header-read lists-read ∙ first-written bytes (allRoom most)
-
-    pub run-read : (x : Handing) (room : List ℕ) → x ≡ handInto (jobOut what most (firstOf (r .header) lists)) room → x ≡ handInto (inputOut what most bytes) room
-    run-read x room h = h ∙ ap (λ (y : HandedOut). handInto y room) (ap (jobOut what most) job-read ∙ sym (out-read what most bytes (sym number-read ∙ z)))
-
-    -- the input is as long as the job's blocks, and no longer than what the programs take up
-    pub bytes-read : length bytes ≡ 512 * blockCount (headerFor (firstOf (r .header) lists))
-    bytes-read = read-length most bytes (allRoom most) (sym number-read ∙ z) ∙ ap (λ (j : Job). 512 * blockCount (headerFor j)) (sym job-read)
-
-    pub within-read : (k : ℕ) → mostBytes most < k → length bytes ≤ k
-    within-read k more = elim (decLt k (length bytes)) [
-      | yes long ↦ absurd (read-no most k bytes more long (allRoom most) (sym number-read ∙ z))
-      | no n ↦ omega arith
-    ]
-
-    -- the lists hold what the header says, and the files are within their most
-    pub room-read : (r .header .files ≤ length (lists .sizes)) × (r .header .files ≤ length (lists .sides)) × (r .header .files ≤ length (lists .marks))
-        × (r .header .recipes + 1 ≤ length (lists .bounds)) × (r .header .pins ≤ length (lists .pins))
-    room-read =
-        let j = jobOf bytes in
-        let o = allRoom most in
-        let files : r .header .files ≡ headerOf bytes .files = ap (λ (h : Header). h .files) header-read in
-        let recipes : r .header .recipes ≡ headerOf bytes .recipes = ap (λ (h : Header). h .recipes) header-read in
-        let pins : r .header .pins ≡ headerOf bytes .pins = ap (λ (h : Header). h .pins) header-read in
-        let at : (f : Room → List ℕ) → length (f lists) ≡ length (f (written j o)) = λ f. ap (λ (x : Room). length (f x)) lists-read in (
-          omega (arith, files, at (λ x. x .sizes), onto-least (j .sizes) (o .sizes), read-files bytes),
-          omega (arith, files, at (λ x. x .sides), onto-least (j .sides) (o .sides), read-sides bytes),
-          omega (arith, files, at (λ x. x .marks), onto-least (j .marks) (o .marks), read-marks bytes),
-          omega (arith, recipes, at (λ x. x .bounds), onto-least (j .bounds) (o .bounds), read-bounds bytes),
-          omega (arith, pins, at (λ x. x .pins), onto-least (j .pins) (o .pins), read-pins bytes),
-        )
-
-    pub few-read : r .header .files ≤ most .files
-    few-read =
-        let files : r .header .files ≡ headerOf bytes .files = ap (λ (h : Header). h .files) header-read in
-        omega (arith, files, read-files bytes, read-holds most bytes (allRoom most) .sound (sym number-read ∙ z) .fewFiles)
+  pub run-read : r .verdict .number ≡ 0 → (x : Handing) (room : List ℕ) → x ≡ handInto (jobOut what most (firstOf (r .header) lists)) room → x ≡ handInto (inputOut what most bytes) room
+  run-read z x room h =
+      h
+      ∙ ap (λ (y : HandedOut). handInto y room)
+      (ap (jobOut what most) (job-read most bytes r lists e f z) ∙ sym (out-read what most bytes (sym (number-read most bytes r lists e f) ∙ z)))
 
 -- ---- the room that is enough
 

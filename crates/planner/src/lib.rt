@@ -240,7 +240,7 @@ fn print_with(
 }
 
 // The figures of a stored job.
-fn figures_of(h: Header) -> Job
+pub fn figures_of(h: Header) -> Job
     ensures { λ r. ⌜ r ≡ figuresIn h ⌝ }
 {
     Job::new(h.num, h.den, h.cap)

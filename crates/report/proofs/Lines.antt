@@ -1,15 +1,17 @@
 -- The lines of a report: as forms, and how long they can be. Assumes nothing.
-use mathlib.Core.Path.{_≡_, refl, ap}
+use mathlib.Core.Path.{_≡_, refl, ap, _∙_}
 use Prim.Native.Nat.{ℕ, _+_, _≤_}
 use mathlib.Core.Bool.{Bool, true, false}
 use mathlib.Core.List.{List, [], _∷_, _++_, map, append-nil, append-assoc}
 use native.Mathlib.Omega.{arith}
 use lib.ListN.{length, length-append, length-map}
 use Rattle.rules.specs.declared.RunFigures.{RunFigures}
+use Rattle.rules.specs.declared.BalanceFigures.{BalanceFigures}
 use Rattle.rules.specs.declared.Verdict.{Verdict}
 use Rattle.rules.specs.Job.{Job}
 use Rattle.rules.specs.Split.{sizeOn}
 use Rattle.rules.specs.Report.{text, spaced, line, refusal, letter, sizeLine, sidesLine, figureLines}
+use Rattle.rules.specs.Balance.{balanceLines}
 use Rattle.report.specs.Laying.{pieces, shown, filled}
 use Rattle.report.specs.Steps.{settledLine}
 use Rattle.report.proofs.Forms.{joined}
@@ -55,6 +57,17 @@ unfolding figureLines sizeLine
 figure-form job r sides b e =
     let f = r .figures in
     rw (first-form (f .before) (f .cut) (f .size) b (r .passes), last-form (f .kept) (f .visits), e) (simp append-assoc)
+
+pub balance-form : (job : Job) (a : BalanceFigures) (sides : List ℕ) (b : ℕ) → b ≡ sizeOn job 1 sides
+    → filled (a .moves ∷ a .cut ∷ a .size ∷ b ∷ []) (text "done\nmoves 0\ncut 1\nsize 2 3\n") ≡ balanceLines job a sides
+unfolding balanceLines sizeLine line spaced text pieces shown
+balance-form job a sides b e =
+    let ns : List ℕ = a .moves ∷ a .cut ∷ a .size ∷ b ∷ [] in
+    let moves : filled ns (text "moves 0\n") ≡ line "moves" (a .moves ∷ []) = simp append-nil in
+    let cut : filled ns (text "cut 1\n") ≡ line "cut" (a .cut ∷ []) = simp append-nil in
+    let size : filled ns (text "size 2 3\n") ≡ line "size" (a .size ∷ b ∷ []) = simp (append-assoc, append-nil) in
+    joined ns (text "done\nmoves 0\ncut 1\n") (text "size 2 3\n") (joined ns (text "done\nmoves 0\n") (text "cut 1\n") (joined ns (text "done\n") (text "moves 0\n") refl moves) cut) size
+    ∙ ap (λ (n : ℕ). line "done" [] ++ line "moves" (a .moves ∷ []) ++ line "cut" (a .cut ∷ []) ++ line "size" (a .size ∷ n ∷ [])) e
 
 -- ---- how long
 

@@ -13,10 +13,12 @@ use Rattle.rules.proofs.Verdicts.{chain-stop, chain-go, passes-both, not-refuse
 use Rattle.rules.specs.declared.Verdict.{Verdict}
 use Rattle.rules.specs.declared.Figures.{Figures}
 use Rattle.rules.specs.declared.RunFigures.{RunFigures}
+use Rattle.rules.specs.declared.BalanceFigures.{BalanceFigures}
 use Rattle.rules.specs.Lists.{lowest, someBelow, onto}
 use Rattle.rules.specs.Job.{Limits}
-use Rattle.rules.specs.Check.{done, isDone, refuseIf, refuseAt, _orElse_}
-use Rattle.rules.specs.Report.{refusal, figureLines, report, ofSizes, splitVerdict, Printing, printed, printing, reporting}
+use Rattle.rules.specs.Check.{done, refuseIf, refuseAt, _orElse_}
+use Rattle.rules.specs.Report.{refusal, figureLines, tells, report, ofSizes, splitVerdict, Printing, printed, printing, telling, reporting}
+use Rattle.rules.specs.Balance.{balanceLines, balanceReport, balanceReporting}
 use Rattle.rules.specs.Trace.{Listing, passLines, trace, holdsPass, tracing}
 use Rattle.report.specs.Laying.{Laid}
 use Rattle.report.specs.Steps.{lengthsVerdict, roomVerdict}
@@ -146,28 +148,32 @@ module _ {whole : Printing} {first : Verdict} {sides t room : List ℕ} (x : Tol
 
 -- ---- what is told of an answer: its lines, or its refusal
 
-module _ (most : Limits) (sizes sides : List ℕ) (v : Verdict) (held : Bool) (lines room : List ℕ) where
-  -- where b says that it is not refused
-  abbrev toldText : Bool → List ℕ
-  toldText b = elim b [ true ↦ lines | false ↦ refusal v ]
+module _ (most : Limits) (sizes sides : List ℕ) (v : Verdict) (lines room : List ℕ) (h : v .number ≡ 0) where
+  -- where the answer is not refused
+  lines-told : (held : Bool) → telling most sizes sides v held (tells v lines) room ≡ printing (splitVerdict most sizes sides (held && leb (length lines) (length room))) lines room
+  lines-told held = ap answered (eq-eqb (v .number) 0 h)
+    where
+      text : Bool → List ℕ
+      text b = elim b [ true ↦ lines | false ↦ refusal v ]
 
-  abbrev answered : Bool → Printing
-  answered b =
-      let lent = leb (length (toldText b)) (length room) in
-      printing (cond b (splitVerdict most sizes sides (held && lent)) (refuseIf (not lent) 3 0)) (toldText b) room
+      answered : Bool → Printing
+      answered b =
+          let lent = leb (length (text b)) (length room) in
+          printing (cond b (splitVerdict most sizes sides (held && lent)) (refuseIf (not lent) 3 0)) (text b) room
 
-  lines-told : v .number ≡ 0 → answered (isDone v) ≡ printing (splitVerdict most sizes sides (held && leb (length lines) (length room))) lines room
-  lines-told h = ap answered (eq-eqb (v .number) 0 h)
+  -- its text has no other list than the split
+  split-lines : Told (telling most sizes sides v true (tells v lines) room) (lengthsVerdict (most .files) sizes sides) sides lines room
+  split-lines = record { is = lines-told true ∙ ap (λ (w : Verdict). printing w lines room) (split-parts most sizes sides (leb (length lines) (length room))) }
 
 pub reporting-told : (most : Limits) (sizes : List ℕ) (r : RunFigures) (sides room : List ℕ) → r .figures .verdict .number ≡ 0
     → Told (reporting most sizes r sides room) (lengthsVerdict (most .files) sizes sides) sides (figureLines (ofSizes sizes) r sides) room
 unfolding reporting report
-reporting-told most sizes r sides room h =
-    let lines : List ℕ = figureLines (ofSizes sizes) r sides in
-    record {
-      is = lines-told most sizes sides (r .figures .verdict) true lines room h
-          ∙ ap (λ (v : Verdict). printing v lines room) (split-parts most sizes sides (leb (length lines) (length room)));
-    }
+reporting-told most sizes r sides room h = split-lines most sizes sides (r .figures .verdict) (figureLines (ofSizes sizes) r sides) room h
+
+pub balance-told : (most : Limits) (sizes : List ℕ) (a : BalanceFigures) (sides room : List ℕ) → a .verdict .number ≡ 0
+    → Told (balanceReporting most sizes a sides room) (lengthsVerdict (most .files) sizes sides) sides (balanceLines (ofSizes sizes) a sides) room
+unfolding balanceReporting balanceReport
+balance-told most sizes a sides room h = split-lines most sizes sides (a .verdict) (balanceLines (ofSizes sizes) a sides) room h
 
 pub tracing-told : (most : Limits) (sizes : List ℕ) (f : Figures) (sides : List ℕ) (l : Listing) (room : List ℕ) → f .verdict .number ≡ 0
     → Told (tracing most sizes f sides l room) (passVerdict (most .files) sizes sides (holdsPass sizes f l)) sides (passLines (ofSizes sizes) f sides l) room
@@ -175,6 +181,6 @@ unfolding tracing trace
 tracing-told most sizes f sides l room h =
     let lines : List ℕ = passLines (ofSizes sizes) f sides l in
     record {
-      is = lines-told most sizes sides (f .verdict) (holdsPass sizes f l) lines room h
+      is = lines-told most sizes sides (f .verdict) lines room h (holdsPass sizes f l)
           ∙ ap (λ (v : Verdict). printing v lines room) (told-parts most sizes sides (holdsPass sizes f l) (leb (length lines) (length room)));
     }

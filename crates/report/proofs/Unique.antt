@@ -1,15 +1,20 @@
--- The promises of the report and of the trace settle their answers and the lent room: any two results that meet one, of the same
+-- The promises of the report, of a balancing's lines and of the trace settle their answers and the lent room: any two results that meet one, of the same
 -- arguments, are equal. The promises cited are those which the check reads from the contracts in src/. Assumes nothing.
 use denote.Ref.{now}
 use Rattle.rules.proofs.Settling.{Settles, both}
 use Rattle.rules.specs.Report.{Printing, printed}
 use Rattle.report.proofs.report.Kinds as kinds
 use Rattle.report.proofs.report.Reads as report
+use Rattle.report.proofs.balanced.Kinds as balanced-kinds
+use Rattle.report.proofs.balanced.Reads as balanced
 use Rattle.report.proofs.trace.Kinds as trace-kinds
 use Rattle.report.proofs.trace.Reads as trace
 
 pub report-settled : Settles 3 kinds.ps kinds.r Printing (λ κs x e. printed x (now (e .1 .1 .1 .0))) report.Post
 report-settled κs a x y e f p q = both (p .0) (q .0)
+
+pub balanced-settled : Settles 3 balanced-kinds.ps balanced-kinds.r Printing (λ κs x e. printed x (now (e .1 .1 .1 .0))) balanced.Post
+balanced-settled κs a x y e f p q = both (p .0) (q .0)
 
 pub trace-settled : Settles 10 trace-kinds.ps trace-kinds.r Printing (λ κs x e. printed x (now (e .1 .1 .1 .1 .1 .1 .1 .1 .1 .1 .0))) trace.Post
 trace-settled κs a x y e f p q = both (p .0) (q .0)

@@ -10,7 +10,6 @@ use lib.Dec.{ltb, eqb}
 use Rattle.rules.specs.declared.Verdict.{Verdict}
 use Rattle.rules.specs.Check.{refuseIf, refuseAt, _orElse_}
 use Rattle.rules.specs.Report.{line}
-use Rattle.report.specs.Bytes.{reportBytes}
 
 -- the verdict on a split in two parts: before its text is counted, and after
 unfoldable pub lengthsVerdict : ℕ → List ℕ → List ℕ → Verdict
@@ -21,9 +20,9 @@ lengthsVerdict most sizes sides =
 unfoldable pub roomVerdict : List ℕ → Bool → Verdict
 roomVerdict sides lent = refuseIf (not lent) 3 0 orElse refuseAt 6 (λ f. ltb 1 (getD sides f 0)) (length sides)
 
--- room of this length holds every text, so that it is never refused
-abbrev pub Enough : Verdict → List ℕ → List ℕ → List ℕ → Type 0
-Enough v sizes sides room = length sides ≡ length sizes → reportBytes (length sides) ≤ length room → v .number ≢ 3
+-- room of n bytes holds every text, so that it is never refused
+abbrev pub Enough : ℕ → Verdict → List ℕ → List ℕ → List ℕ → Type 0
+Enough n v sizes sides room = length sides ≡ length sizes → n ≤ length room → v .number ≢ 3
 
 abbrev pub settledLine : Bool → List ℕ
 settledLine settled = line (cond settled "settled yes" "settled no") []

@@ -1,4 +1,5 @@
 // Answers as the exact bytes that a program prints.
+mod balance;
 mod figures;
 mod moves;
 mod pass;
@@ -16,15 +17,18 @@ ghost use Rattle.rules.specs.Job.{limitsOf};
 ghost use Rattle.rules.specs.Check.{refuseIf};
 ghost use Rattle.rules.specs.Report.{printed, printing, refusal, reporting};
 ghost use Rattle.rules.specs.Trace.{listingOf, tracing};
-ghost use Rattle.report.specs.Bytes.{figureBytes};
+ghost use Rattle.rules.specs.Balance.{balanceReporting};
+ghost use Rattle.report.specs.Bytes.{figureBytes, reportBytes};
 ghost use Rattle.report.specs.Steps.{Enough};
 ghost use Rattle.report.specs.Tracing.{EnoughTold};
+use balance::put_balance;
 use figures::put_figures;
 use figures::put_refusal;
 use job::Job;
 use job::refuse_if;
 use pass::pass_verdict;
 use pass::put_pass;
+use rules::BalanceFigures;
 use rules::Figures;
 use rules::Printed;
 use rules::RunFigures;
@@ -50,7 +54,7 @@ fn print_refusal(told: Verdict, out: &mut [u8]) -> Printed
 // The text is counted only once C is within its most, so that the count is small.
 pub fn report(answer: RunFigures, sizes: &[u16], sides: &[u16], out: &mut [u8]) -> Printed
     ensures { λ r. do ⌜ printed r (now (out .exit)) ≡ reporting (limitsOf (← ⟦Job::MOST_FILES⟧ .entry) (← ⟦Job::MOST_RECIPES⟧ .entry) (← ⟦Job::MOST_PINS⟧ .entry) (← ⟦Job::MOST_DEN⟧ .entry)) (now (sizes .entry)) answer (now (sides .entry)) (now (out .entry)) ⌝ }
-    ensures { λ r. ⌜ Enough (r .verdict) (now (sizes .entry)) (now (sides .entry)) (now (out .entry)) ⌝ }
+    ensures { λ r. ⌜ Enough (reportBytes (length (now (sides .entry)))) (r .verdict) (now (sizes .entry)) (now (sides .entry)) (now (out .entry)) ⌝ }
 {
     if answer.figures.verdict.number != 0 {
         let told = answer.figures.verdict;
@@ -66,6 +70,28 @@ pub fn report(answer: RunFigures, sizes: &[u16], sides: &[u16], out: &mut [u8]) 
         return Printed { verdict, bytes: 0 };
     }
     put_figures(out, answer, sizes, sides);
+    Printed { verdict, bytes }
+}
+
+// The same of a balancing's answer: its lines tell of no file's side.
+pub fn balanced(answer: BalanceFigures, sizes: &[u16], sides: &[u16], out: &mut [u8]) -> Printed
+    ensures { λ r. do ⌜ printed r (now (out .exit)) ≡ balanceReporting (limitsOf (← ⟦Job::MOST_FILES⟧ .entry) (← ⟦Job::MOST_RECIPES⟧ .entry) (← ⟦Job::MOST_PINS⟧ .entry) (← ⟦Job::MOST_DEN⟧ .entry)) (now (sizes .entry)) answer (now (sides .entry)) (now (out .entry)) ⌝ }
+    ensures { λ r. ⌜ Enough figureBytes (r .verdict) (now (sizes .entry)) (now (sides .entry)) (now (out .entry)) ⌝ }
+{
+    if answer.verdict.number != 0 {
+        let told = answer.verdict;
+        return print_refusal(told, out);
+    }
+    let mut verdict = lengths_verdict(sizes, sides);
+    if verdict.number != 0 {
+        return Printed { verdict, bytes: 0 };
+    }
+    let bytes = put_balance(&mut [], answer, sizes, sides);
+    verdict = room_verdict(sides, bytes <= out.len());
+    if verdict.number != 0 {
+        return Printed { verdict, bytes: 0 };
+    }
+    put_balance(out, answer, sizes, sides);
     Printed { verdict, bytes }
 }
 

@@ -12,16 +12,17 @@ use lib.ListN.{length, getD, take}
 use lib.Seq.{take-length}
 use borrow.Author.Tests.{eqb-false, leb-true, le-leb, le-ltb, eq-eqb, ne-eqb}
 use Rattle.rules.specs.declared.Verdict.{Verdict}
+use Rattle.rules.specs.declared.BalanceFigures.{BalanceFigures}
 use Rattle.rules.specs.Lists.{count, listed}
 use Rattle.rules.specs.Job.{Job, Limits, fileCount, recipeCount, pinCount, files, recipes, scratchFor}
 use Rattle.rules.specs.Split.{sideOf, cut, gain, isFree, weight, smax, sizeOn, sizeA, balanced}
 use Rattle.rules.specs.Check.{done, refuseIf, _orElse_, check2Of, check2, check7, check8, check9, check1to6, check7to9, check}
 use Rattle.rules.specs.Move.{stepsBy, State, start, moved, after, Frees, greater, movesBy}
 use Rattle.rules.specs.Stored.{jobOf, readVerdict}
-use Rattle.rules.specs.Report.{refusal, allRoom, allLent}
+use Rattle.rules.specs.Report.{refusal, sizeLine, ofSizes, intoRoom, allRoom, allLent}
 use Rattle.rules.specs.Refusals.{rows1to6}
 use Rattle.rules.specs.Writing.{headerFor, blocksOf, withSides, HandedOut, handsOut}
-use Rattle.rules.specs.Balance.{heavy, freeOn, greatestOn, balanceChoice, balanceMoves, balanceSides, noneBalanced, check1to8, balanceCheck, balanceVerdict, Balancing, balancingOf, balanceFigures, noBalanceFigures, balancing, balanceLines, balances}
+use Rattle.rules.specs.Balance.{heavy, freeOn, greatestOn, balanceChoice, balanceMoves, balanceSides, noneBalanced, check1to8, balanceCheck, balanceVerdict, Balancing, balancingOf, balanceFigures, noBalanceFigures, balancing, balanceLines, balanceReport, balanceReporting, balances}
 use Rattle.rules.specs.Theorems.{Sound, Sides, stateAt}
 use Rattle.rules.specs.Balancing.{balancedTo, Assignment, BalanceHolds, lastRows, balanceRows, BalanceRows, NineExactly, BalanceAnswers, balancesVerdict, BalanceProgram}
 use Rattle.rules.proofs.Tests.{clash, contra'}
@@ -38,6 +39,7 @@ use Rattle.rules.proofs.OtherSides.{sound-again}
 use Rattle.rules.proofs.Refusals.{answerOf, answer-append, lacks, first-given, never-given, or-done, rows-six}
 use Rattle.rules.proofs.Reading.{read-holds}
 use Rattle.rules.proofs.CutOff.{cut-same}
+use Rattle.rules.proofs.Reports.{telling-refusal, telling-made}
 use Rattle.rules.proofs.Lending.{lends-enough}
 use Rattle.rules.proofs.RoundTrip.{blocks-hold}
 use Rattle.rules.proofs.Writes.{few-if, few-or, few-numbers, handed-refused, handed-done}
@@ -280,9 +282,24 @@ module _ (most : Limits) (job : Job) (scratch : List ℕ) where
     runs = λ z l e. rw (e, sides-are z) (left-checked z);
   }
 
+-- ---- what is told of a balancing: the sizes are all that the call knows of the job, and only the room can be too short
+
+pub balance-refusal : (most : Limits) (sizes : List ℕ) (a : BalanceFigures) (sides room : List ℕ) → a .verdict .number ≢ 0
+    → balanceReporting most sizes a sides room ≡ intoRoom (refusal (a .verdict)) room
+unfolding balanceReporting balanceReport
+balance-refusal most sizes a sides room h = telling-refusal most sizes sides (a .verdict) true (balanceLines (ofSizes sizes) a sides) room h
+
+pub balance-told : (most : Limits) (job : Job) (scratch room : List ℕ) → balanceVerdict most job scratch .number ≡ 0
+    → let e = balancing most job scratch in balanceReporting most (job .sizes) (e .answer) (e .sides) room ≡ intoRoom (balanceLines job (e .answer) (e .sides)) room
+unfolding balanceReporting balanceReport balanceFigures balanceLines sizeLine sizeOn files
+balance-told most job scratch room z =
+    let s : Sound most job = through most job scratch z in
+    let bytes = balanceLines (ofSizes (job .sizes)) (balanceFigures job done) (balanceSides job) in
+    rw (made-equal most job scratch z) (telling-made most job (balanceSides job) done true bytes room refl (s .fewFiles) (balance-holds most job s .sides) refl)
+
 -- ---- the program
 
-answer-verdict : (most : Limits) (job : Job) (scratch : List ℕ) → balancing most job scratch .answer .verdict ≡ balanceVerdict most job scratch
+pub answer-verdict : (most : Limits) (job : Job) (scratch : List ℕ) → balancing most job scratch .answer .verdict ≡ balanceVerdict most job scratch
 unfolding balanceFigures
 answer-verdict most job scratch = elim (ℕ-discrete (balanceVerdict most job scratch .number) 0) [
   | yes z ↦ ap (λ (b : Balancing). b .answer .verdict) (made-equal most job scratch z) ∙ sym (plain-balance most job scratch z)
@@ -311,8 +328,9 @@ module _ (most : Limits) (input : List ℕ) where
   handed-none : balancesVerdict most input .number ≢ 0 → balances most input ≡ record { output = []; errors = refusal (balancesVerdict most input) }
   handed-none n = balances-is ∙ handed-refused (balancesVerdict most input) _ _ n
 
-  unread : readVerdict most input (allRoom most) .number ≢ 0 → balances most input ≡ record { output = []; errors = refusal (readVerdict most input (allRoom most)) }
-  unread n =
+  -- what reading refuses is all that is told
+  pub balances-no : readVerdict most input (allRoom most) .number ≢ 0 → balances most input ≡ record { output = []; errors = refusal (readVerdict most input (allRoom most)) }
+  balances-no n =
       let e : readVerdict most input (allRoom most) ≡ balancesVerdict most input = chain-stop (balanceVerdict most read own) refl n in
       handed-none (λ z. n (ap (λ (v : Verdict). v .number) e ∙ z)) ∙ ap (λ (v : Verdict). record { output = []; errors = refusal v }) (sym e)
 
@@ -366,5 +384,5 @@ program-holds most input = record {
   enough =
       never-chain 3 (readVerdict most input (allRoom most)) (balanceVerdict most (jobOf input) (allLent most (jobOf input) .scratch)) (lends-enough most input .read)
       (never-three most input);
-  longer = λ k. cut-same most k input (balances most) (λ v. record { output = []; errors = refusal v }) (unread most);
+  longer = λ k. cut-same most k input (balances most) (λ v. record { output = []; errors = refusal v }) (balances-no most);
 }

@@ -2,15 +2,15 @@
 use mathlib.Core.Path.{_≡_, refl, sym, ap, _∙_}
 use mathlib.Core.Logic.{_≢_}
 use Prim.Native.Nat.{ℕ, zero, suc, _*_, _≤_, _<_}
-use mathlib.Core.Bool.{Bool, true, not, _&&_, _||_}
+use mathlib.Core.Bool.{Bool, true, not, _&&_}
 use mathlib.Core.List.{List, [], _∷_, map}
 use native.Mathlib.Decide.{decLt, ℕ-discrete}
 use native.Mathlib.Omega.{arith}
-use lib.Dec.{eqb, leb, ltb}
+use lib.Dec.{eqb}
 use lib.IntN.{ℤ, pos}
 use lib.ListN.{length, getD, take, length-map}
 use lib.Seq.{take-suc, take-all, take-length, take-append-le}
-use borrow.Author.Tests.{eqb-true, eqb-false, leb-false, ltb-false, eq-eqb, ne-eqb}
+use borrow.Author.Tests.{eqb-true, eqb-false, eq-eqb, ne-eqb}
 use Rattle.rules.specs.declared.Verdict.{Verdict}
 use Rattle.rules.specs.Lists.{count, upTo, lowest, someBelow}
 use Rattle.rules.specs.Job.{Job, Limits, fileCount, recipeCount, files, views, recipes, Lent, scratchFor, fits}
@@ -20,14 +20,14 @@ use Rattle.rules.specs.Move.{stepsBy, State, start, free, moved, after, 
 use Rattle.rules.specs.Pass.{cutAt, keeps, gainsAfter, startGains, Pass, passOf, tries, pass, leaves}
 use Rattle.rules.specs.Run.{mostPasses, passes, run, lastOf, figuresOf, runFiguresOf, leftBy, passEnds, runEnds}
 use Rattle.rules.specs.Theorems.{Sound, Accepted, Sides, stateAt, replayedTo, MovesHold, Left, scansTold, replayedBy, Replayed, Chosen, PassHolds, startSides, RunHolds, Answers}
-use Rattle.rules.proofs.Tests.{clash, or-no, and-yes, not-no}
+use Rattle.rules.proofs.Tests.{clash, and-yes, not-no}
 use Rattle.rules.proofs.Verdicts.{passes-both, not-refused, Plain, plain-if, plain-chain}
 use Rattle.rules.proofs.Count.{length-tabled, count-some}
 use Rattle.rules.proofs.Entries.{beyond, listed-more, listed-holds}
 use Rattle.rules.proofs.GainKept.{frees-take, after-binary, keptUp, kept-length, kept-more, gain-kept-at, gains-kept, gains-pinned, gains-chosen, replay-within, replay-listed, told-more, cut-kept, start-fresh}
 use Rattle.rules.proofs.FourScans.{recipe-scans, all-scans, all-visits}
 use Rattle.rules.proofs.Sizes.{sizes-kept, gain-range}
-use Rattle.rules.proofs.SoundJob.{sound, recipes-distinct, recipes-length, views-total}
+use Rattle.rules.proofs.SoundJob.{ok7, sound, recipes-distinct, recipes-length, views-total}
 use Rattle.rules.proofs.Choice.{chosen-one}
 use Rattle.rules.proofs.MovesEnd.{StateLong, after-long, pass-free, pass-each, pass-end, locked-stays, frees-once, frees-few}
 use Rattle.rules.proofs.Fits.{long-enough}
@@ -37,23 +37,19 @@ use Rattle.rules.proofs.Runs.{keeps-le, keeps-least, keeps-shortest, on
 -- ---- an accepted job
 
 pub accepted : (most : Limits) (job : Job) (lent : Bool) → check most job lent .number ≡ 0 → Accepted most job
-unfolding check check7to9 check7 check8 check9 files
+unfolding check check7to9 check8 check9 files
 accepted most job lent ok =
     let a = passes-both (check1to6 most job lent) (check7to9 most job) ok in
     let s = sound most job lent (a .0) in
-    let ratio = eqb (job .num) 0 || leb (job .den) (job .num) || ltb (most .den) (job .den) in
     let none = eqb (count (λ f. eqb (getD (job .marks) f 0) 0) (upTo (fileCount job))) 0 in
     let start = balanced job (sizeA job (job .sides)) in
-    let b = passes-both (refuseIf ratio 7 0) (refuseIf none 8 0 orElse refuseIf (not start) 9 0) (a .1) in
+    let b = passes-both (check7 most job) (refuseIf none 8 0 orElse refuseIf (not start) 9 0) (a .1) in
     let c = passes-both (refuseIf none 8 0) (refuseIf (not start) 9 0) (b .1) in
-    let r = or-no (eqb (job .num) 0 || leb (job .den) (job .num)) (ltb (most .den) (job .den)) (not-refused ratio 6 0 (b .0)) in
-    let q = or-no (eqb (job .num) 0) (leb (job .den) (job .num)) (r .0) in
-    let z : job .num ≢ 0 = eqb-false (job .num) 0 (q .0) in
     let t = count-some (λ f. eqb (getD (job .marks) f 0) 0) (fileCount job) (eqb-false (count (λ f. eqb (getD (job .marks) f 0) 0) (upTo (fileCount job))) 0 (not-refused none 7 0 (c .0))) in
     record {
       sound = s;
       distinct = recipes-distinct most job s;
-      ratio = (omega arith, leb-false (job .den) (job .num) (q .1), ltb-false (most .den) (job .den) (r .1));
+      ratio = ok7 most job (b .0);
       free = (t .0, t .1, eqb-true (getD (job .marks) (t .0) 0) 0 (t .2));
       balanced = not-no start (not-refused (not start) 8 0 (c .1));
     }

@@ -2,7 +2,7 @@
 -- Assumes nothing.
 use mathlib.Core.Path.{_≡_, refl, sym, ap, ap₂, _∙_}
 use mathlib.Core.Logic.{_≢_}
-use Prim.Native.Nat.{ℕ, suc, _-_, _≤_}
+use Prim.Native.Nat.{ℕ, suc, _-_, _≤_, _<_}
 use mathlib.Core.Bool.{Bool, true, false, not, _&&_}
 use mathlib.Core.List.{List, [], _∷_}
 use native.Mathlib.Decide.{ℕ-discrete}
@@ -10,18 +10,18 @@ use native.Mathlib.Omega.{arith}
 use lib.ListN.{length, getD}
 use lib.Seq.{take-all}
 use lib.Dec.{leb, ltb, eqb}
-use borrow.Author.Tests.{le-ltb, le-leb, eq-eqb, ne-eqb}
+use borrow.Author.Tests.{leb-true, leb-false, le-ltb, le-leb, eq-eqb, ne-eqb}
 use Rattle.rules.specs.declared.Verdict.{Verdict}
 use Rattle.rules.specs.declared.Figures.{Figures}
 use Rattle.rules.specs.declared.RunFigures.{RunFigures}
 use Rattle.rules.specs.declared.Printed.{Printed}
-use Rattle.rules.specs.Lists.{someBelow}
+use Rattle.rules.specs.Lists.{someBelow, onto}
 use Rattle.rules.specs.Job.{Job, Limits, fileCount, files, Lent, fits}
 use Rattle.rules.specs.Split.{sizeOn}
 use Rattle.rules.specs.Check.{done, refuseIf, _orElse_, check}
 use Rattle.rules.specs.Pass.{Pass, tries, pass, leaves}
 use Rattle.rules.specs.Run.{noFigures, noRunFigures, run, lastOf, passEnds, runEnds, figuresOf, runFiguresOf}
-use Rattle.rules.specs.Report.{sizeLine, figureLines, report, refusal, ofSizes, splitVerdict, printVerdict, Printing, printed, printing, intoRoom, reporting}
+use Rattle.rules.specs.Report.{sizeLine, figureLines, tells, report, refusal, ofSizes, splitVerdict, printVerdict, Printing, printed, printing, intoRoom, telling, reporting}
 use Rattle.rules.specs.Trace.{Listing, listing, passLines, trace, badEnd, holdsPass, tracing}
 use Rattle.rules.specs.Theorems.{Binary, Sides, Sound}
 use Rattle.rules.proofs.Searches.{some-none}
@@ -49,24 +49,39 @@ into-bytes bytes room room' a e = go (leb (length bytes) (length room)) e
     go true q = omega (arith, ap (λ (x : Printing). x .answer .bytes) q, ap (λ (x : Printing). length (x .room)) q, onto-least bytes room)
     go false q = omega (arith, ap (λ (x : Printing). x .answer .bytes) q)
 
--- ---- the report of a run
+-- refused, the room was too short for them and stays
+pub into-short : (bytes room room' : List ℕ) (a : Printed) → printed a room' ≡ intoRoom bytes room → a .verdict .number ≢ 0
+    → (a .verdict ≡ record { number = 3; place = 0 }) × (room' ≡ room) × (length room < length bytes)
+unfolding printing
+into-short bytes room room' a e n = go (leb (length bytes) (length room)) refl e
+  where
+    go : (b : Bool) → leb (length bytes) (length room) ≡ b → printed a room' ≡ printing (refuseIf (not b) 3 0) bytes room
+        → (a .verdict ≡ record { number = 3; place = 0 }) × (room' ≡ room) × (length room < length bytes)
+    go true h q = absurd (n (ap (λ (x : Printing). x .answer .verdict .number) q))
+    go false h q = (ap (λ (x : Printing). x .answer .verdict) q, ap (λ (x : Printing). x .room) q, leb-false (length bytes) (length room) h)
 
-report-sizes : (job : Job) (r : RunFigures) (sides : List ℕ) → report (ofSizes (job .sizes)) r sides ≡ report job r sides
-unfolding report figureLines sizeLine sizeOn files
-report-sizes job r sides = refl
+-- else they are in it
+pub into-whole : (bytes room room' : List ℕ) (a : Printed) → printed a room' ≡ intoRoom bytes room → a .verdict .number ≡ 0
+    → (a .bytes ≡ length bytes) × (room' ≡ onto bytes room) × (length bytes ≤ length room)
+unfolding printing
+into-whole bytes room room' a e z = go (leb (length bytes) (length room)) refl e
+  where
+    go : (b : Bool) → leb (length bytes) (length room) ≡ b → printed a room' ≡ printing (refuseIf (not b) 3 0) bytes room
+        → (a .bytes ≡ length bytes) × (room' ≡ onto bytes room) × (length bytes ≤ length room)
+    go true h q = (ap (λ (x : Printing). x .answer .bytes) q, ap (λ (x : Printing). x .room) q, leb-true (length bytes) (length room) h)
+    go false h q = absurd (omega (arith, z, ap (λ (x : Printing). x .answer .verdict .number) q))
 
-report-refused : (job : Job) (r : RunFigures) (sides : List ℕ) → r .figures .verdict .number ≢ 0 → report job r sides ≡ refusal (r .figures .verdict)
-unfolding report
-report-refused job r sides h = rw (ne-eqb (r .figures .verdict .number) 0 h, report) refl
+-- ---- what is told of an answer
 
--- a refused run tells its number and place
-pub reporting-refusal : (most : Limits) (sizes : List ℕ) (r : RunFigures) (sides room : List ℕ) → r .figures .verdict .number ≢ 0
-    → reporting most sizes r sides room ≡ intoRoom (refusal (r .figures .verdict)) room
-unfolding reporting
-reporting-refusal most sizes r sides room h =
-    rw (ne-eqb (r .figures .verdict .number) 0 h) (ap (λ (b : List ℕ). intoRoom b room) (report-refused (ofSizes sizes) r sides h))
+-- a refusal tells its number and place
+tells-refused : (v : Verdict) (lines : List ℕ) → v .number ≢ 0 → tells v lines ≡ refusal v
+tells-refused v lines h = rw (ne-eqb (v .number) 0 h, tells) refl
 
--- the split of a run that was made is sound, so that only the room can be too short
+pub telling-refusal : (most : Limits) (sizes sides : List ℕ) (v : Verdict) (held : Bool) (lines room : List ℕ) → v .number ≢ 0
+    → telling most sizes sides v held (tells v lines) room ≡ intoRoom (refusal v) room
+telling-refusal most sizes sides v held lines room h = rw (ne-eqb (v .number) 0 h) (ap (λ (b : List ℕ). intoRoom b room) (tells-refused v lines h))
+
+-- the split of what was made is sound, so that only the room can be too short
 split-told : (most : Limits) (sizes sides : List ℕ) (lent : Bool) → length sizes ≤ most .files → length sides ≡ length sizes → Binary sides
     → splitVerdict most sizes sides lent ≡ refuseIf (not lent) 3 0
 split-told most sizes sides lent a b c =
@@ -79,14 +94,34 @@ split-told most sizes sides lent a b c =
     last true = refl
     last false = refl
 
+pub telling-made : (most : Limits) (job : Job) (sides : List ℕ) (v : Verdict) (held : Bool) (bytes room : List ℕ) → v ≡ done → fileCount job ≤ most .files → Sides job sides → held ≡ true
+    → telling most (job .sizes) sides v held bytes room ≡ intoRoom bytes room
+telling-made most job sides v held bytes room e few w h =
+    let short = leb (length bytes) (length room) in
+    ap (λ (v : Verdict). printing v bytes room)
+    (ap₂ (λ (v : Verdict) (b : Bool). printVerdict most (job .sizes) sides v b short) e h ∙ split-told most (job .sizes) sides short few (w .long) (w .binary))
+
+-- ---- the report of a run
+
+report-sizes : (job : Job) (r : RunFigures) (sides : List ℕ) → report (ofSizes (job .sizes)) r sides ≡ report job r sides
+unfolding report figureLines sizeLine sizeOn files
+report-sizes job r sides = refl
+
+report-refused : (job : Job) (r : RunFigures) (sides : List ℕ) → r .figures .verdict .number ≢ 0 → report job r sides ≡ refusal (r .figures .verdict)
+unfolding report
+report-refused job r sides h = tells-refused (r .figures .verdict) (figureLines job r sides) h
+
+-- a refused run tells its number and place
+pub reporting-refusal : (most : Limits) (sizes : List ℕ) (r : RunFigures) (sides room : List ℕ) → r .figures .verdict .number ≢ 0
+    → reporting most sizes r sides room ≡ intoRoom (refusal (r .figures .verdict)) room
+unfolding reporting report
+reporting-refusal most sizes r sides room h = telling-refusal most sizes sides (r .figures .verdict) true (figureLines (ofSizes sizes) r sides) room h
+
 made-told : (most : Limits) (job : Job) (r : RunFigures) (sides room : List ℕ) → r .figures .verdict ≡ done → fileCount job ≤ most .files → Sides job sides
     → reporting most (job .sizes) r sides room ≡ intoRoom (report job r sides) room
 unfolding reporting
 made-told most job r sides room e few w =
-    let bytes = report (ofSizes (job .sizes)) r sides in
-    let short = leb (length bytes) (length room) in
-    ap (λ (v : Verdict). printing v bytes room) (ap (λ (v : Verdict). printVerdict most (job .sizes) sides v true short) e ∙ split-told most (job .sizes) sides short few (w .long) (w .binary))
-    ∙ ap (λ (b : List ℕ). intoRoom b room) (report-sizes job r sides)
+    telling-made most job sides (r .figures .verdict) true (report (ofSizes (job .sizes)) r sides) room e few w refl ∙ ap (λ (b : List ℕ). intoRoom b room) (report-sizes job r sides)
 
 pub last-sides : (most : Limits) (job : Job) → Sound most job → Sides job (lastOf (pass job (job .sides)) (run job) .sidesAfter)
 last-sides most job s =
@@ -119,22 +154,18 @@ trace-sizes job f sides l = refl
 
 trace-refused : (job : Job) (f : Figures) (sides : List ℕ) (l : Listing) → f .verdict .number ≢ 0 → trace job f sides l ≡ refusal (f .verdict)
 unfolding trace
-trace-refused job f sides l h = rw (ne-eqb (f .verdict .number) 0 h, trace) refl
+trace-refused job f sides l h = tells-refused (f .verdict) (passLines job f sides l) h
 
 pub tracing-refusal : (most : Limits) (sizes : List ℕ) (f : Figures) (sides : List ℕ) (l : Listing) (room : List ℕ) → f .verdict .number ≢ 0
     → tracing most sizes f sides l room ≡ intoRoom (refusal (f .verdict)) room
-unfolding tracing
-tracing-refusal most sizes f sides l room h =
-    rw (ne-eqb (f .verdict .number) 0 h) (ap (λ (b : List ℕ). intoRoom b room) (trace-refused (ofSizes sizes) f sides l h))
+unfolding tracing trace
+tracing-refusal most sizes f sides l room h = telling-refusal most sizes sides (f .verdict) (holdsPass sizes f l) (passLines (ofSizes sizes) f sides l) room h
 
 made-traced : (most : Limits) (job : Job) (f : Figures) (sides room : List ℕ) (l : Listing) → f .verdict ≡ done → fileCount job ≤ most .files → Sides job sides → holdsPass (job .sizes) f l ≡ true
     → tracing most (job .sizes) f sides l room ≡ intoRoom (trace job f sides l) room
 unfolding tracing
 made-traced most job f sides room l e few w held =
-    let bytes = trace (ofSizes (job .sizes)) f sides l in
-    let short = leb (length bytes) (length room) in
-    ap (λ (v : Verdict). printing v bytes room)
-    (ap₂ (λ (v : Verdict) (b : Bool). printVerdict most (job .sizes) sides v b short) e held ∙ split-told most (job .sizes) sides short few (w .long) (w .binary))
+    telling-made most job sides (f .verdict) (holdsPass (job .sizes) f l) (trace (ofSizes (job .sizes)) f sides l) room e few w held
     ∙ ap (λ (b : List ℕ). intoRoom b room) (trace-sizes job f sides l)
 
 pass-sides : (most : Limits) (job : Job) → Sound most job → Sides job (pass job (job .sides) .sidesAfter)

@@ -14,7 +14,7 @@ use borrow.Author.Tests.{ltb-false, leb-false, eqb-true, eqb-false, lt-ltb, le-l
 use Rattle.rules.specs.Lists.{total, count, upTo, lowest, someBelow}
 use Rattle.rules.specs.Job.{Job, Limits, fileCount, recipeCount, pinCount, bound, pin, view, views, recipes}
 use Rattle.rules.specs.Split.{sizeOf, times}
-use Rattle.rules.specs.Check.{refuseIf, refuseAt, _orElse_, short, repeatsIn, badPin, badFile, check1Of, check2Of, check1, check2, check3, check4, check5, check6, check4to6, check1to6}
+use Rattle.rules.specs.Check.{refuseIf, refuseAt, _orElse_, short, repeatsIn, badPin, badFile, check1Of, check2Of, check1, check2, check3, check4, check5, check6, check7, check4to6, check1to6}
 use Rattle.rules.specs.Theorems.{Distinct, Sound}
 use Rattle.rules.proofs.Count.{total-map, total-upTo, getD-tabled, length-tabled, times-once}
 use Rattle.rules.proofs.Tests.{or-no, and-yes, and-no, not-no}
@@ -109,6 +109,16 @@ module _ (job : Job) where
       let q = or-no a b (r .0) in
       let z : sizeOf job f ≢ 0 = eqb-false (sizeOf job f) 0 (q .0) in
       (omega arith, ltb-false 1 (getD (job .sides) f 0) (q .1), ltb-false 1 (getD (job .marks) f 0) (r .1))
+
+-- 7, which no sound job need pass
+pub ok7 : (most : Limits) (job : Job) → check7 most job .number ≡ 0 → (1 ≤ job .num) × (job .num < job .den) × (job .den ≤ most .den)
+unfolding check7
+ok7 most job h =
+    let bad = eqb (job .num) 0 || leb (job .den) (job .num) || ltb (most .den) (job .den) in
+    let r = or-no (eqb (job .num) 0 || leb (job .den) (job .num)) (ltb (most .den) (job .den)) (not-refused bad 6 0 h) in
+    let q = or-no (eqb (job .num) 0) (leb (job .den) (job .num)) (r .0) in
+    let z : job .num ≢ 0 = eqb-false (job .num) 0 (q .0) in
+    (omega arith, leb-false (job .den) (job .num) (q .1), ltb-false (most .den) (job .den) (r .1))
 
 -- a job for which the check gives none of 1 to 6
 pub sound : (most : Limits) (job : Job) (lent : Bool) → check1to6 most job lent .number ≡ 0 → Sound most job

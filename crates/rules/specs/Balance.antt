@@ -14,7 +14,7 @@ use Rattle.rules.specs.Split.{onSide, cut, gain, sizeOf, isFree, weight,
 use Rattle.rules.specs.Check.{isDone, refuseIf, _orElse_, check7, check8, check1to6}
 use Rattle.rules.specs.Move.{State, start, moved, after, greater, firstBelow, movesBy}
 use Rattle.rules.specs.Stored.{jobOf, readVerdict}
-use Rattle.rules.specs.Report.{line, sizeLine, allRoom, allLent}
+use Rattle.rules.specs.Report.{line, sizeLine, tells, ofSizes, Printing, telling, allRoom, allLent}
 use Rattle.rules.specs.Writing.{withSides, HandedOut, handsOut}
 
 -- ---- the two halves of the balance test: a split is balanced if A is neither
@@ -118,6 +118,13 @@ balanceLines job a sides =
     ++ line "moves" (a .moves ∷ [])
     ++ line "cut" (a .cut ∷ [])
     ++ sizeLine job (a .size) sides
+
+-- of its answer, refused or not; and the call that makes these bytes, as for a report
+unfoldable pub balanceReport : Job → BalanceFigures → List ℕ → List ℕ
+balanceReport job a sides = tells (a .verdict) (balanceLines job a sides)
+
+unfoldable pub balanceReporting : Limits → List ℕ → BalanceFigures → List ℕ → List ℕ → Printing
+balanceReporting most sizes a sides room = telling most sizes sides (a .verdict) true (balanceReport (ofSizes sizes) a sides) room
 
 -- the balancing of a job, lent the program's own scratch
 abbrev pub allBalancing : Limits → Job → Balancing

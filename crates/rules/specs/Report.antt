@@ -66,9 +66,13 @@ figureLines job r sides =
     ++ line "visits" (r .figures .visits ∷ [])
     ++ sidesLine sides
 
+-- what is told of an answer with this verdict: its lines, or its refusal
+abbrev pub tells : Verdict → List ℕ → List ℕ
+tells v lines = elim (isDone v) [ true ↦ lines | false ↦ refusal v ]
+
 -- the report of a run's answer, refused or not
 unfoldable pub report : Job → RunFigures → List ℕ → List ℕ
-report job r sides = elim (isDone (r .figures .verdict)) [ true ↦ figureLines job r sides | false ↦ refusal (r .figures .verdict) ]
+report job r sides = tells (r .figures .verdict) (figureLines job r sides)
 
 -- ---- the call that makes a report's bytes: it knows no more of the job than its sizes, and is lent room for the bytes
 
@@ -106,10 +110,12 @@ printing v bytes room =
 abbrev pub intoRoom : List ℕ → List ℕ → Printing
 intoRoom bytes room = printing (refuseIf (not (leb (length bytes) (length room))) 3 0) bytes room
 
+-- the bytes that tell of an answer and its split
+abbrev pub telling : Limits → List ℕ → List ℕ → Verdict → Bool → List ℕ → List ℕ → Printing
+telling most sizes sides answered held bytes room = printing (printVerdict most sizes sides answered held (leb (length bytes) (length room))) bytes room
+
 unfoldable pub reporting : Limits → List ℕ → RunFigures → List ℕ → List ℕ → Printing
-reporting most sizes r sides room =
-    let bytes = report (ofSizes sizes) r sides in
-    printing (printVerdict most sizes sides (r .figures .verdict) true (leb (length bytes) (length room))) bytes room
+reporting most sizes r sides room = telling most sizes sides (r .figures .verdict) true (report (ofSizes sizes) r sides) room
 
 -- ---- the program: it reads a stored job from standard input and runs it
 

@@ -11,7 +11,7 @@ use Rattle.rules.specs.Job.{Job, Limits, Lent}
 use Rattle.rules.specs.Check.{isDone}
 use Rattle.rules.specs.Run.{passEnds}
 use Rattle.rules.specs.Stored.{jobOf, readVerdict}
-use Rattle.rules.specs.Report.{text, digits, spaced, line, refusal, sizeLine, sidesLine, ofSizes, printVerdict, Printing, printing, allRoom, allLent}
+use Rattle.rules.specs.Report.{text, digits, spaced, line, refusal, sizeLine, sidesLine, tells, ofSizes, Printing, telling, allRoom, allLent}
 
 -- the lists that tell of a pass: the gain list, the four move lists and the two scan lists
 pub record Listing : Type 0 where
@@ -84,7 +84,7 @@ passLines job f sides l =
 
 -- the trace of a pass's answer, refused or not
 unfoldable pub trace : Job → Figures → List ℕ → Listing → List ℕ
-trace job f sides l = elim (isDone (f .verdict)) [ true ↦ passLines job f sides l | false ↦ refusal (f .verdict) ]
+trace job f sides l = tells (f .verdict) (passLines job f sides l)
 
 -- ---- the call that makes a trace's bytes
 
@@ -103,9 +103,7 @@ holdsPass sizes f l =
     && not (someBelow (badEnd l) (f .tried))
 
 unfoldable pub tracing : Limits → List ℕ → Figures → List ℕ → Listing → List ℕ → Printing
-tracing most sizes f sides l room =
-    let bytes = trace (ofSizes sizes) f sides l in
-    printing (printVerdict most sizes sides (f .verdict) (holdsPass sizes f l) (leb (length bytes) (length room))) bytes room
+tracing most sizes f sides l room = telling most sizes sides (f .verdict) (holdsPass sizes f l) (trace (ofSizes sizes) f sides l) room
 
 -- ---- the program: it reads a stored job from standard input and makes one pass
 

@@ -15,7 +15,7 @@ use Rattle.rules.specs.Lists.{total}
 use Rattle.rules.specs.Job.{Job, Limits, fileCount, recipes, Lent, fits}
 use Rattle.rules.specs.Split.{cut, sizeA, balanced}
 use Rattle.rules.specs.Check.{done}
-use Rattle.rules.specs.Move.{stepsBy}
+use Rattle.rules.specs.Move.{stepsBy, stop}
 use Rattle.rules.specs.Pass.{Pass, passOf, tries, pass, leaves}
 use Rattle.rules.specs.Run.{Ended, endedOf, settles, run, lastOf, figuresOf, runFiguresOf}
 use Rattle.rules.specs.Theorems.{Sound, Accepted, Sides, RunHolds}
@@ -25,6 +25,7 @@ use Rattle.rules.proofs.Runs.{pass-size, last-more, last-at}
 use Rattle.rules.proofs.Tests.{clash, and-yes}
 use Rattle.split.specs.Playing.{passLeft}
 use Rattle.tables.proofs.Accepted.{Narrow}
+use Rattle.split.proofs.Going.{Line}
 use Rattle.split.proofs.Bounds.{cut-few}
 use Rattle.rules.specs.Writing.{withSides}
 use Rattle.runs.specs.Running.{plusOf, follows, SumsFit, lastAt, Running, runLeft}
@@ -250,8 +251,12 @@ module _ {most : Limits} {job : Job} (ok : Accepted most job) (l : Lent) where
         subst (SumsSmall (suc k)) (sym (ap (figuresOf done (pass job (job .sides))) (take-more k h) ∙ figures-more (pass job (job .sides)) (take k (run job)) p))
         (sums-grow k (figuresOf done (pass job (job .sides)) (take k (run job))) p r (o .0) (o .1) (o .2) (o .3))
 
+    -- no move yet
+    none-made : Line job []
+    none-made = record { most = most; sound = s; frees = stop }
+
     start-cut : cut (job .sides) (recipes job) ≤ most .recipes
-    start-cut = unfold stepsBy in omega (arith, cut-few most job s 0, s .fewRecipes)
+    start-cut = unfold stepsBy in omega (arith, cut-few none-made 0, s .fewRecipes)
 
     -- what is added up fits
     pub sums-fit : {k : ℕ} {sum : Figures} {settled : Bool} {sides : List ℕ} {lent : Lent} → Running job l k sum settled sides lent → SumsFit sum × (k ≤ 65536)

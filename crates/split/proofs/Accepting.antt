@@ -3,6 +3,7 @@
 use mathlib.Core.Path.{_≡_, sym, ap, _∙_}
 use mathlib.Core.Logic.{_≢_}
 use Prim.Native.Nat.{ℕ, zero, suc, _*_, _≤_, _<_, _^_}
+use mathlib.Core.Bool.{Bool, false}
 use mathlib.Core.List.{List}
 use native.Mathlib.Omega.{arith}
 use native.Mathlib.Nat.{max-le}
@@ -12,18 +13,20 @@ use Rattle.rules.specs.declared.Figures.{Figures}
 use Rattle.rules.specs.Lists.{bit, total, largest, upTo}
 use Rattle.rules.specs.Job.{Job, Limits, fileCount, files, Lent, lentOf, fits}
 use Rattle.rules.specs.Split.{sizeOf, isFree, weight, smax}
-use Rattle.rules.specs.Check.{check}
+use Rattle.rules.specs.Check.{check1to6, check}
 use Rattle.rules.specs.Run.{endedOf, Ended, noFigures, passEnds}
-use Rattle.rules.specs.Theorems.{Accepted}
+use Rattle.rules.specs.Theorems.{Sound}
 use Rattle.rules.proofs.Count.{bit-most, total-upTo, largest-upTo}
+use Rattle.rules.proofs.SoundJob.{sound}
 use Rattle.rules.proofs.Verdicts.{zero-of}
-use Rattle.rules.proofs.Proved.{accepted, answers}
+use Rattle.rules.proofs.Proved.{lent-six, answers}
+use Rattle.job.specs.Survey.{checkFor}
 use Rattle.job.specs.declared.figures.Survey.{Survey}
 use Rattle.tables.specs.LayingOut.{LaysOut}
-use Rattle.tables.proofs.Accepted.{Narrow, verdict-is, survey-is}
-use Rattle.split.specs.declared.choice.Window.{Window}
+use Rattle.tables.proofs.Accepted.{Narrow, verdict-is, survey-is, let-through}
+use Rattle.choice.specs.declared.window.Window.{Window}
 use Rattle.split.specs.declared.progress.Progress.{Progress}
-use Rattle.split.specs.Choosing.{windowOf}
+use Rattle.choice.specs.Choosing.{windowOf}
 use Rattle.split.specs.Moving.{begun}
 use Rattle.split.specs.Playing.{passLeft}
 use Rattle.split.proofs.Playable.{Playable, sizeAtStart, cutAtStart}
@@ -48,37 +51,28 @@ module _ (job : Job) (two : (i : ℕ) → sizeOf job i < 65536) where
   smax-most = largest-most (λ f. bit (isFree job f) * sizeOf job f) (λ f. omega (arith, bit-most (isFree job f) (sizeOf job f), two f)) (fileCount job)
 
 -- s answers for the job and the lists lent, and g and z are then the gains and the scratch; sizes are two-byte numbers
-pub record Accepting (most : Limits) (job : Job) (l : Lent) (g : List ℤ) (z : List ℕ) (s : Survey) : Type 0 where
+pub record Accepting (balancing : Bool) (most : Limits) (job : Job) (l : Lent) (g : List ℤ) (z : List ℕ) (s : Survey) : Type 0 where
   pub narrow : Narrow most
   pub sizes : (i : ℕ) → sizeOf job i < 65536
-  pub lays : LaysOut most job (fits job l) (l .gains) (l .scratch) g z s
+  pub lays : LaysOut balancing most job (fits job l) (l .gains) (l .scratch) g z s
 
 -- from what the step promises
-pub accepting : (most : Limits) (job : Job) (l : Lent) {g : List ℤ} {z : List ℕ} {s : Survey} → LaysOut most job (fits job l) (l .gains) (l .scratch) g z s
-    → Narrow most → ((i : ℕ) → sizeOf job i < 65536) → Accepting most job l g z s
-accepting most job l lays narrow sizes = record { narrow = narrow; sizes = sizes; lays = lays }
+pub accepting : (balancing : Bool) (most : Limits) (job : Job) (l : Lent) {g : List ℤ} {z : List ℕ} {s : Survey} → LaysOut balancing most job (fits job l) (l .gains) (l .scratch) g z s
+    → Narrow most → ((i : ℕ) → sizeOf job i < 65536) → Accepting balancing most job l g z s
+accepting balancing most job l lays narrow sizes = record { narrow = narrow; sizes = sizes; lays = lays }
 
-module _ {most : Limits} {job : Job} {l : Lent} {g : List ℤ} {z : List ℕ} {s : Survey} (a : Accepting most job l g z s) where
-  told : s .verdict ≡ check most job (fits job l)
-  told = ap (λ (x : Survey). x .verdict) (a .lays .answer) ∙ verdict-is most job (fits job l)
-
-  -- ---- refused
-
-  pub pass-refused : {r : Figures} → s .verdict .number ≢ 0 → r ≡ noFigures (s .verdict)
-      → endedOf r (job .sides) (lentOf g (l .tried) (l .gained) (l .cuts) (l .ends) (l .recipes) (l .kinds) z) ≡ passEnds most job l
-  pass-refused n e =
-      let refuses : check most job (fits job l) .number ≢ 0 = λ q. n (ap (λ (v : Verdict). v .number) told ∙ q) in
-      let stay = a .lays .refused n in
-      rw (stay .0, stay .1, e, told) (sym (answers most job l .passRefused refuses))
+module _ {balancing : Bool} {most : Limits} {job : Job} {l : Lent} {g : List ℤ} {z : List ℕ} {s : Survey} (a : Accepting balancing most job l g z s) where
+  pub told : s .verdict ≡ checkFor balancing most job (fits job l)
+  told = ap (λ (x : Survey). x .verdict) (a .lays .answer) ∙ verdict-is balancing most job (fits job l)
 
   -- ---- let through
 
   module _ (d : s .verdict .number ≡ 0) where
-    check-done : check most job (fits job l) .number ≡ 0
+    pub check-done : checkFor balancing most job (fits job l) .number ≡ 0
     check-done = zero-of told d
 
-    found : s ≡ record { verdict = check most job (fits job l); weight = weight job; largest = smax job; size = sizeAtStart job; cut = cutAtStart job }
-    found = a .lays .answer ∙ survey-is most job (fits job l) check-done
+    found : s ≡ record { verdict = checkFor balancing most job (fits job l); weight = weight job; largest = smax job; size = sizeAtStart job; cut = cutAtStart job }
+    found = a .lays .answer ∙ survey-is balancing most job (fits job l) check-done
 
     pub cut-is : s .cut ≡ cutAtStart job
     cut-is = ap (λ (x : Survey). x .cut) found
@@ -86,35 +80,48 @@ module _ {most : Limits} {job : Job} {l : Lent} {g : List ℤ} {z : List ℕ} {s
     pub begins-as : {p : Progress} → p ≡ begun (s .size) (s .cut) → p ≡ begun (sizeAtStart job) (cutAtStart job)
     begins-as e = e ∙ ap (λ (x : Survey). begun (x .size) (x .cut)) found
 
-    pub pass-done : {x : Ended Figures} → x ≡ passLeft job l → x ≡ passEnds most job l
-    pass-done e = e ∙ sym (answers most job l .passDone check-done)
+    -- it passed 1 to 6
+    six-done : check1to6 most job (fits job l) .number ≡ 0
+    six-done = let-through balancing most job (fits job l) (a .lays .answer) d
 
-    job-is : Accepted most job
-    job-is = accepted most job (fits job l) check-done
+    sound-is : Sound most job
+    sound-is = sound most job (fits job l) six-done
 
-    weight-small : weight job < 2 ^ 40
-    weight-small = omega (arith, weight-most job (a .sizes), job-is .sound .fewFiles, a .narrow .files)
+    weight-small : weight job < 2 ^ 32
+    weight-small = omega (arith, weight-most job (a .sizes), sound-is .fewFiles, a .narrow .files)
 
-    pub sums-small : (s .weight < 2 ^ 40) × (s .largest < 2 ^ 40)
+    pub sums-small : (s .weight < 2 ^ 32) × (s .largest < 2 ^ 32)
     sums-small =
         (omega (arith, ap (λ (x : Survey). x .weight) found, weight-small), omega (arith, ap (λ (x : Survey). x .largest) found, smax-most job (a .sizes)))
 
     pub playable : {w : Window} → w ≡ windowOf job (s .weight) (s .largest) → Playable job l w
     playable e = record {
       most = most;
-      sound = job-is .sound;
+      sound = sound-is;
       small = record {
-        files = omega (arith, job-is .sound .fewFiles, a .narrow .files);
-        bounds = omega (arith, job-is .sound .fewRecipes, a .narrow .recipes);
-        pins = omega (arith, job-is .sound .fewPins, a .narrow .pins);
-        scans = omega (arith, job-is .sound .fewRecipes, a .narrow .recipes);
+        files = omega (arith, sound-is .fewFiles, a .narrow .files);
+        bounds = omega (arith, sound-is .fewRecipes, a .narrow .recipes);
+        pins = omega (arith, sound-is .fewPins, a .narrow .pins);
+        scans = omega (arith, sound-is .fewRecipes, a .narrow .recipes);
         weight = weight-small;
       };
-      fitting = answers most job l .fitting check-done;
+      fitting = lent-six most job (fits job l) six-done;
       measured = record {
         den = ap (λ (w : Window). w .den) e;
         aim = ap (λ (w : Window). w .aim) e ∙ ap (λ (x : Survey). job .num * x .weight) found;
         span = ap (λ (w : Window). w .span) e ∙ ap (λ (x : Survey). job .den * x .largest) found;
-        small = omega (arith, job-is .ratio .2, a .narrow .den);
       };
     }
+
+-- ---- a pass
+
+module _ {most : Limits} {job : Job} {l : Lent} {g : List ℤ} {z : List ℕ} {s : Survey} (a : Accepting false most job l g z s) where
+  pub pass-refused : {r : Figures} → s .verdict .number ≢ 0 → r ≡ noFigures (s .verdict)
+      → endedOf r (job .sides) (lentOf g (l .tried) (l .gained) (l .cuts) (l .ends) (l .recipes) (l .kinds) z) ≡ passEnds most job l
+  pass-refused n e =
+      let refuses : check most job (fits job l) .number ≢ 0 = λ q. n (ap (λ (v : Verdict). v .number) (told a) ∙ q) in
+      let stay = a .lays .refused n in
+      rw (stay .0, stay .1, e, told a) (sym (answers most job l .passRefused refuses))
+
+  pub pass-done : {x : Ended Figures} → s .verdict .number ≡ 0 → x ≡ passLeft job l → x ≡ passEnds most job l
+  pass-done d e = e ∙ sym (answers most job l .passDone (check-done a d))

@@ -11,7 +11,7 @@ use Rattle.rules.specs.Lists.{bestUpTo}
 use Rattle.rules.specs.Job.{Job, recipes}
 use Rattle.rules.specs.Move.{after}
 use Rattle.rules.specs.Split.{cut}
-use Rattle.rules.specs.Pass.{cutAt, keeps, tries}
+use Rattle.rules.specs.Pass.{cutAt, keeps}
 use Rattle.rules.proofs.Searches.{best-le}
 use Rattle.split.specs.declared.progress.Progress.{Progress}
 use Rattle.split.specs.Moving.{countedOn}
@@ -26,33 +26,33 @@ best-same cost cost' (suc n) p =
     ∙ ap₂ (λ (x y : ℕ). cond (ltb x y) (suc n) (bestUpTo cost' n)) (p (suc n) (omega arith)) (p (bestUpTo cost' n) (omega (arith, best-le cost' n)))
 
 -- the cut after each prefix of all moves
-abbrev pub costs : Job → ℕ → ℕ
-costs job = cutAt (recipes job) (begins job) (tries job (job .sides))
+abbrev pub costs : Job → List ℕ → ℕ → ℕ
+costs job ms = cutAt (recipes job) (begins job) ms
 
-pub cost-now : (job : Job) (k : ℕ) → costs job k ≡ cut (stands job k .sides) (recipes job)
+pub cost-now : (job : Job) (ms : List ℕ) (k : ℕ) → costs job ms k ≡ cut (stands job ms k .sides) (recipes job)
 unfolding cutAt
-cost-now job k = refl
+cost-now job ms k = refl
 
-module _ (job : Job) (k : ℕ) where
-  pub cost-made : (i : ℕ) → i ≤ k → cutAt (recipes job) (begins job) (made job k) i ≡ costs job i
+module _ (job : Job) (ms : List ℕ) (k : ℕ) where
+  pub cost-made : (i : ℕ) → i ≤ k → cutAt (recipes job) (begins job) (made ms k) i ≡ costs job ms i
   unfolding cutAt
-  cost-made i h = ap (λ (ms : List ℕ). cut (after (begins job) ms .sides) (recipes job)) (take-take i k (tries job (job .sides)) h)
+  cost-made i h = ap (λ (ms : List ℕ). cut (after (begins job) ms .sides) (recipes job)) (take-take i k ms h)
 
-  module _ (few : k ≤ length (tries job (job .sides))) where
-    pub made-length : length (made job k) ≡ k
-    made-length = length-take-le k (tries job (job .sides)) few
+  module _ (few : k ≤ length ms) where
+    pub made-length : length (made ms k) ≡ k
+    made-length = length-take-le k ms few
 
     -- the prefix kept of the first k moves is the best of the first k prefixes
-    pub keeps-made : keeps (recipes job) (begins job) (made job k) ≡ bestUpTo (costs job) k
+    pub keeps-made : keeps (recipes job) (begins job) (made ms k) ≡ bestUpTo (costs job ms) k
     unfolding keeps
     keeps-made =
-        ap (λ (n : ℕ). bestUpTo (cutAt (recipes job) (begins job) (made job k)) n) made-length
-        ∙ best-same (cutAt (recipes job) (begins job) (made job k)) (costs job) k cost-made
+        ap (λ (n : ℕ). bestUpTo (cutAt (recipes job) (begins job) (made ms k)) n) made-length
+        ∙ best-same (cutAt (recipes job) (begins job) (made ms k)) (costs job ms) k cost-made
 
-    pub least-made : cutAt (recipes job) (begins job) (made job k) (keeps (recipes job) (begins job) (made job k)) ≡ costs job (bestUpTo (costs job) k)
+    pub least-made : cutAt (recipes job) (begins job) (made ms k) (keeps (recipes job) (begins job) (made ms k)) ≡ costs job ms (bestUpTo (costs job ms) k)
     least-made =
-        ap (λ (i : ℕ). cutAt (recipes job) (begins job) (made job k) i) keeps-made
-        ∙ cost-made (bestUpTo (costs job) k) (best-le (costs job) k)
+        ap (λ (i : ℕ). cutAt (recipes job) (begins job) (made ms k) i) keeps-made
+        ∙ cost-made (bestUpTo (costs job ms) k) (best-le (costs job ms) k)
 
 -- one move more
 module _ (cost : ℕ → ℕ) (k : ℕ) (p : Progress) (cutNow : p .cut ≡ cost (suc k)) (moves : p .moves ≡ k)

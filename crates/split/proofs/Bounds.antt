@@ -1,4 +1,4 @@
--- What keeps a pass in progress within its lists and numbers. Assumes nothing.
+-- What keeps moves within their lists and numbers. Assumes nothing.
 use mathlib.Core.Path.{_≡_, refl, ap, _∙_}
 use Prim.Native.Nat.{ℕ, suc, _+_, _*_, _≤_, _<_}
 use mathlib.Core.Bool.{Bool, true, false, cond}
@@ -9,11 +9,10 @@ use lib.Dec.{eqb}
 use lib.IntN.{ℤ, pos, negsuc, _-ℤ_}
 use lib.ListN.{length, getD, length-map, List·getD-eq-default}
 use Rattle.rules.specs.Lists.{upTo, diff}
-use Rattle.rules.specs.Job.{Job, Limits, fileCount, recipeCount, pinCount, views, recipes, Lent, fits}
+use Rattle.rules.specs.Job.{Job, fileCount, recipeCount, pinCount, views, recipes, Lent, fits}
 use Rattle.rules.specs.Split.{isCut, cut, holds, gain, weight, sizeA}
 use Rattle.rules.specs.Move.{State, free, moved, scans, endsFrom, visits}
 use Rattle.rules.specs.Pass.{gainsWhen, cutsAfter, standing, gainsAfter}
-use Rattle.rules.specs.Theorems.{Sound}
 use Rattle.rules.proofs.Fits.{LongEnough, long-enough}
 use Rattle.rules.proofs.Count.{getD-tabled, length-tabled, count-le}
 use Rattle.rules.proofs.Signed.{up, down, abs, diff-key}
@@ -24,7 +23,7 @@ use Rattle.rules.proofs.FourScans.{all-scans, all-visits}
 use Rattle.rules.proofs.Sizes.{sizes-add, gain-abs}
 use Rattle.rules.proofs.SoundJob.{recipes-distinct, recipes-length, views-total}
 use Rattle.split.specs.Moving.{Board}
-use Rattle.split.proofs.Going.{begins, made, stands, Going}
+use Rattle.split.proofs.Going.{begins, made, stands, Line, Going}
 use Rattle.split.proofs.NextMove.{Next, stands-long, stands-binary, made-free, few-moves}
 use Rattle.split.proofs.BestSoFar.{made-length}
 use Rattle.split.proofs.ChoiceNow.{gainsNow, gains-long, gains-fresh}
@@ -58,36 +57,36 @@ unfolding diff
 cut-crossed a b (pos n) e = omega (arith, ap up e, ap down e, diff-key a n)
 cut-crossed a b (negsuc n) e = omega (arith, ap up e)
 
-module _ (most : Limits) (job : Job) (s : Sound most job) (k : ℕ) where
-  pub gain-near : (f : ℕ) → abs (getD (gainsNow job k) f (pos 0)) ≤ recipeCount job
+module _ {job : Job} {ms : List ℕ} (v : Line job ms) (k : ℕ) where
+  pub gain-near : (f : ℕ) → abs (getD (gainsNow job ms k) f (pos 0)) ≤ recipeCount job
   gain-near f =
-      rw (gains-kept (recipes job) (recipes-distinct most job s) (fileCount job) (begins job) (made job k) (made-free most job s k) (s .binary))
-      (omega (arith, gains-abs (recipes job) (fileCount job) (begins job) (made job k) f, recipes-length most job s))
+      rw (gains-kept (recipes job) (recipes-distinct (v .most) job (v .sound)) (fileCount job) (begins job) (made ms k) (made-free v k) (v .sound .binary))
+      (omega (arith, gains-abs (recipes job) (fileCount job) (begins job) (made ms k) f, recipes-length (v .most) job (v .sound)))
 
-  pub cut-few : cut (stands job k .sides) (recipes job) ≤ recipeCount job
+  pub cut-few : cut (stands job ms k .sides) (recipes job) ≤ recipeCount job
   unfolding cut
-  cut-few = omega (arith, count-le (isCut (stands job k .sides)) (recipes job), recipes-length most job s)
+  cut-few = omega (arith, count-le (isCut (stands job ms k .sides)) (recipes job), recipes-length (v .most) job (v .sound))
 
-  pub size-few : sizeA job (stands job k .sides) ≤ weight job
-  size-few = omega (arith, sizes-add job (stands job k .sides) (stands-binary most job s k))
+  pub size-few : sizeA job (stands job ms k .sides) ≤ weight job
+  size-few = omega (arith, sizes-add job (stands job ms k .sides) (stands-binary v k))
 
-  pub scans-few : length (scans (recipes job) (begins job) (made job k)) ≤ 4 * recipeCount job
-  scans-few = rw (← recipes-length most job s) (all-scans (recipes job) (recipes-distinct most job s) (begins job) (made job k) (made-free most job s k) (s .binary))
+  pub scans-few : length (scans (recipes job) (begins job) (made ms k)) ≤ 4 * recipeCount job
+  scans-few = rw (← recipes-length (v .most) job (v .sound)) (all-scans (recipes job) (recipes-distinct (v .most) job (v .sound)) (begins job) (made ms k) (made-free v k) (v .sound .binary))
 
-  pub visits-few : visits (views job) (scans (recipes job) (begins job) (made job k)) ≤ 4 * pinCount job
+  pub visits-few : visits (views job) (scans (recipes job) (begins job) (made ms k)) ≤ 4 * pinCount job
   visits-few =
-      rw (← views-total most job s)
-      (all-visits (recipes job) (recipes-distinct most job s) (begins job) (made job k) (made-free most job s k) (s .binary) (views job) refl)
+      rw (← views-total (v .most) job (v .sound))
+      (all-visits (recipes job) (recipes-distinct (v .most) job (v .sound)) (begins job) (made ms k) (made-free v k) (v .sound .binary) (views job) refl)
 
   -- the gain listed of the next move is its gain, and takes from the cut no more than it has
-  pub gain-now : (f : ℕ) → Next job k f → getD (gainsNow job k) f (pos 0) ≡ gain (stands job k .sides) (recipes job) f
-  gain-now f n = gains-fresh most job s k f (rw (gains-long most job s k) (n .below)) (n .free)
+  pub gain-now : (f : ℕ) → Next job ms k f → getD (gainsNow job ms k) f (pos 0) ≡ gain (stands job ms k .sides) (recipes job) f
+  gain-now f n = gains-fresh v k f (rw (gains-long v k) (n .below)) (n .free)
 
-  pub cut-next : (f : ℕ) → Next job k f
-      → cut (stands job k .sides) (recipes job) + down (getD (gainsNow job k) f (pos 0)) ≡ cut (moved (stands job k) f .sides) (recipes job) + up (getD (gainsNow job k) f (pos 0))
+  pub cut-next : (f : ℕ) → Next job ms k f
+      → cut (stands job ms k .sides) (recipes job) + down (getD (gainsNow job ms k) f (pos 0)) ≡ cut (moved (stands job ms k) f .sides) (recipes job) + up (getD (gainsNow job ms k) f (pos 0))
   cut-next f n =
-      cut-crossed (cut (stands job k .sides) (recipes job)) (cut (moved (stands job k) f .sides) (recipes job)) (getD (gainsNow job k) f (pos 0))
-      (rw (gain-now f n) (cut-moved (recipes job) (recipes-distinct most job s) (stands job k) f (n .moves)))
+      cut-crossed (cut (stands job ms k .sides) (recipes job)) (cut (moved (stands job ms k) f .sides) (recipes job)) (getD (gainsNow job ms k) f (pos 0))
+      (rw (gain-now f n) (cut-moved (recipes job) (recipes-distinct (v .most) job (v .sound)) (stands job ms k) f (n .moves)))
 
 -- ---- the lists of a pass in progress are as long as lent
 
@@ -102,29 +101,29 @@ pub record BoardLong (job : Job) (l : Lent) (b : Board) : Type 0 where
   pub scannedKinds : length (b .rest .scanned .kinds) ≡ length (l .kinds)
   pub scratch : length (b .rest .scratch) ≡ length (l .scratch)
 
-pub board-long : (most : Limits) (job : Job) → Sound most job → {l : Lent} → fits job l ≡ true → {k : ℕ} {b : Board} → Going job l k b → BoardLong job l b
-board-long most job s {l} ok {k} {b} g =
+pub board-long : {job : Job} {ms : List ℕ} → Line job ms → {l : Lent} → fits job l ≡ true → {k : ℕ} {b : Board} → Going job ms l k b → BoardLong job l b
+board-long {job} {ms} v {l} ok {k} {b} g =
     let r : LongEnough job l = long-enough job l ok in
     let rs : List (List ℕ) = recipes job in
-    let ms : List ℕ = made job k in
-    let few : length ms ≤ fileCount job = omega (arith, made-length job k (g .few), g .few, few-moves most job s) in
-    let some = scans-few most job s k in
+    let now : List ℕ = made ms k in
+    let few : length now ≤ fileCount job = omega (arith, made-length job ms k (g .few), g .few, few-moves v) in
+    let some = scans-few v k in
     record {
-      sides = ap length (g .sides) ∙ stands-long most job s k .sides;
-      gains = ap length (g .gains) ∙ gains-long most job s k;
-      tried = ap length (g .tried) ∙ onto-length 0 ms (l .tried) (omega arith);
-      gained = ap length (g .gained) ∙ onto-length (pos 0) (gainsWhen rs (begins job) ms) (l .gained) (rw gains-length (omega arith));
-      cuts = ap length (g .cuts) ∙ onto-length 0 (cutsAfter rs (begins job) ms) (l .cuts) (rw cuts-length (omega arith));
-      scansSoFar = ap length (g .scansSoFar) ∙ onto-length 0 (endsFrom rs 0 (begins job) ms) (l .ends) (rw ends-length (omega arith));
-      scannedRecipes = ap length (g .scannedRecipes) ∙ onto-length 0 (map (λ c. c .recipe) (scans rs (begins job) ms)) (l .recipes) (rw length-map (omega arith));
-      scannedKinds = ap length (g .scannedKinds) ∙ onto-length 0 (map (λ c. c .kind) (scans rs (begins job) ms)) (l .kinds) (rw length-map (omega arith));
+      sides = ap length (g .sides) ∙ stands-long v k .sides;
+      gains = ap length (g .gains) ∙ gains-long v k;
+      tried = ap length (g .tried) ∙ onto-length 0 now (l .tried) (omega arith);
+      gained = ap length (g .gained) ∙ onto-length (pos 0) (gainsWhen rs (begins job) now) (l .gained) (rw gains-length (omega arith));
+      cuts = ap length (g .cuts) ∙ onto-length 0 (cutsAfter rs (begins job) now) (l .cuts) (rw cuts-length (omega arith));
+      scansSoFar = ap length (g .scansSoFar) ∙ onto-length 0 (endsFrom rs 0 (begins job) now) (l .ends) (rw ends-length (omega arith));
+      scannedRecipes = ap length (g .scannedRecipes) ∙ onto-length 0 (map (λ c. c .recipe) (scans rs (begins job) now)) (l .recipes) (rw length-map (omega arith));
+      scannedKinds = ap length (g .scannedKinds) ∙ onto-length 0 (map (λ c. c .kind) (scans rs (begins job) now)) (l .kinds) (rw length-map (omega arith));
       scratch = g .long;
     }
 
 -- ---- what a move needs
 
 -- the lists have a place for move k, the gains and the cut fit, and the scans and visits of move k will
-pub record Safe (job : Job) (k f : ℕ) (b : Board) : Type 0 where
+pub record Safe (job : Job) (ms : List ℕ) (k f : ℕ) (b : Board) : Type 0 where
   pub tried : k < length (b .tried)
   pub gained : k < length (b .gained)
   pub cuts : k < length (b .cuts)
@@ -135,18 +134,18 @@ pub record Safe (job : Job) (k f : ℕ) (b : Board) : Type 0 where
   pub size : b .rest .scanned .progress .size ≤ weight job
   pub few : b .rest .scanned .progress .cut ≤ recipeCount job
   pub falls : up (getD (b .rest .scanned .gains) f (pos 0)) ≤ b .rest .scanned .progress .cut
-  pub scanning : length (scans (recipes job) (begins job) (made job (suc k))) ≤ 4 * recipeCount job
-  pub visiting : visits (views job) (scans (recipes job) (begins job) (made job (suc k))) ≤ 4 * pinCount job
+  pub scanning : length (scans (recipes job) (begins job) (made ms (suc k))) ≤ 4 * recipeCount job
+  pub visiting : visits (views job) (scans (recipes job) (begins job) (made ms (suc k))) ≤ 4 * pinCount job
 
 up-le : (a b : ℕ) (g : ℤ) → a + down g ≡ b + up g → up g ≤ a
 up-le a b (pos n) e = omega arith
 up-le a b (negsuc n) e = omega arith
 
-pub safe : (most : Limits) (job : Job) → Sound most job → recipeCount job ≤ 65536 → {l : Lent} → fits job l ≡ true
-    → {k f : ℕ} {b : Board} → Going job l k b → Next job k f → Safe job k f b
-safe most job s small {l} ok {k} {f} {b} g n =
+pub safe : {job : Job} {ms : List ℕ} → Line job ms → recipeCount job ≤ 65536 → {l : Lent} → fits job l ≡ true
+    → {k f : ℕ} {b : Board} → Going job ms l k b → Next job ms k f → Safe job ms k f b
+safe {job} {ms} v small {l} ok {k} {f} {b} g n =
     let r : LongEnough job l = long-enough job l ok in
-    let m : BoardLong job l b = board-long most job s ok g in
+    let m : BoardLong job l b = board-long v ok g in
     let early : k < fileCount job = n .early in
     record {
       tried = omega (arith, m .tried, r .tried);
@@ -155,12 +154,12 @@ safe most job s small {l} ok {k} {f} {b} g n =
       scansSoFar = omega (arith, m .scansSoFar, r .scansSoFar);
       scannedRecipes = omega (arith, m .scannedRecipes, r .scannedRecipes);
       scannedKinds = omega (arith, m .scannedKinds, r .scannedKinds);
-      near = λ x. rw (g .gains) (omega (arith, gain-near most job s k x));
-      size = rw (g .progress .size) (size-few most job s k);
-      few = rw (g .progress .cutNow) (cut-few most job s k);
+      near = λ x. rw (g .gains) (omega (arith, gain-near v k x));
+      size = rw (g .progress .size) (size-few v k);
+      few = rw (g .progress .cutNow) (cut-few v k);
       falls =
           rw (g .gains, g .progress .cutNow)
-          (up-le (cut (stands job k .sides) (recipes job)) (cut (moved (stands job k) f .sides) (recipes job)) (getD (gainsNow job k) f (pos 0)) (cut-next most job s k f n));
-      scanning = scans-few most job s (suc k);
-      visiting = visits-few most job s (suc k);
+          (up-le (cut (stands job ms k .sides) (recipes job)) (cut (moved (stands job ms k) f .sides) (recipes job)) (getD (gainsNow job ms k) f (pos 0)) (cut-next v k f n));
+      scanning = scans-few v (suc k);
+      visiting = visits-few v (suc k);
     }

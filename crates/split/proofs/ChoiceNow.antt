@@ -1,4 +1,4 @@
--- The choice by the lists of a pass in progress is the choice of document 01. Assumes nothing.
+-- The choice by the lists, whatever moves were made before, is the choice of document 01. Assumes nothing.
 use mathlib.Core.Path.{_≡_, refl, sym, ap, ap₂, _∙_}
 use Prim.Native.Nat.{ℕ, zero, suc, _+_, _-_, _*_, _≤_, _<_}
 use mathlib.Core.Bool.{Bool, true, false, not, _&&_, _||_}
@@ -10,24 +10,23 @@ use lib.IntN.{ℤ, pos}
 use lib.Signed.{ltZ}
 use lib.ListN.{length, getD, take}
 use borrow.Author.Tests.{leb-true, leb-false, le-leb, lt-leb, eqb-true, ne-eqb}
-use Rattle.rules.specs.Lists.{bit, total, upTo}
-use Rattle.rules.specs.Job.{Job, Limits, fileCount, pinCount, files, recipes, Lent}
-use Rattle.rules.specs.Split.{sideOf, onSide, sizeOf, weight, smax, sizeOn, sizeA, inWindow, balanced}
+use Rattle.rules.specs.Lists.{bit}
+use Rattle.rules.specs.Job.{Job, fileCount, recipes, Lent}
+use Rattle.rules.specs.Split.{sideOf, sizeOf, weight, smax, sizeA, inWindow, balanced}
 use Rattle.rules.specs.Move.{lockOf, free, distance, sizeAfter, legal, distAfter, better, choose}
 use Rattle.rules.specs.Pass.{gainsAfter, startGains}
-use Rattle.rules.specs.Theorems.{Sound}
 use Rattle.rules.proofs.Tests.{and-yes}
-use Rattle.rules.proofs.Count.{hit-eq, total-upTo, length-tabled}
+use Rattle.rules.proofs.Count.{length-tabled}
 use Rattle.rules.proofs.First.{first-same}
 use Rattle.rules.proofs.Sizes.{size-after}
 use Rattle.rules.proofs.SoundJob.{recipes-distinct}
 use Rattle.rules.proofs.MovesEnd.{StateLong}
 use Rattle.rules.proofs.GainKept.{Fresh, keptUp, kept-length, gain-kept, start-fresh}
 use Rattle.rules.proofs.Choice.{choose-listed}
-use Rattle.split.specs.declared.choice.Window.{Window}
-use Rattle.split.specs.Choosing.{sizeBy, distIn, legalIn, Holds, chosenIn}
+use Rattle.choice.specs.declared.window.Window.{Window}
+use Rattle.choice.specs.Choosing.{sizeBy, distIn, legalIn, chosenIn}
 use Rattle.split.specs.Moving.{Board}
-use Rattle.split.proofs.Going.{begins, made, stands, Going}
+use Rattle.split.proofs.Going.{begins, made, stands, Line, Going}
 use Rattle.split.proofs.NextMove.{stands-long, stands-binary, made-free}
 
 -- ---- balanced is near enough
@@ -50,91 +49,73 @@ size-by zero z a a' h e = omega arith
 size-by (suc zero) z a a' h e = omega arith
 size-by (suc (suc side)) z a a' h e = absurd (omega arith)
 
--- ---- A holds each of its files
-
-entry-le : (w : ℕ → ℕ) (n f : ℕ) → f < n → w f ≤ total w (upTo n)
-entry-le w zero f h = absurd (omega arith)
-entry-le w (suc n) f h = elim (ℕ-discrete f n) [
-  | yes e ↦ omega (arith, ap w e, total-upTo w n)
-  | no z ↦ omega (arith, entry-le w n f (omega arith), total-upTo w n)
-]
-
-pub size-holds : (job : Job) (sides : List ℕ) → Holds (sizeA job sides) (job .sizes) sides
-unfolding sizeOn files
-size-holds job sides f h e =
-    omega (arith, entry-le (λ x. bit (onSide sides 0 x) * sizeOf job x) (fileCount job) f h, ap (λ (n : ℕ). n * sizeOf job f) (hit-eq e))
-
 -- ---- the choice by the lists is the choice
 
 -- the gain list after the first k moves, as the scans keep it
-abbrev pub gainsNow : Job → ℕ → List ℤ
-gainsNow job k = keptUp (recipes job) (begins job) (made job k) (startGains (recipes job) (fileCount job) (begins job))
+abbrev pub gainsNow : Job → List ℕ → ℕ → List ℤ
+gainsNow job ms k = keptUp (recipes job) (begins job) (made ms k) (startGains (recipes job) (fileCount job) (begins job))
 
-module _ (most : Limits) (job : Job) (s : Sound most job) (k : ℕ) where
-  pub size-moved-by : (f : ℕ) → f < fileCount job → lockOf (stands job k) f ≡ 0
-      → sizeBy (sizeA job (stands job k .sides)) (sideOf (stands job k .sides) f) (sizeOf job f) ≡ sizeAfter job (stands job k) f
+module _ {job : Job} {ms : List ℕ} (v : Line job ms) (k : ℕ) where
+  pub size-moved-by : (f : ℕ) → f < fileCount job → lockOf (stands job ms k) f ≡ 0
+      → sizeBy (sizeA job (stands job ms k .sides)) (sideOf (stands job ms k .sides) f) (sizeOf job f) ≡ sizeAfter job (stands job ms k) f
   size-moved-by f h e =
-      let long : StateLong (fileCount job) (stands job k) = stands-long most job s k in
-      size-by (sideOf (stands job k .sides) f) (sizeOf job f) (sizeA job (stands job k .sides)) (sizeAfter job (stands job k) f) (stands-binary most job s k f)
-      (size-after job (stands job k) f (omega arith) (omega arith) e (stands-binary most job s k) h)
+      let long : StateLong (fileCount job) (stands job ms k) = stands-long v k in
+      size-by (sideOf (stands job ms k .sides) f) (sizeOf job f) (sizeA job (stands job ms k .sides)) (sizeAfter job (stands job ms k) f) (stands-binary v k f)
+      (size-after job (stands job ms k) f (omega arith) (omega arith) e (stands-binary v k) h)
 
-  pub gains-long : length (gainsNow job k) ≡ fileCount job
+  pub gains-long : length (gainsNow job ms k) ≡ fileCount job
   unfolding gainsAfter
-  gains-long = kept-length (recipes job) (recipes-distinct most job s) (begins job) (made job k) _ ∙ length-tabled _ (fileCount job)
+  gains-long = kept-length (recipes job) (recipes-distinct (v .most) job (v .sound)) (begins job) (made ms k) _ ∙ length-tabled _ (fileCount job)
 
-  pub gains-fresh : Fresh (recipes job) (stands job k) (gainsNow job k)
+  pub gains-fresh : Fresh (recipes job) (stands job ms k) (gainsNow job ms k)
   gains-fresh =
-      gain-kept (recipes job) (recipes-distinct most job s) (begins job) (made job k) (made-free most job s k) (s .binary)
-      (startGains (recipes job) (fileCount job) (begins job)) (start-fresh (recipes job) (recipes-distinct most job s) (fileCount job) (begins job))
+      gain-kept (recipes job) (recipes-distinct (v .most) job (v .sound)) (begins job) (made ms k) (made-free v k) (v .sound .binary)
+      (startGains (recipes job) (fileCount job) (begins job)) (start-fresh (recipes job) (recipes-distinct (v .most) job (v .sound)) (fileCount job) (begins job))
 
   module _ (w : Window) (den : w .den ≡ job .den) (aim : w .aim ≡ job .num * weight job) (span : w .span ≡ job .den * smax job) where
-    dist-same : (f : ℕ) → f < fileCount job → lockOf (stands job k) f ≡ 0
-        → distIn w (sizeA job (stands job k .sides)) (job .sizes) (stands job k .sides) f ≡ distAfter job (stands job k) f
+    dist-same : (f : ℕ) → f < fileCount job → lockOf (stands job ms k) f ≡ 0
+        → distIn w (sizeA job (stands job ms k .sides)) (job .sizes) (stands job ms k .sides) f ≡ distAfter job (stands job ms k) f
     unfolding distAfter
     dist-same f h e = ap₂ distance (ap₂ _*_ den (size-moved-by f h e)) aim
 
     legal-same : (f : ℕ) → f < fileCount job
-        → legalIn w (sizeA job (stands job k .sides)) (job .sizes) (stands job k .sides) (stands job k .locks) f ≡ legal job (stands job k) f
+        → legalIn w (sizeA job (stands job ms k .sides)) (job .sizes) (stands job ms k .sides) (stands job ms k .locks) f ≡ legal job (stands job ms k) f
     unfolding legal balanced
-    legal-same f h = elim (ℕ-discrete (lockOf (stands job k) f) 0) [
+    legal-same f h = elim (ℕ-discrete (lockOf (stands job ms k) f) 0) [
       | yes e ↦
-          ap (λ (b : Bool). free (stands job k) f && b)
+          ap (λ (b : Bool). free (stands job ms k) f && b)
           (ap₂ leb (dist-same f h e) span
-          ∙ (unfold distAfter in sym (window-near (job .num) (job .den) (weight job) (smax job) (sizeAfter job (stands job k) f))))
+          ∙ (unfold distAfter in sym (window-near (job .num) (job .den) (weight job) (smax job) (sizeAfter job (stands job ms k) f))))
       | no n ↦
-          let z : free (stands job k) f ≡ false = ne-eqb (lockOf (stands job k) f) 0 n in
-          ap (λ (b : Bool). b && leb (distIn w (sizeA job (stands job k .sides)) (job .sizes) (stands job k .sides) f) (w .span)) z
-          ∙ sym (ap (λ (b : Bool). b && inWindow (job .num) (job .den) (weight job) (smax job) (sizeAfter job (stands job k) f)) z)
+          let z : free (stands job ms k) f ≡ false = ne-eqb (lockOf (stands job ms k) f) 0 n in
+          ap (λ (b : Bool). b && leb (distIn w (sizeA job (stands job ms k .sides)) (job .sizes) (stands job ms k .sides) f) (w .span)) z
+          ∙ sym (ap (λ (b : Bool). b && inWindow (job .num) (job .den) (weight job) (smax job) (sizeAfter job (stands job ms k) f)) z)
     ]
 
-    choice-here : chosenIn w (sizeA job (stands job k .sides)) (job .sizes) (stands job k .sides) (stands job k .locks) (gainsNow job k) (fileCount job)
-        ≡ choose job (stands job k)
+    choice-here : chosenIn w (sizeA job (stands job ms k .sides)) (job .sizes) (stands job ms k .sides) (stands job ms k .locks) (gainsNow job ms k) (fileCount job)
+        ≡ choose job (stands job ms k)
     unfolding chosenIn
     choice-here =
-        first-same (legalIn w size (job .sizes) (stands job k .sides) (stands job k .locks)) (legal job (stands job k))
-        (better G (distIn w size (job .sizes) (stands job k .sides))) (better G (distAfter job (stands job k))) (fileCount job)
+        first-same (legalIn w size (job .sizes) (stands job ms k .sides) (stands job ms k .locks)) (legal job (stands job ms k))
+        (better G (distIn w size (job .sizes) (stands job ms k .sides))) (better G (distAfter job (stands job ms k))) (fileCount job)
         legal-same
         (λ f x h l p q. ap₂ (λ (y z : ℕ). ltZ (G x) (G f) || (not (ltZ (G f) (G x)) && ltb y z)) (dist-same f h (lock f p)) (dist-same x l (lock x q)))
-        ∙ choose-listed job (stands job k) (gainsNow job k) gains-long gains-fresh
+        ∙ choose-listed job (stands job ms k) (gainsNow job ms k) gains-long gains-fresh
       where
         size : ℕ
-        size = sizeA job (stands job k .sides)
+        size = sizeA job (stands job ms k .sides)
 
         G : ℕ → ℤ
-        G f = getD (gainsNow job k) f (pos 0)
+        G f = getD (gainsNow job ms k) f (pos 0)
 
-        lock : (f : ℕ) → legalIn w (sizeA job (stands job k .sides)) (job .sizes) (stands job k .sides) (stands job k .locks) f ≡ true → lockOf (stands job k) f ≡ 0
-        lock f p = eqb-true (lockOf (stands job k) f) 0 (and-yes (free (stands job k) f) (leb (distIn w (sizeA job (stands job k .sides)) (job .sizes) (stands job k .sides) f) (w .span)) p .0)
+        lock : (f : ℕ) → legalIn w (sizeA job (stands job ms k .sides)) (job .sizes) (stands job ms k .sides) (stands job ms k .locks) f ≡ true → lockOf (stands job ms k) f ≡ 0
+        lock f p = eqb-true (lockOf (stands job ms k) f) 0 (and-yes (free (stands job ms k) f) (leb (distIn w (sizeA job (stands job ms k .sides)) (job .sizes) (stands job ms k .sides) f) (w .span)) p .0)
 
     -- the choice by the lists
-    pub choice-now : {l : Lent} {b : Board} → Going job l k b
+    pub choice-now : {l : Lent} {b : Board} → Going job ms l k b
         → chosenIn w (b .rest .scanned .progress .size) (job .sizes) (b .sides) (take (fileCount job) (b .rest .scratch)) (b .rest .scanned .gains) (fileCount job)
-        ≡ choose job (stands job k)
+        ≡ choose job (stands job ms k)
     choice-now {l} {b} g =
         ap₂ (λ (a : ℕ) (x : List ℕ). chosenIn w a (job .sizes) x (take (fileCount job) (b .rest .scratch)) (b .rest .scanned .gains) (fileCount job)) (g .progress .size) (g .sides)
-        ∙ ap₂ (λ (y : List ℕ) (z : List ℤ). chosenIn w (sizeA job (stands job k .sides)) (job .sizes) (stands job k .sides) y z (fileCount job)) (g .locks) (g .gains)
+        ∙ ap₂ (λ (y : List ℕ) (z : List ℤ). chosenIn w (sizeA job (stands job ms k .sides)) (job .sizes) (stands job ms k .sides) y z (fileCount job)) (g .locks) (g .gains)
         ∙ choice-here
-
--- |A| in progress holds each of its files
-pub holds-now : {job : Job} {l : Lent} {k : ℕ} {b : Board} → Going job l k b → Holds (b .rest .scanned .progress .size) (job .sizes) (b .sides)
-holds-now {job} {k = k} g f h e = rw (g .progress .size) (size-holds job (stands job k .sides) f h (ap (λ (x : List ℕ). sideOf x f) (sym (g .sides)) ∙ e))

@@ -1,5 +1,7 @@
--- A pass before its first move. Assumes nothing.
+-- Before the first move. Assumes nothing.
 use mathlib.Core.Path.{sym, ap, _∙_}
+use Prim.Native.Nat.{ℕ}
+use mathlib.Core.List.{List}
 use native.Mathlib.Omega.{arith}
 use Rattle.rules.specs.Lists.{total, bestUpTo, onto}
 use Rattle.rules.specs.Job.{Job, recipes, Lent}
@@ -12,9 +14,9 @@ use Rattle.split.specs.Moving.{Board}
 use Rattle.split.proofs.Going.{begins, made, stands, Going}
 use Rattle.split.proofs.Treats.{Begun}
 
-pub goes-first : {job : Job} {l : Lent} {b : Board} → Begun job l b → Going job l 0 b
+pub goes-first : {job : Job} {ms : List ℕ} {l : Lent} {b : Board} → Begun job l b → Going job ms l 0 b
 unfolding stepsBy onto keptUp gainsWhen cutsAfter endsFrom scans keeps bestUpTo cutAt visits total
-goes-first {job} g = record {
+goes-first {job} {ms} g = record {
   few = omega arith;
   sides = g .sides;
   locks = g .locks;
@@ -36,10 +38,10 @@ goes-first {job} g = record {
     best = ap (λ (p : Progress). p .best) (g .progress);
     least =
         ap (λ (p : Progress). p .least) (g .progress)
-        ∙ sym (ap (λ (p : Progress). cutAt (recipes job) (begins job) (made job 0) (p .best)) (g .progress));
+        ∙ sym (ap (λ (p : Progress). cutAt (recipes job) (begins job) (made ms 0) (p .best)) (g .progress));
     atbest =
         ap (λ (p : Progress). p .atbest) (g .progress)
-        ∙ sym (ap (λ (p : Progress). sizeA job (stands job (p .best) .sides)) (g .progress));
+        ∙ sym (ap (λ (p : Progress). sizeA job (stands job ms (p .best) .sides)) (g .progress));
     scanned = ap (λ (p : Progress). p .scans) (g .progress);
     visited = ap (λ (p : Progress). p .visits) (g .progress);
   };

@@ -1,4 +1,4 @@
--- A pass after its last move: the figures are the pass's, the sides of the best prefix come back, and with zeros filled in the lists are those it leaves. Assumes nothing.
+-- After the last move: the figures are those of a pass with these moves, the sides of the best prefix come back, and with zeros filled in the lists are those it leaves. Assumes nothing.
 use mathlib.Core.Path.{_≡_, refl, sym, ap, ap₂, _∙_}
 use Prim.Native.Nat.{ℕ, zero, suc, _+_, _-_, _*_, _≤_, _<_}
 use mathlib.Core.List.{List, _++_, map}
@@ -8,11 +8,10 @@ use lib.IntN.{pos}
 use lib.ListN.{length, getD, take, drop, replicate, length-map}
 use lib.Seq.{take-length}
 use Rattle.rules.specs.Lists.{onto, listed}
-use Rattle.rules.specs.Job.{Job, Limits, fileCount, recipeCount, views, recipes, Lent, scratchFor}
+use Rattle.rules.specs.Job.{Job, fileCount, recipeCount, views, recipes, Lent, scratchFor}
 use Rattle.rules.specs.Split.{sizeA}
 use Rattle.rules.specs.Move.{State, Scan, scans, endsFrom, visits}
-use Rattle.rules.specs.Pass.{gainsWhen, cutsAfter, cutAt, keeps, gainsAfter, passOf, tries, pass, leaves}
-use Rattle.rules.specs.Theorems.{Sound}
+use Rattle.rules.specs.Pass.{gainsWhen, cutsAfter, cutAt, keeps, gainsAfter, passOf, leaves}
 use Rattle.rules.proofs.Entries.{onto-in}
 use Rattle.rules.proofs.MovesEnd.{StateLong}
 use Rattle.rules.proofs.GainKept.{gains-kept}
@@ -21,27 +20,27 @@ use Rattle.rules.proofs.Runs.{keeps-le}
 use Rattle.rules.proofs.SoundJob.{recipes-distinct}
 use Rattle.tables.specs.Ending.{turned, backTo}
 use Rattle.split.specs.Moving.{Board}
-use Rattle.split.proofs.Going.{begins, made, stands, Going}
+use Rattle.split.proofs.Going.{begins, made, stands, Line, Going}
 use Rattle.tables.specs.Clearing.{cleared}
 use Rattle.split.proofs.NextMove.{Next, next-at, stands-long, stands-binary, made-free, few-moves}
 use Rattle.split.proofs.Bounds.{scans-few}
 use Rattle.split.proofs.LentLists.{listed-of, listed-none}
 
 -- the moves beyond `best` taken back
-back-to : (most : Limits) (job : Job) → Sound most job → (tried : List ℕ) (best d : ℕ) → best + d ≤ length (tries job (job .sides))
-    → ((i : ℕ) → i < best + d → getD tried i 0 ≡ getD (tries job (job .sides)) i 0)
-    → backTo tried best d (stands job (best + d) .sides) ≡ stands job best .sides
+back-to : {job : Job} {ms : List ℕ} → Line job ms → (tried : List ℕ) (best d : ℕ) → best + d ≤ length ms
+    → ((i : ℕ) → i < best + d → getD tried i 0 ≡ getD ms i 0)
+    → backTo tried best d (stands job ms (best + d) .sides) ≡ stands job ms best .sides
 unfolding backTo
-back-to most job s tried best zero h e = ap (λ (i : ℕ). stands job i .sides) (add-zero best)
-back-to most job s tried best (suc d) h e =
+back-to {job} {ms} v tried best zero h e = ap (λ (i : ℕ). stands job ms i .sides) (add-zero best)
+back-to {job} {ms} v tried best (suc d) h e =
     let k : ℕ = best + d in
-    let f : ℕ = getD (tries job (job .sides)) k 0 in
-    let n : Next job k f = next-at most job s k (omega arith) in
-    let long : StateLong (fileCount job) (stands job k) = stands-long most job s k in
-    ap (λ (i : ℕ). backTo tried best d (turned (stands job i .sides) (getD tried k 0))) (add-suc best d)
+    let f : ℕ = getD ms k 0 in
+    let n : Next job ms k f = next-at v k (omega arith) in
+    let long : StateLong (fileCount job) (stands job ms k) = stands-long v k in
+    ap (λ (i : ℕ). backTo tried best d (turned (stands job ms i .sides) (getD tried k 0))) (add-suc best d)
     ∙ ap₂ (λ (st : State) (x : ℕ). backTo tried best d (turned (st .sides) x)) (n .then) (e k (omega arith))
-    ∙ ap (λ (x : List ℕ). backTo tried best d x) (move-back (stands job k) f (omega (arith, n .below, long .sides)) (stands-binary most job s k f))
-    ∙ back-to most job s tried best d (omega arith) (λ i l. e i (omega arith))
+    ∙ ap (λ (x : List ℕ). backTo tried best d x) (move-back (stands job ms k) f (omega (arith, n .below, long .sides)) (stands-binary v k f))
+    ∙ back-to v tried best d (omega arith) (λ i l. e i (omega arith))
 
 -- z filled in where the lists of the pass end
 fill-in {ℓ} : {A : Type ℓ} (n : ℕ) (z : A) (xs ys old now : List A) (k : ℕ) → now ≡ onto xs old → k ≡ length xs → xs ≡ ys → length ys ≤ n
@@ -49,90 +48,89 @@ fill-in {ℓ} : {A : Type ℓ} (n : ℕ) (z : A) (xs ys old now : List A) (k : �
 fill-in n z xs ys old now k e i m h = rw (e, i, m) (listed-of n z ys old h)
 
 -- what the end of a pass finds
-pub record Finished (job : Job) (l : Lent) (b : Board) : Type 0 where
+pub record Finished (job : Job) (ms : List ℕ) (l : Lent) (b : Board) : Type 0 where
   -- there is room for the zeros, and the moves beyond the best prefix are taken back
   pub early : b .rest .scanned .progress .moves ≤ fileCount job
   pub few : b .rest .scanned .progress .scans ≤ 4 * recipeCount job
   pub back : backTo (b .tried) (b .rest .scanned .progress .best) (b .rest .scanned .progress .moves - b .rest .scanned .progress .best) (b .sides)
-      ≡ pass job (job .sides) .sidesAfter
-  -- the figures are the pass's
-  pub best : b .rest .scanned .progress .best ≡ pass job (job .sides) .kept
-  pub least : b .rest .scanned .progress .least ≡ pass job (job .sides) .cutAfter
-  pub size : b .rest .scanned .progress .atbest ≡ pass job (job .sides) .sizeAfter
-  pub moves : b .rest .scanned .progress .moves ≡ length (pass job (job .sides) .tried)
-  pub scanned : b .rest .scanned .progress .scans ≡ length (pass job (job .sides) .scanned)
-  pub visited : b .rest .scanned .progress .visits ≡ pass job (job .sides) .visited
+      ≡ passOf job (job .sides) ms .sidesAfter
+  -- the figures are those of the pass
+  pub best : b .rest .scanned .progress .best ≡ passOf job (job .sides) ms .kept
+  pub least : b .rest .scanned .progress .least ≡ passOf job (job .sides) ms .cutAfter
+  pub size : b .rest .scanned .progress .atbest ≡ passOf job (job .sides) ms .sizeAfter
+  pub moves : b .rest .scanned .progress .moves ≡ length (passOf job (job .sides) ms .tried)
+  pub scanned : b .rest .scanned .progress .scans ≡ length (passOf job (job .sides) ms .scanned)
+  pub visited : b .rest .scanned .progress .visits ≡ passOf job (job .sides) ms .visited
   -- the lists end in zeros
-  pub gains : b .rest .scanned .gains ≡ leaves job l (pass job (job .sides)) .gains
-  pub tried : cleared (b .rest .scanned .progress .moves) (fileCount job) 0 (b .tried) ≡ leaves job l (pass job (job .sides)) .tried
-  pub gained : cleared (b .rest .scanned .progress .moves) (fileCount job) (pos 0) (b .gained) ≡ leaves job l (pass job (job .sides)) .gained
-  pub cuts : cleared (b .rest .scanned .progress .moves) (fileCount job) 0 (b .cuts) ≡ leaves job l (pass job (job .sides)) .cuts
-  pub scansSoFar : cleared (b .rest .scanned .progress .moves) (fileCount job) 0 (b .ends) ≡ leaves job l (pass job (job .sides)) .ends
-  pub scannedRecipes : cleared (b .rest .scanned .progress .scans) (4 * recipeCount job) 0 (b .rest .scanned .recipes) ≡ leaves job l (pass job (job .sides)) .recipes
-  pub scannedKinds : cleared (b .rest .scanned .progress .scans) (4 * recipeCount job) 0 (b .rest .scanned .kinds) ≡ leaves job l (pass job (job .sides)) .kinds
-  pub scratch : replicate (scratchFor job) 0 ++ drop (scratchFor job) (b .rest .scratch) ≡ leaves job l (pass job (job .sides)) .scratch
+  pub gains : b .rest .scanned .gains ≡ leaves job l (passOf job (job .sides) ms) .gains
+  pub tried : cleared (b .rest .scanned .progress .moves) (fileCount job) 0 (b .tried) ≡ leaves job l (passOf job (job .sides) ms) .tried
+  pub gained : cleared (b .rest .scanned .progress .moves) (fileCount job) (pos 0) (b .gained) ≡ leaves job l (passOf job (job .sides) ms) .gained
+  pub cuts : cleared (b .rest .scanned .progress .moves) (fileCount job) 0 (b .cuts) ≡ leaves job l (passOf job (job .sides) ms) .cuts
+  pub scansSoFar : cleared (b .rest .scanned .progress .moves) (fileCount job) 0 (b .ends) ≡ leaves job l (passOf job (job .sides) ms) .ends
+  pub scannedRecipes : cleared (b .rest .scanned .progress .scans) (4 * recipeCount job) 0 (b .rest .scanned .recipes) ≡ leaves job l (passOf job (job .sides) ms) .recipes
+  pub scannedKinds : cleared (b .rest .scanned .progress .scans) (4 * recipeCount job) 0 (b .rest .scanned .kinds) ≡ leaves job l (passOf job (job .sides) ms) .kinds
+  pub scratch : replicate (scratchFor job) 0 ++ drop (scratchFor job) (b .rest .scratch) ≡ leaves job l (passOf job (job .sides) ms) .scratch
 
-module _ (most : Limits) (job : Job) (s : Sound most job) {l : Lent} {k : ℕ} {b : Board} (g : Going job l k b) (end : k ≡ length (tries job (job .sides))) where
-  all-made : made job k ≡ tries job (job .sides)
-  all-made = ap (λ (i : ℕ). take i (tries job (job .sides))) end ∙ take-length (tries job (job .sides))
+module _ {job : Job} {ms : List ℕ} (v : Line job ms) {l : Lent} {k : ℕ} {b : Board} (g : Going job ms l k b) (end : k ≡ length ms) where
+  all-made : made ms k ≡ ms
+  all-made = ap (λ (i : ℕ). take i ms) end ∙ take-length ms
 
-  kept : b .rest .scanned .progress .best ≡ keeps (recipes job) (begins job) (tries job (job .sides))
-  kept = g .progress .best ∙ ap (λ (ms : List ℕ). keeps (recipes job) (begins job) ms) all-made
+  kept : b .rest .scanned .progress .best ≡ keeps (recipes job) (begins job) ms
+  kept = g .progress .best ∙ ap (λ (x : List ℕ). keeps (recipes job) (begins job) x) all-made
 
-  moves-made : b .rest .scanned .progress .moves ≡ length (made job k)
+  moves-made : b .rest .scanned .progress .moves ≡ length (made ms k)
   moves-made = g .progress .moves ∙ end ∙ sym (ap length all-made)
 
-  tried-at : (i : ℕ) → i < k → getD (b .tried) i 0 ≡ getD (tries job (job .sides)) i 0
+  tried-at : (i : ℕ) → i < k → getD (b .tried) i 0 ≡ getD ms i 0
   tried-at i h =
-      ap (λ (x : List ℕ). getD x i 0) (g .tried ∙ ap (λ (ms : List ℕ). onto ms (l .tried)) all-made)
-      ∙ onto-in 0 (tries job (job .sides)) (l .tried) i (omega arith)
+      ap (λ (x : List ℕ). getD x i 0) (g .tried ∙ ap (λ (x : List ℕ). onto x (l .tried)) all-made)
+      ∙ onto-in 0 ms (l .tried) i (omega arith)
 
   goes-back : backTo (b .tried) (b .rest .scanned .progress .best) (b .rest .scanned .progress .moves - b .rest .scanned .progress .best) (b .sides)
-      ≡ stands job (keeps (recipes job) (begins job) (tries job (job .sides))) .sides
+      ≡ stands job ms (keeps (recipes job) (begins job) ms) .sides
   goes-back =
-      let B : ℕ = keeps (recipes job) (begins job) (tries job (job .sides)) in
-      let few : B ≤ length (tries job (job .sides)) = keeps-le (recipes job) (begins job) (tries job (job .sides)) in
+      let B : ℕ = keeps (recipes job) (begins job) ms in
+      let few : B ≤ length ms = keeps-le (recipes job) (begins job) ms in
       let e : B + (k - B) ≡ k = omega arith in
       rw (kept, g .progress .moves, g .sides)
-      (ap (λ (i : ℕ). backTo (b .tried) B (k - B) (stands job i .sides)) (sym e)
-      ∙ back-to most job s (b .tried) B (k - B) (omega arith) (λ i h. tried-at i (omega arith)))
+      (ap (λ (i : ℕ). backTo (b .tried) B (k - B) (stands job ms i .sides)) (sym e)
+      ∙ back-to v (b .tried) B (k - B) (omega arith) (λ i h. tried-at i (omega arith)))
 
-  pub finished : Finished job l b
+  pub finished : Finished job ms l b
   unfolding passOf leaves
   finished =
-      let ms : List ℕ = tries job (job .sides) in
       let rs : List (List ℕ) = recipes job in
-      let few : length ms ≤ fileCount job = few-moves most job s in
-      let scanned : scans rs (begins job) (made job k) ≡ scans rs (begins job) ms = ap (λ (x : List ℕ). scans rs (begins job) x) all-made in
-      let some : length (scans rs (begins job) ms) ≤ 4 * recipeCount job = rw all-made at (scans-few most job s k) in
+      let few : length ms ≤ fileCount job = few-moves v in
+      let scanned : scans rs (begins job) (made ms k) ≡ scans rs (begins job) ms = ap (λ (x : List ℕ). scans rs (begins job) x) all-made in
+      let some : length (scans rs (begins job) ms) ≤ 4 * recipeCount job = rw all-made at (scans-few v k) in
       record {
         early = omega (arith, g .progress .moves);
-        few = rw (g .progress .scanned) (scans-few most job s k);
+        few = rw (g .progress .scanned) (scans-few v k);
         back = goes-back;
         best = kept;
         least =
             g .progress .least
             ∙ ap₂ (λ (x : List ℕ) (i : ℕ). cutAt rs (begins job) x i) all-made kept
             ∙ (unfold cutAt in refl);
-        size = g .progress .atbest ∙ ap (λ (i : ℕ). sizeA job (stands job i .sides)) kept;
+        size = g .progress .atbest ∙ ap (λ (i : ℕ). sizeA job (stands job ms i .sides)) kept;
         moves = g .progress .moves ∙ end;
         scanned = g .progress .scanned ∙ ap length scanned;
         visited = g .progress .visited ∙ ap (λ (x : List Scan). visits (views job) x) scanned;
         gains =
             g .gains
-            ∙ gains-kept rs (recipes-distinct most job s) (fileCount job) (begins job) (made job k) (made-free most job s k) (s .binary)
+            ∙ gains-kept rs (recipes-distinct (v .most) job (v .sound)) (fileCount job) (begins job) (made ms k) (made-free v k) (v .sound .binary)
             ∙ ap (λ (x : List ℕ). gainsAfter rs (fileCount job) (begins job) x) all-made;
-        tried = fill-in (fileCount job) 0 (made job k) ms (l .tried) (b .tried) _ (g .tried) moves-made all-made few;
-        gained = fill-in (fileCount job) (pos 0) (gainsWhen rs (begins job) (made job k)) (gainsWhen rs (begins job) ms) (l .gained) (b .gained) _ (g .gained)
-            (moves-made ∙ sym (gains-length rs (begins job) (made job k))) (ap (λ (x : List ℕ). gainsWhen rs (begins job) x) all-made) (rw (gains-length rs (begins job) ms) few);
-        cuts = fill-in (fileCount job) 0 (cutsAfter rs (begins job) (made job k)) (cutsAfter rs (begins job) ms) (l .cuts) (b .cuts) _ (g .cuts)
-            (moves-made ∙ sym (cuts-length rs (begins job) (made job k))) (ap (λ (x : List ℕ). cutsAfter rs (begins job) x) all-made) (rw (cuts-length rs (begins job) ms) few);
-        scansSoFar = fill-in (fileCount job) 0 (endsFrom rs 0 (begins job) (made job k)) (endsFrom rs 0 (begins job) ms) (l .ends) (b .ends) _ (g .scansSoFar)
-            (moves-made ∙ sym (ends-length rs 0 (begins job) (made job k))) (ap (λ (x : List ℕ). endsFrom rs 0 (begins job) x) all-made) (rw (ends-length rs 0 (begins job) ms) few);
-        scannedRecipes = fill-in (4 * recipeCount job) 0 (map (λ c. c .recipe) (scans rs (begins job) (made job k))) (map (λ c. c .recipe) (scans rs (begins job) ms)) (l .recipes) (b .rest .scanned .recipes) _ (g .scannedRecipes)
-            (g .progress .scanned ∙ sym (length-map (scans rs (begins job) (made job k)) (λ c. c .recipe))) (ap (λ (x : List Scan). map (λ c. c .recipe) x) scanned) (rw length-map some);
-        scannedKinds = fill-in (4 * recipeCount job) 0 (map (λ c. c .kind) (scans rs (begins job) (made job k))) (map (λ c. c .kind) (scans rs (begins job) ms)) (l .kinds) (b .rest .scanned .kinds) _ (g .scannedKinds)
-            (g .progress .scanned ∙ sym (length-map (scans rs (begins job) (made job k)) (λ c. c .kind))) (ap (λ (x : List Scan). map (λ c. c .kind) x) scanned) (rw length-map some);
+        tried = fill-in (fileCount job) 0 (made ms k) ms (l .tried) (b .tried) _ (g .tried) moves-made all-made few;
+        gained = fill-in (fileCount job) (pos 0) (gainsWhen rs (begins job) (made ms k)) (gainsWhen rs (begins job) ms) (l .gained) (b .gained) _ (g .gained)
+            (moves-made ∙ sym (gains-length rs (begins job) (made ms k))) (ap (λ (x : List ℕ). gainsWhen rs (begins job) x) all-made) (rw (gains-length rs (begins job) ms) few);
+        cuts = fill-in (fileCount job) 0 (cutsAfter rs (begins job) (made ms k)) (cutsAfter rs (begins job) ms) (l .cuts) (b .cuts) _ (g .cuts)
+            (moves-made ∙ sym (cuts-length rs (begins job) (made ms k))) (ap (λ (x : List ℕ). cutsAfter rs (begins job) x) all-made) (rw (cuts-length rs (begins job) ms) few);
+        scansSoFar = fill-in (fileCount job) 0 (endsFrom rs 0 (begins job) (made ms k)) (endsFrom rs 0 (begins job) ms) (l .ends) (b .ends) _ (g .scansSoFar)
+            (moves-made ∙ sym (ends-length rs 0 (begins job) (made ms k))) (ap (λ (x : List ℕ). endsFrom rs 0 (begins job) x) all-made) (rw (ends-length rs 0 (begins job) ms) few);
+        scannedRecipes = fill-in (4 * recipeCount job) 0 (map (λ c. c .recipe) (scans rs (begins job) (made ms k))) (map (λ c. c .recipe) (scans rs (begins job) ms)) (l .recipes) (b .rest .scanned .recipes) _ (g .scannedRecipes)
+            (g .progress .scanned ∙ sym (length-map (scans rs (begins job) (made ms k)) (λ c. c .recipe))) (ap (λ (x : List Scan). map (λ c. c .recipe) x) scanned) (rw length-map some);
+        scannedKinds = fill-in (4 * recipeCount job) 0 (map (λ c. c .kind) (scans rs (begins job) (made ms k))) (map (λ c. c .kind) (scans rs (begins job) ms)) (l .kinds) (b .rest .scanned .kinds) _ (g .scannedKinds)
+            (g .progress .scanned ∙ sym (length-map (scans rs (begins job) (made ms k)) (λ c. c .kind))) (ap (λ (x : List Scan). map (λ c. c .kind) x) scanned) (rw length-map some);
         scratch =
             ap (λ (x : List ℕ). replicate (scratchFor job) 0 ++ x) (g .beyond)
             ∙ listed-none (scratchFor job) 0 (l .scratch);

@@ -15,12 +15,13 @@ pub mod ScansMade
 pub mod Treating
 pub mod MoveNow
 pub mod Played
+pub mod PassMoves
 pub mod PassOnce
 pub mod Shifts
 pub mod ScanLaws
 pub mod Lasting
 pub mod Turns
 pub mod OneMove
-pub mod FilesPassed
 pub mod Accepting
+pub mod Balanced
 pub mod Unique

@@ -5,13 +5,12 @@ use mathlib.Core.Bool.{true}
 use mathlib.Core.List.{List, [], _∷_, _++_, map, map-append, append-nil}
 use native.Mathlib.Omega.{arith}
 use lib.IntN.{pos}
-use lib.ListN.{length, getD, take, drop, set, length-set, length-append, length-map}
+use lib.ListN.{length, getD, take, set, length-set, length-append, length-map}
 use lib.Seq.{getD-set-same, getD-set-other, take-set-lt, drop-set-lt}
 use Rattle.rules.specs.Lists.{allBelow, onto}
-use Rattle.rules.specs.Job.{Job, Limits, fileCount, recipeCount, pinCount, viewOf, view, views, recipes, Lent, scratchFor, fits}
+use Rattle.rules.specs.Job.{Job, fileCount, recipeCount, pinCount, viewOf, view, views, recipes, Lent, scratchFor, fits}
 use Rattle.rules.specs.Split.{other, sideOf, recipesOf, cut}
 use Rattle.rules.specs.Move.{State, moved, Scan, scansOf, scans, visits}
-use Rattle.rules.specs.Theorems.{Sound}
 use Rattle.rules.proofs.Count.{getD-tabled, total-append}
 use Rattle.rules.proofs.Entries.{onto-length}
 use Rattle.rules.proofs.SoundJob.{bound-le, view-length, view-below, recipes-distinct, recipes-length}
@@ -19,17 +18,16 @@ use Rattle.rules.proofs.Steps.{scans-append}
 use Rattle.split.specs.declared.progress.Progress.{Progress}
 use Rattle.tables.specs.Zones.{cellsAt, endsAt, roomAt, countsAt, sideAt, part, stateIn, cellsOf, Counts}
 use Rattle.split.specs.Scanning.{Treated, treated, treatAll, Fits, Ready}
-use Rattle.split.specs.Choosing.{sizeBy}
+use Rattle.choice.specs.Choosing.{sizeBy}
 use Rattle.tables.specs.Ending.{turned}
 use Rattle.split.specs.Moving.{Board, cutBy, shiftedTo, countedOn, wayTo, treatFrom, treatMove, moveOne}
 use Rattle.split.specs.Movable.{Movable}
 use Rattle.split.proofs.Playable.{Small}
-use Rattle.split.proofs.Going.{begins, made, stands, Going, beyond-numbers}
+use Rattle.split.proofs.Going.{begins, made, stands, Line, Going, beyond-numbers}
 use Rattle.split.proofs.Treats.{Shifted, MoveTreated}
 use Rattle.rules.proofs.Fits.{LongEnough, long-enough}
 use Rattle.split.proofs.Bounds.{BoardLong, board-long, cut-few, Safe, safe}
 use Rattle.split.proofs.NextBoard.{goes-on}
-use Rattle.split.proofs.ChoiceNow.{holds-now}
 use Rattle.split.proofs.NextMove.{Next}
 use Rattle.split.proofs.Recount.{beside-entry, beside-part}
 use Rattle.tables.proofs.Parts.{part-set-below}
@@ -58,12 +56,12 @@ pub record MoveFits (sizes bounds pins : List ℕ) (f : ℕ) (b : Board) : Type 
   pub scans : treatMove sizes bounds pins f b .scanned .progress .scans < 65536
   pub moves : treatMove sizes bounds pins f b .scanned .progress .moves < 2 ^ 32
 
-module _ (most : Limits) (job : Job) (s : Sound most job) (small : Small job) {l : Lent} (ok : fits job l ≡ true) {k f : ℕ} {b : Board} (g : Going job l k b) (x : Next job k f) where
+module _ {job : Job} {ms : List ℕ} (v : Line job ms) (small : Small job) {l : Lent} (ok : fits job l ≡ true) {k f : ℕ} {b : Board} (g : Going job ms l k b) (x : Next job ms k f) where
   abbrev rs : List (List ℕ)
   rs = recipes job
 
   abbrev st : State
-  st = stands job k
+  st = stands job ms k
 
   abbrev c : ℕ
   c = fileCount job
@@ -90,7 +88,7 @@ module _ (most : Limits) (job : Job) (s : Sound most job) (small : Small job) {l
   sees j h = sym (getD-tabled (view job) n j [] h)
 
   room : scratchFor job ≤ length z
-  room = omega (arith, long-enough job l ok .scratch, board-long most job s ok g .scratch)
+  room = omega (arith, long-enough job l ok .scratch, board-long v ok g .scratch)
 
   long : length locked ≡ length z
   long = length-set z f 1
@@ -99,7 +97,7 @@ module _ (most : Limits) (job : Job) (s : Sound most job) (small : Small job) {l
   counts-locked = counts-set f 1 (omega (arith, x .below)) (g .counts)
 
   side : sideOf (turned (b .sides) f) f ≡ other (sideOf (st .sides) f)
-  side = getD-set-same (b .sides) f (other (sideOf (b .sides) f)) 0 (omega (arith, x .below, board-long most job s ok g .sides)) ∙ ap (λ (u : List ℕ). other (sideOf u f)) (g .sides)
+  side = getD-set-same (b .sides) f (other (sideOf (b .sides) f)) 0 (omega (arith, x .below, board-long v ok g .sides)) ∙ ap (λ (u : List ℕ). other (sideOf u f)) (g .sides)
 
   locks : take c locked ≡ moved st f .locks
   unfolding moved
@@ -119,18 +117,18 @@ module _ (most : Limits) (job : Job) (s : Sound most job) (small : Small job) {l
   did : TreatedMove rs st (moved st f) f (countsAt c p) n treatBegun (treatMove (job .sizes) (job .bounds) (job .pins) f b)
   did =
       rw is
-      (move-treated rs (recipes-distinct most job s) st f (x .moves) c n p (recipes-length most job s) (viewOf (job .bounds) (job .pins)) sees
+      (move-treated rs (recipes-distinct (v .most) job (v .sound)) st f (x .moves) c n p (recipes-length (v .most) job (v .sound)) (viewOf (job .bounds) (job .pins)) sees
       (moved st f) treatBegun (rw long (omega (arith, room))) counts-locked)
 
   -- the scans so far, and this move's
-  more : scans rs (begins job) (made job (suc k)) ≡ scans rs (begins job) (made job k) ++ scansOf rs st f
+  more : scans rs (begins job) (made ms (suc k)) ≡ scans rs (begins job) (made ms k) ++ scansOf rs st f
   more =
       ap (scans rs (begins job)) (x .more)
-      ∙ scans-append rs (begins job) (made job k) (f ∷ [])
-      ∙ ap (λ (u : List Scan). scans rs (begins job) (made job k) ++ u) (unfold scans in append-nil (scansOf rs st f))
+      ∙ scans-append rs (begins job) (made ms k) (f ∷ [])
+      ∙ ap (λ (u : List Scan). scans rs (begins job) (made ms k) ++ u) (unfold scans in append-nil (scansOf rs st f))
 
-  map-more : (h : Scan → ℕ) → map h (scans rs (begins job) (made job k)) ++ map h (scansOf rs st f) ≡ map h (scans rs (begins job) (made job (suc k)))
-  map-more h = sym (ap (map h) more ∙ map-append h (scans rs (begins job) (made job k)) (scansOf rs st f))
+  map-more : (h : Scan → ℕ) → map h (scans rs (begins job) (made ms k)) ++ map h (scansOf rs st f) ≡ map h (scans rs (begins job) (made ms (suc k)))
+  map-more h = sym (ap (map h) more ∙ map-append h (scans rs (begins job) (made ms k)) (scansOf rs st f))
 
   below : (a m : ℕ) → cellsAt c ≤ a → a + m ≤ roomAt c p → part a m (treatMove (job .sizes) (job .bounds) (job .pins) f b .scratch) ≡ part a m z
   below a m l h = beside-part (did .beside) a m (omega arith) ∙ part-set-below a m z f 1 (omega (arith, x .below))
@@ -142,7 +140,7 @@ module _ (most : Limits) (job : Job) (s : Sound most job) (small : Small job) {l
   unfolding visits
   visits-more us vs = total-append (λ c. length (getD rs (c .recipe) [])) us vs
 
-  shifted : Shifted job k f b (treatMove (job .sizes) (job .bounds) (job .pins) f b .scanned .progress)
+  shifted : Shifted job ms k f b (treatMove (job .sizes) (job .bounds) (job .pins) f b .scanned .progress)
   unfolding shiftedTo
   shifted =
       let e = did .progress in
@@ -154,19 +152,19 @@ module _ (most : Limits) (job : Job) (s : Sound most job) (small : Small job) {l
         least = ap (λ (q : Progress). q .least) e;
         atbest = ap (λ (q : Progress). q .atbest) e;
         scanned = ap (λ (q : Progress). q .scans) e
-            ∙ omega (arith, g .progress .scanned, ap length more, length-append (scans rs (begins job) (made job k)) (scansOf rs st f));
+            ∙ omega (arith, g .progress .scanned, ap length more, length-append (scans rs (begins job) (made ms k)) (scansOf rs st f));
         visited = ap (λ (q : Progress). q .visits) e
-            ∙ omega (arith, g .progress .visited, ap (visits (views job)) more, visits-more (scans rs (begins job) (made job k)) (scansOf rs st f));
+            ∙ omega (arith, g .progress .visited, ap (visits (views job)) more, visits-more (scans rs (begins job) (made ms k)) (scansOf rs st f));
       }
 
-  care : Safe job k f b
-  care = safe most job s (omega (arith, small .scans)) ok g x
+  care : Safe job ms k f b
+  care = safe v (omega (arith, small .scans)) ok g x
 
   scans-fit : b .rest .scanned .progress .scans + length (scansOf rs st f) ≤ 4 * n
-  scans-fit = omega (arith, care .scanning, g .progress .scanned, ap length more, length-append (scans rs (begins job) (made job k)) (scansOf rs st f))
+  scans-fit = omega (arith, care .scanning, g .progress .scanned, ap length more, length-append (scans rs (begins job) (made ms k)) (scansOf rs st f))
 
   -- what the code of the move leaves
-  pub recipes-treated : MoveTreated job l k f b (treatMove (job .sizes) (job .bounds) (job .pins) f b)
+  pub recipes-treated : MoveTreated job ms l k f b (treatMove (job .sizes) (job .bounds) (job .pins) f b)
   unfolding shiftedTo
   recipes-treated =
       let r : LongEnough job l = long-enough job l ok in
@@ -181,21 +179,21 @@ module _ (most : Limits) (job : Job) (s : Sound most job) (small : Small job) {l
             ∙ drop-set-lt (scratchFor job) z f 1 (omega (arith, x .below));
         gains = did .gains;
         scannedRecipes =
-            did .recipes (map (λ u. u .recipe) (scans rs (begins job) (made job k))) (l .recipes) (g .scannedRecipes)
-            (length-map (scans rs (begins job) (made job k)) (λ u. u .recipe) ∙ sym (g .progress .scanned)) (omega (arith, scans-fit, r .scannedRecipes))
+            did .recipes (map (λ u. u .recipe) (scans rs (begins job) (made ms k))) (l .recipes) (g .scannedRecipes)
+            (length-map (scans rs (begins job) (made ms k)) (λ u. u .recipe) ∙ sym (g .progress .scanned)) (omega (arith, scans-fit, r .scannedRecipes))
             ∙ ap (λ (u : List ℕ). onto u (l .recipes)) (map-more (λ u. u .recipe));
         scannedKinds =
-            did .kinds (map (λ u. u .kind) (scans rs (begins job) (made job k))) (l .kinds) (g .scannedKinds)
-            (length-map (scans rs (begins job) (made job k)) (λ u. u .kind) ∙ sym (g .progress .scanned)) (omega (arith, scans-fit, r .scannedKinds))
+            did .kinds (map (λ u. u .kind) (scans rs (begins job) (made ms k))) (l .kinds) (g .scannedKinds)
+            (length-map (scans rs (begins job) (made ms k)) (λ u. u .kind) ∙ sym (g .progress .scanned)) (omega (arith, scans-fit, r .scannedKinds))
             ∙ ap (λ (u : List ℕ). onto u (l .kinds)) (map-more (λ u. u .kind));
         progress = shifted;
       }
 
   pins-below : (j : ℕ) → j < n → allBelow c (viewOf (job .bounds) (job .pins) j)
-  pins-below j h i q = view-below most job s j i h q
+  pins-below j h i q = view-below (v .most) job (v .sound) j i h q
 
   recipes-short : (j : ℕ) → j < n → length (getD rs j []) < 65535
-  recipes-short j h = rw (← sees j h) (omega (arith, view-length most job s j h, bound-le most job s (suc j) h, small .pins))
+  recipes-short j h = rw (← sees j h) (omega (arith, view-length (v .most) job (v .sound) j h, bound-le (v .most) job (v .sound) (suc j) h, small .pins))
 
   -- where the file's cells end
   abbrev until : ℕ
@@ -205,12 +203,12 @@ module _ (most : Limits) (job : Job) (s : Sound most job) (small : Small job) {l
   ready =
       subst (λ (u : ℕ). Ready (wayTo c n p u) (viewOf (job .bounds) (job .pins)) until (cellsOf c p z f) locked) (sym side)
       (subst (λ (u : List ℕ). Ready (wayOf c n p st f) (viewOf (job .bounds) (job .pins)) until u locked) (sym (g .cells .hold f (x .below)))
-      (move-ready rs (recipes-distinct most job s) st f (x .moves) c n p (recipes-length most job s) (viewOf (job .bounds) (job .pins)) sees
+      (move-ready rs (recipes-distinct (v .most) job (v .sound)) st f (x .moves) c n p (recipes-length (v .most) job (v .sound)) (viewOf (job .bounds) (job .pins)) sees
       until (omega (arith, g .cells .inside f (x .below))) locked (rw long (omega (arith, room))) counts-locked pins-below recipes-short))
 
   -- the lists written are as long as those lent
-  as-long : (h : Scan → ℕ) (old : List ℕ) → 4 * n ≤ length old → length (onto (map h (scans rs (begins job) (made job (suc k)))) old) ≡ length old
-  as-long h old q = onto-length 0 _ old (rw (length-map (scans rs (begins job) (made job (suc k))) h) (omega (arith, care .scanning)))
+  as-long : (h : Scan → ℕ) (old : List ℕ) → 4 * n ≤ length old → length (onto (map h (scans rs (begins job) (made ms (suc k)))) old) ≡ length old
+  as-long h old q = onto-length 0 _ old (rw (length-map (scans rs (begins job) (made ms (suc k))) h) (omega (arith, care .scanning)))
 
   fitting : Fits (treatMove (job .sizes) (job .bounds) (job .pins) f b .scanned)
   fitting =
@@ -224,7 +222,7 @@ module _ (most : Limits) (job : Job) (s : Sound most job) (small : Small job) {l
   -- what it may count on
   pub move-safe : Movable (job .sizes) (job .bounds) (job .pins) f (b .sides) (b .rest)
   move-safe =
-      let m : BoardLong job l b = board-long most job s ok g in
+      let m : BoardLong job l b = board-long v ok g in
       record {
         file = x .below;
         sidesLong = m .sides;
@@ -239,17 +237,16 @@ module _ (most : Limits) (job : Job) (s : Sound most job) (small : Small job) {l
         shift = record {
           file = (x .below, omega (arith, x .below, m .sides), omega (arith, x .below, m .gains));
           size = omega (arith, care .size, small .weight);
-          held = λ e. holds-now g f (x .below) e;
           gain = care .falls;
           cut = omega (arith, care .few, care .near f, small .scans);
         };
       }
 
   -- so the pass goes on
-  pub move-goes : Going job l (suc k) (moveOne (job .sizes) (job .bounds) (job .pins) f b)
-  move-goes = goes-on most job s ok g x recipes-treated
+  pub move-goes : Going job ms l (suc k) (moveOne (job .sizes) (job .bounds) (job .pins) f b)
+  move-goes = goes-on v ok g x recipes-treated
 
-  cut-now : treatMove (job .sizes) (job .bounds) (job .pins) f b .scanned .progress .cut ≡ cut (stands job (suc k) .sides) rs
+  cut-now : treatMove (job .sizes) (job .bounds) (job .pins) f b .scanned .progress .cut ≡ cut (stands job ms (suc k) .sides) rs
   unfolding moveOne countedOn
   cut-now = move-goes .progress .cutNow
 
@@ -260,7 +257,7 @@ module _ (most : Limits) (job : Job) (s : Sound most job) (small : Small job) {l
     gained = omega (arith, care .gained, g .progress .moves);
     cuts = omega (arith, care .cuts, g .progress .moves);
     ends = omega (arith, care .scansSoFar, g .progress .moves);
-    cut = omega (arith, cut-now, cut-few most job s (suc k), small .scans);
+    cut = omega (arith, cut-now, cut-few v (suc k), small .scans);
     scans = omega (arith, shifted .scanned, care .scanning, small .scans);
     moves = omega (arith, shifted .moves, g .progress .moves, x .early, small .files);
   }

@@ -1,6 +1,6 @@
 -- One pass, put together from what its steps answer. Assumes nothing.
 use mathlib.Core.Path.{_≡_, refl, sym, ap, subst, _∙_}
-use Prim.Native.Nat.{ℕ, _+_, _-_, _*_, _≤_, _<_}
+use Prim.Native.Nat.{ℕ, _-_, _*_, _≤_, _<_}
 use mathlib.Core.List.{List}
 use native.Mathlib.Nat.{add-zero}
 use native.Mathlib.Omega.{arith}
@@ -10,6 +10,7 @@ use Rattle.rules.specs.declared.Figures.{Figures}
 use Rattle.rules.specs.Lists.{total}
 use Rattle.rules.specs.Job.{Job, Limits, fileCount, recipeCount, pinCount, views, Lent, lentOf, scratchNumbers, scratchFor}
 use Rattle.rules.specs.Check.{done}
+use Rattle.rules.specs.Move.{Frees}
 use Rattle.rules.specs.Pass.{tries, Pass, pass}
 use Rattle.rules.specs.Run.{endedOf, lastOf, figuresOf}
 use Rattle.rules.specs.Theorems.{Sound}
@@ -21,17 +22,18 @@ use Rattle.tables.specs.Clearing.{clearedIn}
 use Rattle.tables.specs.Ending.{backTo}
 use Rattle.tables.specs.LayingOut.{Prepared}
 use Rattle.tables.proofs.Filled.{cleared-front, cleared-in}
-use Rattle.split.specs.declared.choice.Window.{Window}
+use Rattle.choice.specs.declared.window.Window.{Window}
 use Rattle.split.specs.declared.progress.Progress.{Progress}
 use Rattle.split.specs.Moving.{Board, board, begun}
 use Rattle.split.specs.Playing.{passLeft, figuresFrom}
-use Rattle.split.proofs.Going.{Going, beyond-numbers}
+use Rattle.split.proofs.Going.{begins, Line, Going, beyond-numbers}
 use Rattle.split.proofs.Treats.{Begun}
 use Rattle.split.proofs.Playable.{Playable, sizeAtStart, cutAtStart}
 use Rattle.split.proofs.Bounds.{BoardLong, board-long}
 use Rattle.split.proofs.FirstMove.{goes-first}
 use Rattle.split.proofs.LastMove.{Finished, finished}
 use Rattle.split.proofs.Played.{Underway}
+use Rattle.split.proofs.PassMoves.{passMoves, pass-frees}
 
 -- ---- before the first move
 
@@ -63,12 +65,12 @@ begins-here most job s l g z d =
       progress = refl;
     }
 
-pub first-under : {job : Job} {l : Lent} {w : Window} {g : List ℤ} {z : List ℕ} {p : Progress} → Playable job l w
+pub first-under : {job : Job} {ms : List ℕ} → Frees (begins job) ms → {l : Lent} {w : Window} {g : List ℤ} {z : List ℕ} {p : Progress} → Playable job l w
     → Prepared (job .bounds) (job .pins) (job .sides) (job .marks) (l .scratch) z g (recipeCount job)
-    → p ≡ begun (sizeAtStart job) (cutAtStart job) → Underway job l w (boardOn job l g z p)
-first-under {job} {l} {w} {g} {z} y d e =
-    subst (λ (q : Progress). Underway job l w (boardOn job l g z q)) (sym e)
-    (record { playable = y; going = goes-first (begins-here (y .most) job (y .sound) l g z d) })
+    → p ≡ begun (sizeAtStart job) (cutAtStart job) → Underway job ms l w (boardOn job l g z p)
+first-under {job} {ms} frees {l} {w} {g} {z} y d e =
+    subst (λ (q : Progress). Underway job ms l w (boardOn job l g z q)) (sym e)
+    (record { playable = y; frees = frees; going = goes-first (begins-here (y .most) job (y .sound) l g z d) })
 
 -- ---- after the last
 
@@ -80,12 +82,15 @@ few-numbers y = (y .small .files, y .small .bounds, omega (arith, y .small .pins
 pub extent-known : {e : Extent} {c n p : ℕ} → e ≡ extentOf c n p → (4 * e .recipes ≡ 4 * n) × (scratchNumbers (e .pins) (e .files) (e .recipes) ≡ scratchNumbers p c n)
 extent-known q = (ap (λ (e : Extent). 4 * e .recipes) q, ap (λ (e : Extent). scratchNumbers (e .pins) (e .files) (e .recipes)) q)
 
-module _ {job : Job} {l : Lent} {w : Window} (y : Playable job l w) {b : Board} (going : Going job l (length (tries job (job .sides))) b) where
+module _ {job : Job} {l : Lent} {w : Window} (y : Playable job l w) {b : Board} (going : Going job (passMoves job) l (length (passMoves job)) b) where
   abbrev q : Progress
   q = b .rest .scanned .progress
 
-  ended : Finished job l b
-  ended = finished (y .most) job (y .sound) going refl
+  abbrev line : Line job (passMoves job)
+  line = record { most = y .most; sound = y .sound; frees = pass-frees (y .most) job (y .sound) }
+
+  ended : Finished job (passMoves job) l b
+  ended = finished line going refl
 
   -- what the pass leaves; scans and numbers as the code has them
   pub pass-ends : {before scans numbers : ℕ} {r : Figures} {sides tried : List ℕ} {gained : List ℤ} {cuts ends rs kinds scratch : List ℕ}
@@ -105,9 +110,9 @@ module _ {job : Job} {l : Lent} {w : Window} (y : Playable job l w) {b : Board} 
   pass-ends {scans = scans} {numbers = numbers} be told m ro s =
       let p : Pass = pass job (job .sides) in
       let c : ℕ = fileCount job in
-      let d : Finished job l b = ended in
+      let d : Finished job (passMoves job) l b = ended in
       let o : LongEnough job l = long-enough job l (y .fitting) in
-      let long : BoardLong job l b = board-long (y .most) job (y .sound) (y .fitting) going in
+      let long : BoardLong job l b = board-long line (y .fitting) going in
       let early : q .moves ≤ c = d .early in
       let back = m .0 ∙ d .back in
       let tr = m .1 ∙ cleared-in (q .moves) c 0 (b .tried) early (omega (arith, long .tried, o .tried)) ∙ d .tried in

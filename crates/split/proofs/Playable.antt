@@ -6,22 +6,21 @@ use lib.ListN.{length}
 use Rattle.rules.specs.Job.{Job, Limits, fileCount, recipeCount, pinCount, recipes, Lent, fits}
 use Rattle.rules.specs.Split.{weight, smax, cut, sizeA}
 use Rattle.rules.specs.Theorems.{Sound}
-use Rattle.split.specs.declared.choice.Window.{Window}
+use Rattle.choice.specs.declared.window.Window.{Window}
 
--- a job small enough for two-byte entries and eight-byte sums
+-- a job small enough for two-byte entries and a four-byte |A|
 pub record Small (job : Job) : Type 0 where
   pub files : fileCount job < 65536
   pub bounds : length (job .bounds) < 65536
   pub pins : pinCount job < 65535
   pub scans : 4 * recipeCount job < 65536
-  pub weight : weight job < 2 ^ 40
+  pub weight : weight job < 2 ^ 32
 
 -- den, and num·W and den·smax
 pub record Measured (job : Job) (w : Window) : Type 0 where
   pub den : w .den ≡ job .den
   pub aim : w .aim ≡ job .num * weight job
   pub span : w .span ≡ job .den * smax job
-  pub small : job .den < 65536
 
 -- a job that a pass may be made of, with the lists lent to it
 pub record Playable (job : Job) (l : Lent) (w : Window) : Type 0 where

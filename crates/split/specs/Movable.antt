@@ -16,8 +16,7 @@ use Rattle.split.specs.Moving.{wayTo, treatFrom}
 -- |A| and the cut after the move of f are small enough
 pub record Shiftable (sizes sides : List ℕ) (gains : List ℤ) (f : ℕ) (p : Progress) : Type 0 where
   pub file : (f < length sizes) × (f < length sides) × (f < length gains)
-  pub size : p .size < 2 ^ 40
-  pub held : sideOf sides f ≡ 0 → getD sizes f 0 ≤ p .size
+  pub size : p .size < 2 ^ 32
   pub gain : up (getD gains f (pos 0)) ≤ p .cut
   pub cut : p .cut + down (getD gains f (pos 0)) < 2 ^ 32
 

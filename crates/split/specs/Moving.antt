@@ -13,7 +13,7 @@ use Rattle.split.specs.declared.progress.Progress.{Progress}
 use Rattle.split.specs.declared.scan.Way.{Way}
 use Rattle.tables.specs.Zones.{cellsAt, startsAt, endsAt, countsAt, sideAt, stateIn, cellsOf}
 use Rattle.split.specs.Scanning.{Treated, treated, treatAll}
-use Rattle.split.specs.Choosing.{sizeBy}
+use Rattle.choice.specs.Choosing.{sizeBy}
 use Rattle.tables.specs.Ending.{turned}
 
 -- ---- the pass in progress

@@ -1,7 +1,8 @@
--- One pass whole, and the figures told at its end. Assumes nothing.
+-- One pass whole, and the figures told at its end and at that of the balancing. Assumes nothing.
 use Prim.Native.Nat.{ℕ}
 use mathlib.Core.List.{[], _∷_}
 use Rattle.rules.specs.declared.Figures.{Figures}
+use Rattle.rules.specs.declared.BalanceFigures.{BalanceFigures}
 use Rattle.rules.specs.Job.{Job, Lent}
 use Rattle.rules.specs.Check.{done}
 use Rattle.rules.specs.Pass.{pass}
@@ -24,3 +25,7 @@ figuresFrom before q = record {
   scans = q .scans;
   visits = q .visits;
 }
+
+-- the answer of the balancing from its record
+abbrev pub balancedFrom : Progress → BalanceFigures
+balancedFrom q = record { verdict = done; moves = q .moves; cut = q .cut; size = q .size }

@@ -5,8 +5,8 @@ ghost use lib.ListN.{length};
 ghost use Rattle.rules.specs.Run.{noFigures};
 ghost use Rattle.job.specs.Parts.{ofFigures};
 ghost use Rattle.tables.specs.Zones.{extentOf};
-ghost use Rattle.split.specs.Choosing.{windowOf};
-use super::choice::Window;
+ghost use Rattle.choice.specs.Choosing.{windowOf};
+use choice::Window;
 use job::Job;
 use job::recipe_count;
 use rules::Figures;
@@ -15,11 +15,11 @@ use tables::Extent;
 
 // Den, and num·W and den·smax.
 pub(crate) fn window_of(job: Job, weight: u64, largest: u64) -> Window
-    requires { ⌜ (weight < 2 ^ 40) × (largest < 2 ^ 40) ⌝ }
+    requires { ⌜ (weight < 2 ^ 32) × (largest < 2 ^ 32) ⌝ }
     ensures { λ r. ⌜ r ≡ windowOf (ofFigures job) weight largest ⌝ }
 {
     Window {
-        den: job.den as u64,
+        den: job.den,
         aim: (job.num as u64) * weight,
         span: (job.den as u64) * largest,
     }

@@ -1,10 +1,11 @@
-// One pass.
+// One pass, and the balancing that makes a start for it.
+mod balancing;
 mod checked;
-mod choice;
 mod moves;
 mod progress;
 mod scan;
 
+pub use balancing::balance;
 use checked::extent_of;
 pub use checked::refused;
 use checked::window_of;
@@ -61,6 +62,7 @@ pub fn pass_once(
         gains,
         scratch,
         lists,
+        false,
     );
     if s.verdict.number != 0 {
         return refused(s.verdict);
@@ -69,7 +71,8 @@ pub fn pass_once(
     let c = sizes.len();
     let mut p = Progress::new(s.size, s.cut);
     loop {
-        let chosen = choose(window, p.size, sizes, sides, scratch, gains);
+        let size = p.size as u32;
+        let chosen = choose(window, size, sizes, sides, scratch, gains);
         let f = chosen.file;
         if c <= f {
             end_moves(sides, tried, gained, cuts, ends, p.best, p.moves, c);

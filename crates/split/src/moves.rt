@@ -9,10 +9,10 @@ ghost use Rattle.tables.specs.Ending.{turned};
 ghost use Rattle.split.specs.Moving.{cutBy, wayTo, Locked, shiftOf, treatFrom};
 ghost use Rattle.split.specs.Movable.{Shiftable, Movable};
 use super::checked::extent_of;
-use super::choice::size_after;
 use super::progress::Progress;
 use super::scan::Way;
 use super::scan::treat_all;
+use choice::size_after;
 use job::wide;
 use tables::Extent;
 use tables::side_at;
@@ -65,7 +65,7 @@ fn shift(sizes: &[u16], sides: &[u16], gains: &[i32], f: usize, p: Progress) -> 
     requires { ⌜ Shiftable (now sizes) (now sides) (now gains) f p ⌝ }
     ensures { λ r. ⌜ r ≡ shiftOf (now (sizes .entry)) (now (sides .entry)) (now (gains .entry)) f p ⌝ }
 {
-    let size = size_after(p.size, sides[f], sizes[f]);
+    let size = size_after(p.size as u32, sides[f], sizes[f]);
     let cut = cut_after(p.cut, gains[f]);
     p.shifted(size, cut)
 }

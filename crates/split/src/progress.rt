@@ -4,7 +4,8 @@ ghost use mathlib.Core.Path.{_≡_};
 ghost use Prim.Native.Nat.{_+_, _<_, _^_};
 ghost use Rattle.split.specs.Scanning.{scannedBy};
 ghost use Rattle.split.specs.Moving.{begun, shiftedTo, countedOn};
-ghost use Rattle.split.specs.Playing.{figuresFrom};
+ghost use Rattle.split.specs.Playing.{figuresFrom, balancedFrom};
+use rules::BalanceFigures;
 use rules::Figures;
 use rules::Verdict;
 
@@ -86,6 +87,21 @@ impl Progress {
             kept: self.best as u64,
             scans: self.scans as u64,
             visits: self.visits,
+        }
+    }
+    // The answer of the balancing, once its moves have ended.
+    pub fn balanced(self) -> BalanceFigures
+        ensures { λ r. ⌜ r ≡ balancedFrom self ⌝ }
+    {
+        let verdict = Verdict {
+            number: 0,
+            place: 0,
+        };
+        BalanceFigures {
+            verdict,
+            moves: self.moves,
+            cut: self.cut,
+            size: self.size,
         }
     }
 }

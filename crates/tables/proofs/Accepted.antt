@@ -11,14 +11,16 @@ use borrow.Author.Tests.{eq-eqb, ne-eqb}
 use Rattle.rules.specs.declared.Verdict.{Verdict}
 use Rattle.rules.specs.Job.{Job, Limits, fileCount, recipeCount, pinCount, views, recipes, Lent, lentOf, fits}
 use Rattle.rules.specs.Split.{weight, smax, cut, sizeA}
-use Rattle.rules.specs.Check.{check}
+use Rattle.rules.specs.Check.{_orElse_, check7, check8, check1to6}
 use Rattle.rules.specs.Theorems.{Binary, Sound}
 use Rattle.rules.proofs.Fits.{LongEnough, long-enough}
-use Rattle.rules.proofs.SoundJob.{recipes-distinct}
-use Rattle.rules.proofs.Verdicts.{zero-of}
-use Rattle.rules.proofs.Proved.{accepted, answers}
+use Rattle.rules.proofs.SoundJob.{sound, recipes-distinct}
+use Rattle.rules.proofs.Verdicts.{zero-of, passes-both}
+use Rattle.rules.proofs.Proved.{lent-six}
 use Rattle.job.specs.declared.figures.Survey.{Survey}
-use Rattle.job.specs.Survey.{surveyOf}
+use Rattle.job.specs.Survey.{checkFor, surveyOf}
+use Rattle.job.specs.Totals.{nineFor}
+use Rattle.job.proofs.Whole.{nine-last}
 use Rattle.tables.specs.Zones.{countsAt}
 use Rattle.tables.specs.Building.{Buildable}
 use Rattle.tables.specs.declared.lent.ListLengths.{ListLengths}
@@ -34,44 +36,46 @@ pub record Narrow (most : Limits) : Type 0 where
 
 -- ---- the survey's fields
 
-module _ (most : Limits) (job : Job) (word : Bool) where
-  pub verdict-is : surveyOf most job word .verdict ≡ check most job word
+module _ (balancing : Bool) (most : Limits) (job : Job) (word : Bool) where
+  pub verdict-is : surveyOf balancing most job word .verdict ≡ checkFor balancing most job word
   unfolding surveyOf
-  verdict-is = elim (ℕ-discrete (check most job word .number) 0) [
-    | yes e ↦ rw (eq-eqb (check most job word .number) 0 e, surveyOf)
-    | no n ↦ rw (ne-eqb (check most job word .number) 0 n, surveyOf)
+  verdict-is = elim (ℕ-discrete (checkFor balancing most job word .number) 0) [
+    | yes e ↦ rw (eq-eqb (checkFor balancing most job word .number) 0 e, surveyOf)
+    | no n ↦ rw (ne-eqb (checkFor balancing most job word .number) 0 n, surveyOf)
   ]
 
-  pub survey-is : check most job word .number ≡ 0
-      → surveyOf most job word ≡ record { verdict = check most job word; weight = weight job; largest = smax job; size = sizeA job (job .sides); cut = cut (job .sides) (recipes job) }
+  pub survey-is : checkFor balancing most job word .number ≡ 0
+      → surveyOf balancing most job word ≡ record { verdict = checkFor balancing most job word; weight = weight job; largest = smax job; size = sizeA job (job .sides); cut = cut (job .sides) (recipes job) }
   unfolding surveyOf
-  survey-is e = rw (eq-eqb (check most job word .number) 0 e, surveyOf)
+  survey-is e = rw (eq-eqb (checkFor balancing most job word .number) 0 e, surveyOf)
 
-  -- where it lets through, so does the check
-  pub let-through : {s : Survey} → s ≡ surveyOf most job word → s .verdict .number ≡ 0 → check most job word .number ≡ 0
-  let-through e z = zero-of (ap (λ (x : Survey). x .verdict) e ∙ verdict-is) z
+  -- where it lets through, so do 1 to 6
+  pub let-through : {s : Survey} → s ≡ surveyOf balancing most job word → s .verdict .number ≡ 0 → check1to6 most job word .number ≡ 0
+  let-through e z =
+      passes-both (check1to6 most job word) (check7 most job orElse check8 job orElse nineFor balancing job)
+      (zero-of (ap (λ (x : Survey). x .verdict) e ∙ verdict-is ∙ nine-last balancing most job word) z) .0
 
 -- any word that is right for a job within its limits has one answer
-pub survey-late : (most : Limits) (job : Job) (a b : Bool) → WordOn (most .files) (most .recipes) (most .pins) (fileCount job) (recipeCount job) (pinCount job) a b
-    → surveyOf most job a ≡ surveyOf most job b
+pub survey-late : (balancing : Bool) (most : Limits) (job : Job) (a b : Bool) → WordOn (most .files) (most .recipes) (most .pins) (fileCount job) (recipeCount job) (pinCount job) a b
+    → surveyOf balancing most job a ≡ surveyOf balancing most job b
 unfolding surveyOf
-survey-late most job a b h =
-    let w = word-late most job a b h in
-    let number : check most job a .number ≡ check most job b .number = ap (λ (v : Verdict). v .number) w in
-    elim (ℕ-discrete (check most job a .number) 0) [
-      | yes e ↦ rw (eq-eqb (check most job a .number) 0 e, eq-eqb (check most job b .number) 0 (sym number ∙ e), surveyOf, w)
-      | no n ↦ rw (ne-eqb (check most job a .number) 0 n, ne-eqb (check most job b .number) 0 (λ e. n (number ∙ e)), surveyOf, w)
+survey-late balancing most job a b h =
+    let w = word-late balancing most job a b h in
+    let number : checkFor balancing most job a .number ≡ checkFor balancing most job b .number = ap (λ (v : Verdict). v .number) w in
+    elim (ℕ-discrete (checkFor balancing most job a .number) 0) [
+      | yes e ↦ rw (eq-eqb (checkFor balancing most job a .number) 0 e, eq-eqb (checkFor balancing most job b .number) 0 (sym number ∙ e), surveyOf, w)
+      | no n ↦ rw (ne-eqb (checkFor balancing most job a .number) 0 n, ne-eqb (checkFor balancing most job b .number) 0 (λ e. n (number ∙ e)), surveyOf, w)
     ]
 
 -- s is the survey's answer, told whether the lent lists fit
-pub record Surveyed (most : Limits) (job : Job) (word : Bool) (s : Survey) : Type 0 where
+pub record Surveyed (balancing : Bool) (most : Limits) (job : Job) (word : Bool) (s : Survey) : Type 0 where
   pub narrow : Narrow most
-  pub answered : s ≡ surveyOf most job word
+  pub answered : s ≡ surveyOf balancing most job word
 
 -- from what the steps before it promise
-pub surveyed : {s : Survey} (most : Limits) (job : Job) (a b : Bool) → Narrow most
-    → WordOn (most .files) (most .recipes) (most .pins) (fileCount job) (recipeCount job) (pinCount job) a b → s ≡ surveyOf most job a → Surveyed most job b s
-surveyed most job a b n h e = record { narrow = n; answered = e ∙ survey-late most job a b h }
+pub surveyed : {s : Survey} (balancing : Bool) (most : Limits) (job : Job) (a b : Bool) → Narrow most
+    → WordOn (most .files) (most .recipes) (most .pins) (fileCount job) (recipeCount job) (pinCount job) a b → s ≡ surveyOf balancing most job a → Surveyed balancing most job b s
+surveyed balancing most job a b n h e = record { narrow = n; answered = e ∙ survey-late balancing most job a b h }
 
 -- ---- what the builders ask
 
@@ -102,13 +106,13 @@ module _ (job : Job) (gains : List ℤ) (z : List ℕ) (l : ListLengths) where
   some-fit : fits job some ≡ fitWord
   some-fit = rw (length-replicate {A = ℕ} (l .tried) 0, length-replicate (l .gained) (pos 0), length-replicate {A = ℕ} (l .cuts) 0, length-replicate {A = ℕ} (l .ends) 0, length-replicate {A = ℕ} (l .recipes) 0, length-replicate {A = ℕ} (l .kinds) 0) refl
 
-  pub builders-ask : (most : Limits) → Narrow most → check most job fitWord .number ≡ 0
+  pub builders-ask : (most : Limits) → Narrow most → check1to6 most job fitWord .number ≡ 0
       → Buildable (job .bounds) (job .pins) (length (job .sides))
       × (((length gains ≡ length (job .sides)) × (length (job .marks) ≡ length (job .sides)))
       × ((countsAt (length (job .sides)) (pinCount job) + 4 * recipeCount job ≤ length z) × Binary (job .sides)))
   builders-ask most n ok =
-      let s = accepted most job fitWord ok .sound in
-      let r : LongEnough job some = long-enough job some (answers most job some .fitting (rw some-fit ok)) in (
+      let s = sound most job fitWord ok in
+      let r : LongEnough job some = long-enough job some (some-fit ∙ lent-six most job fitWord ok) in (
         buildable n s,
         (
           (r .gains ∙ sym (s .sidesLong), s .marksLong ∙ sym (s .sidesLong)),

@@ -1,6 +1,7 @@
 -- What is prepared is settled: two scratches prepared from one are the same, entry by entry. Assumes nothing.
 use mathlib.Core.Path.{_≡_, sym, ap, ap₂, _∙_}
 use Prim.Native.Nat.{ℕ, _+_, _-_, _*_, _≤_, _<_}
+use mathlib.Core.Bool.{Bool}
 use mathlib.Core.List.{List}
 use native.Mathlib.Omega.{arith}
 use native.Mathlib.Decide.{ℕ-discrete, decLt}
@@ -116,16 +117,16 @@ module _ {bounds pins sides marks z₀ z z' : List ℕ} {g g' : List ℤ} {n : �
 
 -- ---- the answer, the gains and the scratch
 
-module _ {most : Limits} (narrow : Narrow most) (job : Job) (gains₀ : List ℤ) (z₀ : List ℕ) (l : ListLengths) where
+module _ (balancing : Bool) {most : Limits} (narrow : Narrow most) (job : Job) (gains₀ : List ℤ) (z₀ : List ℕ) (l : ListLengths) where
   abbrev Lays : List ℤ → List ℕ → Survey → Type 0
-  Lays g z s = LaysOut most job (fitWord job gains₀ z₀ l) gains₀ z₀ g z s
+  Lays g z s = LaysOut balancing most job (fitWord job gains₀ z₀ l) gains₀ z₀ g z s
 
   pub laid-once : {g g' : List ℤ} {z z' : List ℕ} {s s' : Survey} → Lays g z s → Lays g' z' s' → (s ≡ s') × (g ≡ g') × (z ≡ z')
   laid-once {g} {g'} {z} {z'} {s} {s'} a b = elim (ℕ-discrete (s .verdict .number) 0) [
     | yes e ↦
         let d = a .laid e in
         let d' = b .laid (sym number ∙ e) in
-        let asked = builders-ask job gains₀ z₀ l most narrow (let-through most job _ (a .answer) e) in
+        let asked = builders-ask job gains₀ z₀ l most narrow (let-through balancing most job _ (a .answer) e) in
         (same, d .starting ∙ sym (d' .starting), prepared-once (asked .0) (omega (arith, asked .1 .1 .0)) d d')
     | no n ↦
         let r = a .refused n in

@@ -26,7 +26,7 @@ pub record Prepared (bounds pins sides marks z₀ z : List ℕ) (gains : List �
   pub starting : gains ≡ startGains (viewsOf bounds pins) (length sides) (stateOf sides marks)
 
 -- the check's answer, told whether the lent lists fit; refused, gains and scratch stay as they were, else they are prepared
-pub record LaysOut (most : Limits) (job : Job) (word : Bool) (gains₀ : List ℤ) (z₀ : List ℕ) (gains : List ℤ) (z : List ℕ) (s : Survey) : Type 0 where
-  pub answer : s ≡ surveyOf most job word
+pub record LaysOut (balancing : Bool) (most : Limits) (job : Job) (word : Bool) (gains₀ : List ℤ) (z₀ : List ℕ) (gains : List ℤ) (z : List ℕ) (s : Survey) : Type 0 where
+  pub answer : s ≡ surveyOf balancing most job word
   pub refused : s .verdict .number ≢ 0 → (gains ≡ gains₀) × (z ≡ z₀)
   pub laid : s .verdict .number ≡ 0 → Prepared (job .bounds) (job .pins) (job .sides) (job .marks) z₀ z gains (recipeCount job)

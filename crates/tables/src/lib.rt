@@ -28,7 +28,7 @@ ghost use Rattle.job.specs.Parts.{wholeJob};
 ghost use Rattle.tables.specs.LentFits.{fitsOf};
 ghost use Rattle.tables.specs.LayingOut.{LaysOut};
 
-// The check, with the lengths of the lent lists under 3; where it lets through, cells, locks and counts are laid out in the
+// The check of a pass or of the balancing, with the lengths of the lent lists under 3; where it lets through, cells, locks and counts are laid out in the
 // scratch, and the gains are the starting ones. Of the move lists and scan lists only their lengths are told.
 pub fn lay_out(
     job: Job,
@@ -40,8 +40,9 @@ pub fn lay_out(
     gains: &mut [i32],
     scratch: &mut [u16],
     lists: ListLengths,
+    balancing: bool,
 ) -> Survey
-    ensures { λ r. do ⌜ LaysOut (limitsOf (← ⟦Job::MOST_FILES⟧ .entry) (← ⟦Job::MOST_RECIPES⟧ .entry) (← ⟦Job::MOST_PINS⟧ .entry) (← ⟦Job::MOST_DEN⟧ .entry)) (wholeJob job (now (sizes .entry)) (now (sides .entry)) (now (marks .entry)) (now (bounds .entry)) (now (pins .entry))) (fitsOf (length (now (sizes .entry))) (length (now (bounds .entry)) - 1) (length (now (pins .entry))) (length (now (gains .entry))) (length (now (scratch .entry))) lists) (now (gains .entry)) (now (scratch .entry)) (now (gains .exit)) (now (scratch .exit)) r ⌝ }
+    ensures { λ r. do ⌜ LaysOut balancing (limitsOf (← ⟦Job::MOST_FILES⟧ .entry) (← ⟦Job::MOST_RECIPES⟧ .entry) (← ⟦Job::MOST_PINS⟧ .entry) (← ⟦Job::MOST_DEN⟧ .entry)) (wholeJob job (now (sizes .entry)) (now (sides .entry)) (now (marks .entry)) (now (bounds .entry)) (now (pins .entry))) (fitsOf (length (now (sizes .entry))) (length (now (bounds .entry)) - 1) (length (now (pins .entry))) (length (now (gains .entry))) (length (now (scratch .entry))) lists) (now (gains .entry)) (now (scratch .entry)) (now (gains .exit)) (now (scratch .exit)) r ⌝ }
 {
     let fit = lists_fit(
         sizes.len(),
@@ -51,7 +52,7 @@ pub fn lay_out(
         scratch.len(),
         lists,
     );
-    let s = job::survey(job, sizes, sides, marks, bounds, pins, fit);
+    let s = job::survey(job, sizes, sides, marks, bounds, pins, fit, balancing);
     let v = s.verdict;
     if v.number != 0 {
         return s;

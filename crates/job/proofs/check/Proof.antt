@@ -1,6 +1,6 @@
 use mathlib.Core.Path.{refl, _∙_}
 use native.Mathlib.Omega.{arith}
-use Rattle.rules.specs.Check.{check}
+use Rattle.rules.specs.Check.{check7to9, check}
 use Rattle.rules.proofs.Verdicts.{chain-stop, chain-go, zero-of}
 use Rattle.rules.proofs.SoundJob.{sound}
 use Rattle.job.specs.Totals.{totalsOf}
@@ -28,7 +28,7 @@ check7to9-requires c κs =
     within-more (omega (arith, s .fewFiles)) (c .totals-of .ensures .within)
 
 returns-2 : tie.Need-returns-2
-unfolding check totalsOf
+unfolding check check7to9 totalsOf
 returns-2 c =
     chain-go (c .before .before .before .before .check1to6 .ensures ∙ lists-only _ _ _) (c .before .before .if1 .left)
     (c .check7to9 .ensures _ (record { job-is = refl; totals = c .before .totals-of .ensures .is }))

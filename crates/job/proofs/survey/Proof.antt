@@ -1,7 +1,6 @@
 use mathlib.Core.Path.{refl, _∙_}
 use native.Mathlib.Omega.{arith}
 use Rattle.rules.specs.Job.{views}
-use Rattle.rules.specs.Check.{check}
 use Rattle.rules.proofs.Verdicts.{chain-stop, chain-go, zero-of}
 use Rattle.rules.proofs.SoundJob.{sound}
 use Rattle.job.specs.Totals.{totalsOf}
@@ -15,9 +14,8 @@ check1to6-requires : tie.Need-check1to6-requires
 check1to6-requires c κs = search needs
 
 returns : tie.Need-returns
-unfolding check
 returns c =
-    survey-refused _ _ _ (chain-stop _ (c .before .before .check1to6 .ensures ∙ lists-only _ _ _) (c .if1 .taken)) (c .if1 .taken)
+    survey-refused _ _ _ _ (chain-stop _ (c .before .before .check1to6 .ensures ∙ lists-only _ _ _) (c .if1 .taken)) (c .if1 .taken)
 
 totals-of-requires : tie.Need-totals-of-requires
 totals-of-requires c κs =
@@ -30,10 +28,10 @@ check7to9-requires c κs =
     within-more (omega (arith, s .fewFiles)) (c .totals-of .ensures .within)
 
 returns-2 : tie.Need-returns-2
-unfolding check totalsOf
+unfolding totalsOf
 returns-2 c =
     let t = c .before .before .before in
-    survey-refused _ _ _
+    survey-refused _ _ _ _
     (chain-go (t .before .before .before .check1to6 .ensures ∙ lists-only _ _ _) (t .before .if1 .left)
     (c .before .before .check7to9 .ensures _ (record { job-is = refl; totals = t .totals-of .ensures .is })))
     (c .if2 .taken)
@@ -42,10 +40,10 @@ cut-requires : tie.Need-cut-requires
 cut-requires c κs = search needs
 
 returns-3 : tie.Need-returns-3
-unfolding check totalsOf views
+unfolding totalsOf views
 returns-3 c =
     let t = c .before .before .before .before in
-    survey-done _ _ _
+    survey-done _ _ _ _
     (chain-go (t .before .before .before .check1to6 .ensures ∙ lists-only _ _ _) (t .before .if1 .left)
     (c .before .before .before .check7to9 .ensures _ (record { job-is = refl; totals = t .totals-of .ensures .is })))
     _ _ (c .before .if2 .left) (c .cut .ensures) (t .totals-of .ensures .is)

@@ -1,7 +1,8 @@
 use native.Mathlib.Omega.{arith}
 use lib.Dec.{eqb}
 use Rattle.rules.specs.Job.{limitsOf}
-use Rattle.planner.proofs.Telling.{refusal-out, run-read, room-read, few-read, bytes-read, within-read, any-room, told-out, told-number}
+use Rattle.planner.proofs.Taken.{room-read, few-read, bytes-read, within-read}
+use Rattle.planner.proofs.Telling.{refusal-out, run-read, any-room, told-out, told-number}
 use borrow.Author.Needs.{needs}
 use Rattle.planner.proofs.answer.Statement.{statement}
 use Rattle.planner.proofs.answer.Tie as tie
@@ -63,10 +64,10 @@ print-job-requires : tie.Need-print-job-requires
 print-job-requires c κs =
     let r = c .before .before .before .before .before .before .before .before .before .before .before .before .before .before .read in
     let z = c .before .before .before .before .before .before .if1 .left in (
-      room-read 0 (limitsOf _ _ _ _) _ (r .result) _ (r .ensures .0) (r .ensures .1) z,
+      room-read (limitsOf _ _ _ _) _ (r .result) _ (r .ensures .0) (r .ensures .1) z,
       (
-        few-read 0 (limitsOf _ _ _ _) _ (r .result) _ (r .ensures .0) (r .ensures .1) z,
-        (bytes-read 0 (limitsOf _ _ _ _) _ (r .result) _ (r .ensures .0) (r .ensures .1) z, within-read 0 (limitsOf _ _ _ _) _ (r .result) _ (r .ensures .0) (r .ensures .1) z _ (omega arith)),
+        few-read (limitsOf _ _ _ _) _ (r .result) _ (r .ensures .0) (r .ensures .1) z,
+        (bytes-read (limitsOf _ _ _ _) _ (r .result) _ (r .ensures .0) (r .ensures .1) z, within-read (limitsOf _ _ _ _) _ (r .result) _ (r .ensures .0) (r .ensures .1) z _ (omega arith)),
       ),
     )
 

@@ -1,4 +1,4 @@
-use Rattle.planner.proofs.Telling.{figures-whole}
+use Rattle.planner.proofs.Taken.{figures-whole}
 use borrow.Author.Needs.{needs}
 use Rattle.planner.proofs.figures_of.Statement.{statement}
 use Rattle.planner.proofs.figures_of.Tie as tie

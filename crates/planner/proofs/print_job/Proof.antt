@@ -1,10 +1,13 @@
-use mathlib.Core.Path.{sym, _∙_}
+use mathlib.Core.Path.{sym, ap, _∙_}
 use native.Mathlib.Omega.{arith}
 use lib.ListN.{take}
 use lib.Seq.{length-take-le}
-use Rattle.rules.specs.Job.{Limits, limitsOf}
+use Rattle.rules.specs.Job.{Job, Limits, limitsOf}
+use Rattle.rules.specs.Writing.{handInto}
 use Rattle.stored.specs.Room.{roomOf}
-use Rattle.planner.proofs.Telling.{own-lent, first-out}
+use Rattle.planner.specs.Answering.{jobOut}
+use Rattle.planner.proofs.Taken.{first-whole}
+use Rattle.planner.proofs.Telling.{own-lent}
 use borrow.Author.Needs.{needs}
 use Rattle.planner.proofs.print_job.Statement.{statement}
 use Rattle.planner.proofs.print_job.Tie as tie
@@ -95,7 +98,9 @@ returns : tie.Need-returns
 returns c =
     let a = c .before .before .before .before .before .before .before .before .before .before .before .before .before .before .before .before .before .before .before .before .before .before .before .before .before .before .before .before .before .before .before .before .before .before .before .before .before .args in
     let e = c .before .before .before .before .before .before .before .before .before .before .before .before .print-with .ensures in
-    (first-out (a .what) (limitsOf _ _ _ _) (a .h) (roomOf (a .sizes .now) (a .sides .now) (a .marks .now) (a .bounds .now) (a .pins .now)) _ _ (a .out .now) (c .before .before .before .before .before .before .before .before .before .before .before .before .before .before .before .before .before .before .before .before .before .before .before .before .before .before .before .figures-of .ensures) (e .0), e .1)
+    let lists = roomOf (a .sizes .now) (a .sides .now) (a .marks .now) (a .bounds .now) (a .pins .now) in
+    let whole = first-whole (a .h) lists _ (c .before .before .before .before .before .before .before .before .before .before .before .before .before .before .before .before .before .before .before .before .before .before .before .before .before .before .before .figures-of .ensures) in
+    (e .0 ∙ ap (λ (j : Job). handInto (jobOut (a .what) most j) (a .out .now)) whole, e .1)
 
 pub print-job-spec : {M : Type 1} → statement M
 print-job-spec =

@@ -2,6 +2,7 @@
 -- The invariant: whatever pass the lists were in when the moves began, it is underway. Assumes nothing.
 use mathlib.Core.Path.{_≡_, refl, ap, _∙_}
 use Prim.Native.Nat.{ℕ, _-_}
+use mathlib.Core.Bool.{false}
 use native.Mathlib.Omega.{arith}
 use lib.IntN.{ℤ}
 use lib.ListN.{length, set}
@@ -10,7 +11,6 @@ use mir.Val.{toZ, ofZ}
 use Rattle.rules.specs.Job.{Job, Limits, Lent, lentOf}
 use Rattle.job.specs.declared.Job.{Job as Figures}
 use Rattle.job.specs.Parts.{wholeJob}
-use Rattle.rules.specs.Pass.{tries}
 use Rattle.split.specs.declared.progress.Progress.{Progress}
 use Rattle.split.specs.Scanning.{Treated, treated}
 use Rattle.split.specs.Moving.{Board, board, treatMove, moveOne}
@@ -20,7 +20,8 @@ use Rattle.split.proofs.Playable.{Playable}
 use Rattle.split.proofs.Bounds.{BoardLong}
 use Rattle.split.proofs.MoveNow.{MoveFits}
 use Rattle.split.proofs.OneMove.{steps-move}
-use Rattle.split.proofs.Played.{same-below, file-fits, count-fits, place-fits, gain-place-fits, one-less, Underway, under-long, sides-stay, gains-stay, choosable, playing-next, playing-gain, playing-safe, playing-fits, playing-more, playing-goes, playing-end}
+use Rattle.split.proofs.Played.{same-below, file-fits, count-fits, place-fits, gain-place-fits, one-less, Chose, under-long, sides-stay, gains-stay, choosable, playing-next, playing-safe, playing-fits, playing-more, playing-goes, playing-end}
+use Rattle.split.proofs.PassMoves.{passMoves, PassUnderway, pass-frees, pass-chose, pass-gain}
 use Rattle.split.proofs.PassOnce.{first-under, few-numbers, extent-known, pass-ends}
 use Rattle.split.proofs.Accepting.{Accepting, accepting, cut-is, begins-as, sums-small, playable, pass-refused, pass-done}
 use Rattle.split.proofs.pass_once.Statement.{statement}
@@ -29,8 +30,8 @@ use Rattle.split.proofs.pass_once.Tie as tie
 abbrev Inv-loop : tie.InvT-loop
 Inv-loop sizes sides₀ marks bounds pins gains₀ tried₀ gained₀ cuts₀ ends₀ recipes₀ kinds₀ scratch₀ s window c p₀ sides gains tried gained cuts ends recipes kinds scratch p =
     (figures : Figures) (l : Lent)
-    → Underway (wholeJob figures sizes sides₀ marks bounds pins) l window (board sides₀ tried₀ gained₀ cuts₀ ends₀ scratch₀ gains₀ recipes₀ kinds₀ p₀)
-    → Underway (wholeJob figures sizes sides₀ marks bounds pins) l window (board sides tried gained cuts ends scratch gains recipes kinds p)
+    → PassUnderway (wholeJob figures sizes sides₀ marks bounds pins) l window (board sides₀ tried₀ gained₀ cuts₀ ends₀ scratch₀ gains₀ recipes₀ kinds₀ p₀)
+    → PassUnderway (wholeJob figures sizes sides₀ marks bounds pins) l window (board sides tried gained cuts ends scratch gains recipes kinds p)
 
 abbrev μ-loop : tie.MeasureT-loop
 μ-loop sizes sides₀ marks bounds pins gains₀ tried₀ gained₀ cuts₀ ends₀ recipes₀ kinds₀ scratch₀ s window c p₀ sides gains tried gained cuts ends recipes kinds scratch p =
@@ -61,16 +62,16 @@ module _ (t : tie.After-lay-out Inv-loop μ-loop) where
       (s .args .recipes .now) (s .args .kinds .now) (s .args .scratch .now)
 
   -- the job's own limits, and the answer by them
-  abbrev known : (most : Limits) × Accepting most job lists (t .lay-out .last .1 .1 .1 .1 .1 .1 .0) (t .lay-out .last .1 .1 .1 .1 .1 .1 .1 .0) (t .lay-out .result)
+  abbrev known : (most : Limits) × Accepting false most job lists (t .lay-out .last .1 .1 .1 .1 .1 .1 .0) (t .lay-out .last .1 .1 .1 .1 .1 .1 .1 .0) (t .lay-out .result)
   known = (
     _,
-    accepting _ job lists (t .lay-out .ensures) (record { files = omega arith; recipes = omega arith; pins = omega arith; den = omega arith })
+    accepting false _ job lists (t .lay-out .ensures) (record { files = omega arith; recipes = omega arith; pins = omega arith; den = omega arith })
         (λ i. omega (arith, t .before .before .before .before .before .before .before .before .before .before .before .before .before .before .shared-slice-known .given i)),
   )
 
 -- the answer, by the limits
 survey : (t : tie.After-lay-out Inv-loop μ-loop)
-    → Accepting (known t .0) (job t) (lists t) (t .lay-out .last .1 .1 .1 .1 .1 .1 .0) (t .lay-out .last .1 .1 .1 .1 .1 .1 .1 .0) (t .lay-out .result)
+    → Accepting false (known t .0) (job t) (lists t) (t .lay-out .last .1 .1 .1 .1 .1 .1 .0) (t .lay-out .last .1 .1 .1 .1 .1 .1 .1 .0) (t .lay-out .result)
 survey t = known t .1
 
 lay-out-requires : tie.Need-lay-out-requires Inv-loop μ-loop
@@ -109,8 +110,8 @@ module _ (n : tie.After-new Inv-loop μ-loop) where
       board (s laid .args .sides .now) (s laid .args .tried .now) (s laid .args .gained .now) (s laid .args .cuts .now) (s laid .args .ends .now)
       (laid .lay-out .last .1 .1 .1 .1 .1 .1 .1 .0) (laid .lay-out .last .1 .1 .1 .1 .1 .1 .0) (s laid .args .recipes .now) (s laid .args .kinds .now) (n .new .result)
 
-  begins : Underway (job laid) (lists laid) (n .before .window-of .result) starts
-  begins = first-under plays (survey laid .lays .laid clear) (begins-as (survey laid) clear (n .new .ensures))
+  begins : PassUnderway (job laid) (lists laid) (n .before .window-of .result) starts
+  begins = first-under (pass-frees (plays .most) (job laid) (plays .sound)) plays (survey laid .lays .laid clear) (begins-as (survey laid) clear (n .new .ensures))
 
 -- ---- between two moves
 
@@ -125,23 +126,26 @@ module _ (a : At) where
   stands =
       board (a .loop .sides) (a .loop .tried) (a .loop .gained) (a .loop .cuts) (a .loop .ends) (a .loop .scratch) (a .loop .gains) (a .loop .recipes) (a .loop .kinds) (a .loop .p)
 
-  now : Underway (job here) (lists here) (a .before .before .window-of .result) stands
+  now : PassUnderway (job here) (lists here) (a .before .before .window-of .result) stands
   now = a .loop .inv (args .args .job) (lists here) (begins (a .before))
 
 -- ---- once the move is chosen
 
 module _ (k : Chosen) where
   abbrev at : At
-  at = k .before .before .before .before
+  at = k .before .before .before .before .before
 
   abbrev f : ℕ
   f = k .choose .result .file
+
+  chose : Chose (job (here at)) (passMoves (job (here at))) (stands at) f
+  chose = pass-chose (now at) (k .choose .ensures)
 
 -- ---- once no move is left and the lists are ended
 
 module _ (e : tie.After-figures Inv-loop μ-loop) where
   abbrev last : At
-  last = e .before .before .before .before .before .before .before .before .before .before .before .before .before .before .before .before .before .before .before .before .before .before .before .before .before .before .before .before .before .before .before .before
+  last = e .before .before .before .before .before .before .before .before .before .before .before .before .before .before .before .before .before .before .before .before .before .before .before .before .before .before .before .before .before .before .before .before .before
 
   abbrev moved : tie.After-end-moves Inv-loop μ-loop
   moved = e .before .before .before .before .before .before .before .before .before .before .before .before .before .before .before .before .before .before .before .before .before
@@ -149,8 +153,8 @@ module _ (e : tie.After-figures Inv-loop μ-loop) where
   abbrev scans : tie.After-end-scans Inv-loop μ-loop
   scans = e .before .before .before .before .before .before .before
 
-  over : Going (job (here last)) (lists (here last)) (length (tries (job (here last)) (s (here last) .args .sides .now))) (stands last)
-  over = playing-end (now last) (e .before .before .before .before .before .before .before .before .before .before .before .before .before .before .before .before .before .before .before .before .before .before .before .before .before .before .before .before .choose .ensures) (e .before .before .before .before .before .before .before .before .before .before .before .before .before .before .before .before .before .before .before .before .before .before .before .before .before .before .before .if2 .taken)
+  over : Going (job (here last)) (passMoves (job (here last))) (lists (here last)) (length (passMoves (job (here last)))) (stands last)
+  over = playing-end (now last) (pass-chose (now last) (e .before .before .before .before .before .before .before .before .before .before .before .before .before .before .before .before .before .before .before .before .before .before .before .before .before .before .before .before .choose .ensures)) (e .before .before .before .before .before .before .before .before .before .before .before .before .before .before .before .before .before .before .before .before .before .before .before .before .before .before .before .if2 .taken)
 
   long : BoardLong (job (here last)) (lists (here last)) (stands last)
   long = under-long (now last)
@@ -200,7 +204,7 @@ module _ (n : tie.After-counted Inv-loop μ-loop) where
   made : leaves ≡ moveOne (args (a t) .args .sizes .now) (args (a t) .args .bounds .now) (args (a t) .args .pins .now) (f (choice t)) (stands (a t))
   made =
       steps-move (args (a t) .args .sizes .now) (args (a t) .args .bounds .now) (args (a t) .args .pins .now) (f (choice t)) (stands (a t)) {y = left t}
-      (t .treat-move .ensures .0) (ap (set (a t .loop .gained) k) (mag-back (choice t .choose .result .gain) (n .before .before .before .before .before .before .before .before .before .before .before .before .before .before .before .before .before .before .struct-told .given .1 .0 .1) ∙ playing-gain (now (a t)) (choice t .choose .ensures) (goesOn t .if2 .left)))
+      (t .treat-move .ensures .0) (ap (set (a t .loop .gained) k) (mag-back (choice t .choose .result .gain) (n .before .before .before .before .before .before .before .before .before .before .before .before .before .before .before .before .before .before .struct-told .given .1 .0 .1) ∙ pass-gain (now (a t)) (choice t .choose .ensures) (goesOn t .if2 .left)))
       (left-is t) (n .counted .ensures)
 
 window-of-requires : tie.Need-window-of-requires Inv-loop μ-loop
@@ -212,14 +216,17 @@ new-requires c κs = tt
 loop-holds : tie.Need-loop-holds Inv-loop μ-loop
 loop-holds c figures l u = u
 
+cast-size : tie.Need-cast-size Inv-loop μ-loop
+cast-size c = record { fits = choosable (now (c .before)) .size }
+
 choose-requires : tie.Need-choose-requires Inv-loop μ-loop
-choose-requires c κs = let o = choosable (now (c .before .before .before)) in ((o .sides, o .gains, o .locks), ((o .den, o .size), o .holds))
+choose-requires c κs = tt
 
 end-moves-requires : tie.Need-end-moves-requires Inv-loop μ-loop
 end-moves-requires c κs = tt
 
 extent-of-requires : tie.Need-extent-of-requires Inv-loop μ-loop
-extent-of-requires c κs = few-numbers (plays (c .before .before .before .before .before .before .before .before .before .before .before .before .before .before .before .before .before .before .before .before .before))
+extent-of-requires c κs = few-numbers (plays (c .before .before .before .before .before .before .before .before .before .before .before .before .before .before .before .before .before .before .before .before .before .before))
 
 end-scans-requires : tie.Need-end-scans-requires Inv-loop μ-loop
 end-scans-requires c κs = tt
@@ -264,7 +271,7 @@ returns-2 c =
 -- its entries
 module _ (i : tie.Else2 Inv-loop μ-loop) where
   room : MoveFits (args (at (i .before)) .args .sizes .now) (args (at (i .before)) .args .bounds .now) (args (at (i .before)) .args .pins .now) (f (i .before)) (stands (at (i .before)))
-  room = playing-fits (now (at (i .before))) (i .before .choose .ensures) (i .if2 .left)
+  room = playing-fits (now (at (i .before))) (chose (i .before)) (i .if2 .left)
 
 cast-tried : tie.Need-cast-tried Inv-loop μ-loop
 cast-tried c = file-fits (c .if2 .left) (now (at (c .before)) .playable .small .files)
@@ -282,7 +289,7 @@ slice-set-from-gain : tie.Need-slice-set-from-gain Inv-loop μ-loop
 slice-set-from-gain c = room (c .before) .gained
 
 treat-move-requires : tie.Need-treat-move-requires Inv-loop μ-loop
-treat-move-requires c κs = let i = c .before .before .before .before .before .before in playing-safe (now (at (i .before))) (i .before .choose .ensures) (i .if2 .left)
+treat-move-requires c κs = let i = c .before .before .before .before .before .before in playing-safe (now (at (i .before))) (chose (i .before)) (i .if2 .left)
 
 cast-cuts : tie.Need-cast-cuts Inv-loop μ-loop
 cast-cuts c = let t = c .before .before .before .before .before .before .before .before .before .before in count-fits (number t (λ p. p .cut)) (room (goesOn t) .cut)
@@ -309,15 +316,15 @@ loop-less : tie.Need-loop-less Inv-loop μ-loop
 loop-less c =
     let k = choice (t c) in
     let h = goesOn (t c) .if2 .left in
-    one-less (playing-next (now (at k)) (k .choose .ensures) h .early) (playing-more (now (at k)) (k .choose .ensures) h {b' = leaves c} (made c))
+    one-less (playing-next (now (at k)) (chose k) h .early) (playing-more (now (at k)) (chose k) h {b' = leaves c} (made c))
 
 -- whatever pass was underway when the moves began
 module _ (n : tie.After-counted Inv-loop μ-loop) (figures : Figures) (l : Lent) where
   abbrev any : Job
   any = let g = args (a (t n)) .args in wholeJob figures (g .sizes .now) (g .sides .now) (g .marks .now) (g .bounds .now) (g .pins .now)
 
-  goes : Underway any l (a (t n) .before .before .window-of .result) (starts (a (t n) .before)) → Underway any l (a (t n) .before .before .window-of .result) (leaves n)
-  goes u = playing-goes (a (t n) .loop .inv figures l u) (choice (t n) .choose .ensures) (goesOn (t n) .if2 .left) {b' = leaves n} (made n)
+  goes : PassUnderway any l (a (t n) .before .before .window-of .result) (starts (a (t n) .before)) → PassUnderway any l (a (t n) .before .before .window-of .result) (leaves n)
+  goes u = let v = a (t n) .loop .inv figures l u in playing-goes v (pass-chose v (choice (t n) .choose .ensures)) (goesOn (t n) .if2 .left) {b' = leaves n} (made n)
 
 loop-again : tie.Need-loop-again Inv-loop μ-loop
 loop-again c figures l u = goes c figures l u
@@ -337,6 +344,7 @@ pass-once-spec =
     window-of-requires
     new-requires
     loop-holds
+    cast-size
     choose-requires
     end-moves-requires
     extent-of-requires

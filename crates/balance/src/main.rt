@@ -1,0 +1,14 @@
+// A stored job on standard input, and on standard output the stored job with a balanced start; its four lines, or a refusal's line, go to standard error.
+use libc::STDERR_FILENO;
+use libc::STDOUT_FILENO;
+
+fn main() {
+    let mut input = [0u8; planner::INPUT_BYTES];
+    let got = blocks::take(&mut input, planner::INPUT_BYTES);
+    let mut room = [0u8; balancer::ROOM_BYTES];
+    let handed = balancer::balance(&input[..got], &mut room);
+    let output = handed.output;
+    let end = output + handed.errors;
+    io::write_all(STDOUT_FILENO, &room[..output]);
+    io::write_all(STDERR_FILENO, &room[output..end]);
+}

@@ -1,0 +1,85 @@
+-- What the balancing of a job leaves, and what the program then hands out of it. Assumes nothing.
+use mathlib.Core.Path.{_≡_, refl, sym, ap, _∙_}
+use mathlib.Core.Logic.{_≢_}
+use Prim.Native.Nat.{ℕ, _*_}
+use mathlib.Core.Bool.{true}
+use mathlib.Core.List.{List}
+use borrow.Author.Tests.{eq-eqb}
+use Rattle.rules.specs.declared.Verdict.{Verdict}
+use Rattle.rules.specs.declared.ReadFigures.{ReadFigures}
+use Rattle.rules.specs.declared.BalanceFigures.{BalanceFigures}
+use Rattle.rules.specs.Job.{Job, Limits, files}
+use Rattle.rules.specs.Check.{check1to6, check7to9, check}
+use Rattle.rules.specs.Split.{sizeOn}
+use Rattle.rules.specs.Stored.{Room, blockCount, jobOf, reading, readVerdict}
+use Rattle.rules.specs.Report.{refusal, sizeLine, intoRoom, allRoom, allLent}
+use Rattle.rules.specs.Writing.{headerFor, blocksOf, withSides, HandedOut, Handing, handInto}
+use Rattle.rules.specs.Balance.{balanceVerdict, Balancing, balancingOf, balancing, balanceLines, balanceReporting, allBalancing, balances}
+use Rattle.rules.proofs.Verdicts.{passes-both}
+use Rattle.rules.proofs.Proved.{accepted}
+use Rattle.rules.proofs.Writes.{handed-refused, handed-done}
+use Rattle.rules.proofs.Balancing.{balance-told, balance-answers, answer-verdict, balances-no}
+use Rattle.stored.specs.Steps.{firstOf}
+use Rattle.planner.specs.Answering.{textOut}
+use Rattle.planner.proofs.Taken.{verdict-read, number-read, job-read}
+use Rattle.balancer.specs.Answering.{madeOut, answerOut, jobOut, Made}
+
+-- the lines know no more of the job's sides than those they are told
+lines-sides : (job : Job) (a : BalanceFigures) (sides : List ℕ) → balanceLines (withSides job sides) a sides ≡ balanceLines job a sides
+unfolding balanceLines sizeLine sizeOn files
+lines-sides job a sides = refl
+
+module _ (most : Limits) (job : Job) (a : BalanceFigures) (sides own scratch : List ℕ) (e : balancingOf a sides scratch ≡ balancing most job own) (q : own ≡ allLent most job .scratch) where
+  made : balancingOf a sides scratch ≡ allBalancing most job
+  made = e ∙ ap (balancing most job) q
+
+  pub refused-out : a .verdict .number ≢ 0 → textOut true (refusal (a .verdict)) ≡ jobOut most job
+  refused-out n = sym (handed-refused (a .verdict) (withSides job sides) (balanceLines job a sides) n) ∙ ap (answerOut job) made
+
+  pub made-out : a .verdict .number ≡ 0 → madeOut a (withSides job sides) ≡ jobOut most job
+  made-out z =
+      ap (λ (l : List ℕ). record { output = blocksOf (withSides job sides); errors = l }) (lines-sides job a sides)
+      ∙ sym (handed-done (a .verdict) (withSides job sides) (balanceLines job a sides) z)
+      ∙ ap (answerOut job) made
+
+  module _ (z : a .verdict .number ≡ 0) where
+    let-through : balanceVerdict most job own .number ≡ 0
+    let-through = sym (ap (λ (v : Verdict). v .number) (ap (λ (b : Balancing). b .answer .verdict) e ∙ answer-verdict most job own)) ∙ z
+
+    accepts : check most (withSides job sides) true .number ≡ 0
+    accepts = ap (λ (b : Balancing). check most (withSides job (b .sides)) true .number) e ∙ ap (λ (v : Verdict). v .number) (balance-answers most job own .passes let-through)
+
+    told : (room : List ℕ) → balanceReporting most (job .sizes) a sides room ≡ intoRoom (balanceLines (withSides job sides) a sides) room
+    told room =
+        ap (λ (b : Balancing). balanceReporting most (job .sizes) (b .answer) (b .sides) room) e
+        ∙ balance-told most job own room let-through
+        ∙ ap (λ (b : Balancing). intoRoom (balanceLines job (b .answer) (b .sides)) room) (sym e)
+        ∙ ap (λ (l : List ℕ). intoRoom l room) (sym (lines-sides job a sides))
+
+    pub after-made : (n : ℕ) → n ≡ 512 * blockCount (headerFor job) → Made most a (withSides job sides) n
+    unfolding check
+    after-made n l = record {
+      told = told;
+      passes = passes-both (check1to6 most (withSides job sides) true) (check7to9 most (withSides job sides)) accepts .0;
+      blocks = l;
+      sidesLong = accepted most (withSides job sides) true accepts .sound .sidesLong;
+    }
+
+-- ---- of an input
+
+balances-read : (most : Limits) (bytes : List ℕ) → readVerdict most bytes (allRoom most) .number ≡ 0 → balances most bytes ≡ jobOut most (jobOf bytes)
+unfolding balances
+balances-read most bytes z = rw (eq-eqb (readVerdict most bytes (allRoom most) .number) 0 z, balances) refl
+
+module _ (most : Limits) (bytes : List ℕ) (r : ReadFigures) (lists : Room) (e : r ≡ reading most bytes (allRoom most) .answer) (f : lists ≡ reading most bytes (allRoom most) .room) (x : Handing) (room : List ℕ) where
+  pub refused-read : r .verdict .number ≢ 0 → x ≡ handInto (textOut true (refusal (r .verdict))) room → x ≡ handInto (balances most bytes) room
+  refused-read n h =
+      h
+      ∙ ap (λ (y : HandedOut). handInto y room)
+      (ap (λ (v : Verdict). textOut true (refusal v)) (verdict-read most bytes r lists e f) ∙ sym (balances-no most bytes (λ z. n (number-read most bytes r lists e f ∙ z))))
+
+  pub made-read : r .verdict .number ≡ 0 → x ≡ handInto (jobOut most (firstOf (r .header) lists)) room → x ≡ handInto (balances most bytes) room
+  made-read z h =
+      h
+      ∙ ap (λ (y : HandedOut). handInto y room)
+      (ap (jobOut most) (job-read most bytes r lists e f z) ∙ sym (balances-read most bytes (sym (number-read most bytes r lists e f) ∙ z)))

@@ -1,0 +1,4 @@
+pub mod Handing
+pub mod Balancing
+pub mod WholeInput
+pub mod Unique

@@ -1,0 +1,4 @@
+pub mod Fitting
+pub mod FilesPassed
+pub mod Leading
+pub mod Unique

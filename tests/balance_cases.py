@@ -1,0 +1,202 @@
+"""Calls of the balancing, of which the program `job_cases` prints the answers.
+
+tests/job_cases.py writes them behind its own cases. A case is a heading with its name, and
+then the frames of a call: the letter `b`, the figures num, den, cap, the lists sizes, sides,
+marks, bounds, pins, and the scratch as it is before the call. It is lent these lists, each
+exactly as long as its frame says. Four lines are printed of it:
+
+    1  the name
+    2  number, place, moves, cut, |A|, as the call answers them
+    3  how many numbers the sides have, then all of them, as they are after the call
+    4  the same of the scratch
+
+So an empty list is the line `0`. The answers are the reference's, planner.balance. So is what
+the program `balance` must write of the chain with all of its files in A.
+"""
+
+import itertools
+import random
+from typing import NamedTuple
+
+from job_cases import CHAIN, FAULTS, FROM_7_ON, UP_TO_6, figures_and_lists
+from make_cases import SEED, bad_starts
+from program_files import frame, heading, numbers
+
+import planner
+import samples
+from planner import A, B, PINNED
+
+# The most numbers of any list but the scratch, and of a scratch.
+MOST = 4097
+MOST_SCRATCH = 12320
+
+IN_A = CHAIN.changed(sides=[A] * 4)
+IN_B = CHAIN.changed(sides=[B] * 4)
+
+
+class Call(NamedTuple):
+    name: str
+    job: planner.Job
+    scratch: tuple
+
+
+# ---- Ways to make cases
+
+
+def used(length):
+    """A scratch that others have used: no number is 0, and none is twice there."""
+    return tuple(range(1, length + 1))
+
+
+def lent(job, step=0):
+    """A scratch that just serves the job, or is so much longer."""
+    return used(planner.scratch_numbers(job) + step)
+
+
+def called(name, *jobs):
+    """Each job with a scratch that just serves; a heading names those after it."""
+    for k, job in enumerate(jobs):
+        if isinstance(job, str):
+            name = job
+        else:
+            yield Call(f"{name}, {k}", job, scratch_of(job))
+
+
+def scratch_of(job):
+    """Of a job that 1 or 2 refuse, whatever its scratch, a short one."""
+    number, _ = planner.refusal(job, True, 2)
+    return used(3) if number else lent(job)
+
+
+def short(*cases):
+    """Without the jobs that need a long scratch, of which `largest` has some."""
+    return [
+        case for case in cases if isinstance(case, str) or len(scratch_of(case)) < 600
+    ]
+
+
+def off(name, job, *steps):
+    """The job with a scratch that is so much longer than it must be."""
+    for step in steps:
+        yield Call(f"{name}, scratch {step:+}", job, lent(job, step))
+
+
+def of_lengths(name, job, *lengths):
+    for length in lengths:
+        yield Call(f"{name}, scratch of {length}", job, used(length))
+
+
+def of_samples():
+    for name, (_, _, job) in samples.unbalanced_jobs().items():
+        yield Call(f"unbalanced {name}", job, lent(job))
+
+
+def wrong_lengths(field, *lengths):
+    """The chain with the first so many of a list, which goes on with zeros."""
+    entries = getattr(IN_A, field) + (0,) * 4
+    for length in lengths:
+        job = IN_A.changed(**{field: entries[:length]})
+        yield Call(f"no 3, {length} {field}", job, lent(job))
+
+
+# As job_cases has them, but no assignment of the free files is balanced: 9 of 12 are
+# pinned in A.
+BALANCE_FAULTS = {
+    **FAULTS,
+    9: {"sizes": [9, 1, 1, 1], "sides": [A, B, B, B], "marks": [PINNED, 0, 0, 0]},
+}
+
+
+def faulty(*numbers):
+    """The chain with these faults; where two change one list, that of the lower."""
+    job = IN_A
+    for number in sorted(numbers, reverse=True):
+        job = job.changed(**BALANCE_FAULTS[number])
+    return job
+
+
+def each_fault():
+    """By itself, and with a scratch that is too short, empty, and longer."""
+    for number in BALANCE_FAULTS:
+        job = faulty(number)
+        yield from off(f"fault {number}", job, -1, 0, 1)
+        yield from of_lengths(f"fault {number}", job, 0)
+
+
+def pairs():
+    """Every two faults at once, with a scratch that serves and one that does not."""
+    for low, high in itertools.combinations(BALANCE_FAULTS, 2):
+        job = faulty(low, high)
+        yield Call(f"faults {low} and {high}", job, scratch_of(job))
+        if low > 3:
+            yield Call(f"faults 3, {low} and {high}", job, lent(job, -1))
+
+
+def largest():
+    for name in ("large_all_in_a", "large_all_in_b"):
+        yield from off(name, bad_starts()[name], -1, 0, 1)
+
+
+def small_randoms():
+    """Few files, most of them not balanced, and scratch with numbers of any size."""
+    rng = random.Random(SEED + 3)
+    for k, side in zip(range(150), itertools.cycle((A, B, None))):
+        job = samples.unbalanced_job(rng, rng.randint(2, 10), rng.randint(1, 12), side)
+        length = planner.scratch_numbers(job) + rng.choice([0, 0, 1, 20])
+        scratch = tuple(rng.randint(0, 65535) for _ in range(length))
+        yield Call(f"random {k}", job, scratch)
+
+
+# ---- The cases
+
+CASES = (
+    *called("the chain", CHAIN, IN_A, IN_B),
+    *called("two and three files", samples.two_files(), samples.three_files()),
+    *of_samples(),
+    # Of 50 numbers: none, some, one less, all, one more, many more.
+    *of_lengths("chain in A", IN_A, 0, 1, 34, 38, 49, 50, 51, 66, 1000, MOST_SCRATCH),
+    *of_lengths("chain in B", IN_B, 0, 49, 50, 51),
+    *of_lengths("balanced chain", CHAIN, 0, 49, 50, 51),
+    *wrong_lengths("sides", 0, 1, 3, 5, 8),
+    *wrong_lengths("marks", 0, 1, 3, 5, 8),
+    *each_fault(),
+    *pairs(),
+    # The calls that check and measure are given.
+    *called("", *short(*UP_TO_6, *FROM_7_ON)),
+    *largest(),
+    *small_randoms(),
+)
+
+
+# ---- What the program reads, and what it must write
+
+
+def framed(case):
+    assert 0 < len(case.name.encode()) < 256 and len(case.scratch) <= MOST_SCRATCH
+    lists = (case.job.sizes, case.job.sides, case.job.marks)
+    assert all(len(one) <= MOST for one in (*lists, case.job.bounds, case.job.pins))
+    return heading(case.name) + frame(b"b") + figures_and_lists(case.job) + numbers(case.scratch)
+
+
+def line(told):
+    return " ".join(map(str, told)) + "\n"
+
+
+def told(case):
+    answer = planner.balance(case.job, case.scratch)
+    figures = (answer.number, answer.place, answer.moves)
+    return (
+        case.name
+        + "\n"
+        + line((*figures, answer.cut_after, answer.size_a))
+        + line((len(answer.sides), *answer.sides))
+        + line((len(answer.scratch), *answer.scratch))
+    )
+
+
+def made():
+    """The frames of all calls, what is printed of them, and the files of `balance`."""
+    chain = planner.write_job(IN_A)
+    balanced, _ = planner.balance_stored(chain)
+    calls = b"".join(map(framed, CASES)), "".join(map(told, CASES)).encode()
+    return *calls, {"crates/balance/stdin": chain, "crates/balance/stdout": balanced}
