@@ -6,7 +6,8 @@ marks, bounds, pins, and the scratch as it is before the call. It is lent these 
 exactly as long as its frame says. Four lines are printed of it:
 
     1  the name
-    2  number, place, moves, cut, |A|, as the call answers them
+    2  number, place, moves, cut, |A|, unread files and recipes that hold one, as the call
+       answers them
     3  how many numbers the sides have, then all of them, as they are after the call
     4  the same of the scratch
 
@@ -18,13 +19,13 @@ import itertools
 import random
 from typing import NamedTuple
 
-from job_cases import CHAIN, FAULTS, FROM_7_ON, UP_TO_6, figures_and_lists
-from make_cases import SEED, bad_starts
+from job_cases import CHAIN, FAULTS, FROM_7_ON, UNREAD_FILES, UP_TO_6, figures_and_lists
+from make_cases import SEED, bad_starts, large
 from program_files import frame, heading, numbers
 
 import planner
 import samples
-from planner import A, B, PINNED
+from planner import A, B, FREE, PINNED, UNREAD
 
 # The most numbers of any list but the scratch, and of a scratch.
 MOST = 4097
@@ -147,6 +148,25 @@ def small_randoms():
         yield Call(f"random {k}", job, scratch)
 
 
+def largest_unread():
+    """The largest job with each fourth file unread, and with all but the last."""
+    fourth = large(4, sides=[A] * 1024, marks=[FREE, UNREAD, FREE, FREE] * 256)
+    yield from off("large, each fourth unread", fourth, -1, 0)
+    alone = large(4, sides=[B] * 1024, marks=[UNREAD] * 1023 + [FREE])
+    yield from off("large, all but one unread", alone, 0)
+
+
+def unread_randoms():
+    """Few files, most of them not balanced, from few to most of them unread."""
+    rng = random.Random(SEED + 5)
+    for k, side in zip(range(60), itertools.cycle((A, B, None))):
+        job = samples.unbalanced_job(rng, rng.randint(3, 12), rng.randint(1, 12), side)
+        part = rng.choice([0.1, 0.3, 0.6])
+        unread = [i for i in range(job.files) if rng.random() < part]
+        job = samples.with_unread(job, *unread)
+        yield Call(f"unread random {k}", job, lent(job))
+
+
 # ---- The cases
 
 CASES = (
@@ -165,6 +185,9 @@ CASES = (
     *called("", *short(*UP_TO_6, *FROM_7_ON)),
     *largest(),
     *small_randoms(),
+    *called("", *short(*UNREAD_FILES)),
+    *largest_unread(),
+    *unread_randoms(),
 )
 
 
@@ -188,7 +211,7 @@ def told(case):
     return (
         case.name
         + "\n"
-        + line((*figures, answer.cut_after, answer.size_a))
+        + line((*figures, answer.cut_after, answer.size_a, *answer.unread))
         + line((len(answer.sides), *answer.sides))
         + line((len(answer.scratch), *answer.scratch))
     )

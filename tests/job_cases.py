@@ -4,7 +4,9 @@
     python3 tests/job_cases.py --write    writes both, and those of `balance`
 
 A case is a heading, a job, or a view; behind them stand the calls of the balancing that
-tests/balance_cases.py has. The answers are the reference's.
+tests/balance_cases.py has. The answers are the reference's. Of a job one line is printed:
+number and place of its check; number, place, cut, |A|, unread files and recipes that hold
+one, of its measure.
 """
 
 import sys
@@ -15,10 +17,12 @@ from program_files import frame, heading, keep, numbers
 
 import planner
 import samples
+from planner import FREE, PINNED, UNREAD
 
 TOP = 2**64 - 1
 
 CHAIN = samples.chain()
+FLIPPED = CHAIN.changed(sides=[1, 0, 1, 0])
 # The largest job, its pins in recipes of four, and in four recipes.
 LARGE = large(4)
 LONG = large(1024)
@@ -270,7 +274,7 @@ UP_TO_6 = (
     *chains("sizes", [0, 1, 1, 1], [1, 1, 0, 1], [1, 1, 1, 0], [0, 0, 0, 0]),
     *chains("sides", [2, 1, 0, 1], [0, 1, 0, 2], [0, 65535, 0, 1]),
     *chains("marks", [2, 0, 0, 0], [0, 0, 0, 2], [0, 0, 65535, 0]),
-    # Two and three kinds: the lowest file.
+    # Two and three kinds: the lowest file. The mark 2 was a fault before order 5.
     CHAIN.changed(sizes=[1, 1, 1, 0], sides=[0, 2, 0, 1], marks=[0, 0, 2, 0]),
     CHAIN.changed(sizes=[1, 0, 1, 1], sides=[0, 1, 0, 2]),
     CHAIN.changed(sizes=[1, 1, 1, 0], marks=[0, 0, 2, 0]),
@@ -354,6 +358,43 @@ LARGEST = (
     *puts(LONG, "pins", (3072, 1023), (0, 1024), (4095, 1024)),
 )
 
+# Order 5. Those before it that have a mark of 2 were refused as 6.
+UNREAD_FILES = (
+    "unread",
+    *(job for _, _, _, job in samples.unread_jobs().values()),
+    *(job for _, _, job in samples.unread_starts().values()),
+    # One file of the chain, on either side; two, three and all, and pinned ones beside.
+    *puts(CHAIN, "marks", *((file, UNREAD) for file in range(4))),
+    *puts(FLIPPED, "marks", *((file, UNREAD) for file in range(4))),
+    *chains("marks", [2, 2, 0, 0], [0, 2, 2, 0], [2, 0, 0, 2]),
+    *chains("marks", [0, 2, 2, 2], [2, 2, 2, 0], [2, 2, 2, 2]),
+    *chains("marks", [1, 2, 2, 2], [1, 2, 0, 0], [2, 1, 0, 0], [0, 1, 2, 1]),
+    # The first and the last file of the largest job, all others, and all.
+    *puts(LARGE, "marks", (0, UNREAD), (1023, UNREAD)),
+    LARGE.changed(marks=[FREE] + [UNREAD] * 1023),
+    LARGE.changed(marks=[UNREAD] * 1023 + [FREE]),
+    LARGE.changed(marks=[UNREAD] * 1024),
+    LARGE.changed(marks=[FREE, FREE, UNREAD, PINNED] * 256),
+    LONG.changed(marks=[FREE, FREE, UNREAD, UNREAD] * 256),
+    "unread and a fault",
+    # A mark over 2, alone and beside a 2; the lowest file, of whatever kind.
+    *chains("marks", [3, 0, 0, 0], [0, 0, 0, 3], [0, 3, 3, 0], [3, 3, 3, 3]),
+    *chains("marks", [2, 3, 0, 0], [3, 2, 0, 0], [2, 2, 2, 3], [0, 2, 0, 65535]),
+    *chains("marks", [0, 4, 0, 0], [0, 0, 6, 0], [256, 0, 0, 0], [0, 0, 0, 258]),
+    CHAIN.changed(sizes=[1, 1, 1, 0], marks=[0, 0, 3, 0]),
+    CHAIN.changed(sizes=[1, 0, 1, 1], marks=[0, 0, 3, 0]),
+    CHAIN.changed(sizes=[0, 1, 1, 1], sides=[0, 2, 0, 1], marks=[0, 0, 3, 0]),
+    *puts(LARGE, "marks", (0, 3), (1023, 3)),
+    # An unread file of size 0, on no side, and in a recipe twice.
+    *(samples.partial_chain(sizes=sizes) for sizes in ([1, 1, 1, 0], [0, 1, 1, 0])),
+    samples.partial_chain(sides=[0, 1, 0, 2]),
+    samples.partial_chain(pins=[0, 1, 3, 3, 1, 2]),
+    # Faults of each other number; from 7 on the measure has its numbers.
+    *(samples.partial_chain(**FAULTS[number]) for number in (1, 2, 4, 5, 6, 7, 9)),
+    samples.partial_chain(marks=[0, 2, 0]),
+    samples.partial_chain(marks=[2, 2, 2, 2], num=0, sides=[0] * 4),
+)
+
 VIEWS = (
     "views",
     # Every recipe, and then none.
@@ -387,7 +428,7 @@ VIEWS = (
     *views(LONG.bounds, LONG.pins, 3, 4),
 )
 
-CASES = UP_TO_6 + FROM_7_ON + SEVERAL_FAULTS + LARGEST + VIEWS
+CASES = UP_TO_6 + FROM_7_ON + SEVERAL_FAULTS + LARGEST + VIEWS + UNREAD_FILES
 
 
 # ---- What the program reads, and what it must write

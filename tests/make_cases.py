@@ -31,7 +31,7 @@ import faults
 import planner
 import samples
 from mill import mill
-from planner import A, B, FREE, PINNED, make_block, write_job, write_values
+from planner import A, B, FREE, PINNED, UNREAD, make_block, write_job, write_values
 from program_files import frame
 
 SEED = 1982
@@ -236,10 +236,18 @@ def layouts():
         used = blocks.blocks[block][3]
         blocks.set_value(block, used, 1)
         yield f"no_22_block_{block}_first_unused", blocks.stored()
-    for file, second in ((0, 4), (3, 4), (1, 256), (2, 65535)):
-        blocks = faults.Blocks(samples.chain())
-        blocks.set_value(1, 2 * file + 1, second)
-        yield f"no_22_second_of_{file}_is_{second}", blocks.stored()
+    # 4 was refused as 22 before order 5, and is an unread file in A.
+    yield "second_of_0_is_4", second_of_chain(0, 4)
+    yield "second_of_3_is_4", second_of_chain(3, 4)
+    yield "no_22_second_of_1_is_256", second_of_chain(1, 256)
+    yield "no_22_second_of_2_is_65535", second_of_chain(2, 65535)
+
+
+def second_of_chain(file, second):
+    """The chain with another second value of a file."""
+    blocks = faults.Blocks(samples.chain())
+    blocks.set_value(1, 2 * file + 1, second)
+    return blocks.stored()
 
 
 def large_layouts():
@@ -363,19 +371,107 @@ def bad_starts():
     return jobs
 
 
-def unbalanced_jobs():
-    for name, job in bad_starts().items():
+def stored_starts(jobs):
+    for name, job in jobs.items():
         yield name, write_job(job)
 
 
-def balanced_jobs():
+def then_run(jobs):
     """Those of which files are moved, with the balanced sides: none is refused."""
-    for name, job in bad_starts().items():
+    for name, job in jobs.items():
         answer = planner.balance(job)
         if answer.moves:
             after = job.changed(sides=answer.sides)
             assert planner.check(after) == (0, 0), f"{name} is not balanced"
             yield f"{name}_then_run", write_job(after)
+
+
+def unbalanced_jobs():
+    yield from stored_starts(bad_starts())
+
+
+def balanced_jobs():
+    yield from then_run(bad_starts())
+
+
+def unread_jobs():
+    """Order 5's, from no file unread to all of them."""
+    for name, (_, _, _, job) in samples.unread_jobs().items():
+        yield f"unread_{name}", write_job(job)
+
+
+def unread_bytes():
+    """Second values of 4 and more, and faults beside an unread file."""
+    for file, second in ((0, 5), (3, 5)):
+        yield f"second_of_{file}_is_{second}", second_of_chain(file, second)
+    for file, second in ((0, 6), (3, 6), (2, 7), (1, 260)):
+        yield f"no_22_second_of_{file}_is_{second}", second_of_chain(file, second)
+    # The first file of the largest job, and the last, which is the 16th of its block.
+    for name, block, at, second in (
+        ("large_first_second_is_5", 1, 1, 5),
+        ("large_last_second_is_5", 9, 31, 5),
+        ("large_no_22_last_second_is_6", 9, 31, 6),
+    ):
+        blocks = faults.Blocks(large(4, cap=1))
+        blocks.set_value(block, at, second)
+        yield name, blocks.stored()
+    # What is asked of a file's size and of its pins is asked of an unread one too.
+    for name, fields in (
+        ("unread_no_5", {"pins": [0, 1, 3, 3, 1, 2]}),
+        ("unread_no_6", {"sizes": [1, 1, 1, 0]}),
+        ("unread_no_7", {"num": 2}),
+    ):
+        yield name, write_job(samples.partial_chain(**fields))
+
+
+def large_unread():
+    """The largest job: every other file unread, all but the last, and uneven ones."""
+    in_pairs = [i // 2 % 2 for i in range(1024)]
+    halved = [FREE, UNREAD] * 512
+    yield "large_unread_half", write_job(large(4, sides=in_pairs, marks=halved, cap=1))
+    marks = [UNREAD] * 1023 + [FREE]
+    yield "large_unread_but_one", write_job(large(4, marks=marks))
+    marks = [i % 5 // 3 * UNREAD for i in range(1024)]
+    yield "large_unread_long_recipes", write_job(large(1024, marks=marks, cap=1))
+
+
+@functools.cache
+def unread_starts():
+    """Starts with unread files that are to be balanced, by name."""
+    jobs = {}
+    for name, (_, _, job) in samples.unread_starts().items():
+        jobs[f"unread_start_{name}"] = job
+    return jobs
+
+
+def unread_balanced():
+    yield from stored_starts(unread_starts())
+    yield from then_run(unread_starts())
+
+
+def random_unread_jobs():
+    """Sound jobs, and some that no start makes sound, with few to most files unread."""
+    rng = random.Random(SEED + 5)
+    for k, part in enumerate((0.05, 0.2, 0.5, 0.8, 0.1, 0.3, 0.6, 0.2)):
+        job = samples.unread_job(
+            rng,
+            files=rng.randint(8, 60),
+            recipes=rng.randint(8, 80),
+            part=part,
+            top_size=rng.choice([1, 9, 65535]),
+            pinned=rng.choice([0, 0.1, 0.3]),
+            cap=rng.choice([0, 0, 2]),
+        )
+        yield f"unread_random_{k}", write_job(job)
+
+
+def unread():
+    """Order 5: files that could not be read."""
+    yield from unread_jobs()
+    yield from unread_bytes()
+    yield from unread_balanced()
+    yield from random_unread_jobs()
+    yield from large_unread()
 
 
 EXAMPLES = ("chain", "mill", "mill_at_53")
@@ -398,6 +494,7 @@ GROUPS = (
     archived_jobs,
     unbalanced_jobs,
     balanced_jobs,
+    unread,
 )
 
 

@@ -17,6 +17,7 @@ from job_cases import (
     LARGEST,
     LONG,
     SEVERAL_FAULTS,
+    UNREAD_FILES,
     UP_TO_6,
     chains,
     faulty,
@@ -28,7 +29,7 @@ from make_cases import cases, large, one_recipe, row, wide
 from program_files import frame, heading, keep
 
 import planner
-from planner import FREE, PINNED
+from planner import FREE, PINNED, UNREAD
 
 # What every byte of an output list is before the call.
 FILLED = b"\xa5"
@@ -70,10 +71,10 @@ def lent(job, *whole):
     return [Call(job, length) for length in whole]
 
 
-def every_side_and_mark():
-    """Two files with each pair of sides and each pair of marks."""
-    twice = list(itertools.product((0, 1), repeat=2))
-    for sides, marks in itertools.product(twice, twice):
+def every_side_and(*pairs):
+    """Two files with each pair of sides and each of these pairs of marks."""
+    twice = itertools.product((0, 1), repeat=2)
+    for sides, marks in itertools.product(twice, pairs):
         yield planner.Job([1, 2], sides, marks, [0, 2], [1, 0], 1, 2, 0)
 
 
@@ -106,7 +107,7 @@ CASES = (
     # The calls that check and measure are given.
     *called(*UP_TO_6, *SEVERAL_FAULTS, *LARGEST),
     "sides and marks",
-    *called(*every_side_and_mark()),
+    *called(*every_side_and((0, 0), (0, 1), (1, 0), (1, 1))),
     "files that fill blocks",
     *called(*(wide(files) for files in (125, 126, 127, 252, 253))),
     "bounds that fill blocks",
@@ -151,6 +152,18 @@ CASES = (
     *called(*lengths((1024, 4, 1024, 1025, 4096), (1024, 1024, 4, 1025, 4096))),
     # The stored jobs of the program `cases`.
     *back(cases()),
+    # Order 5.
+    *called(*UNREAD_FILES),
+    "sides and marks of unread files",
+    *called(*every_side_and((0, 2), (2, 0), (1, 2), (2, 1), (2, 2))),
+    *called(*every_side_and((0, 3), (3, 0), (2, 3), (3, 2))),
+    "the largest with unread files",
+    *called(UNEVEN.changed(marks=[i // 5 % 3 for i in range(1024)])),
+    *called(large(4, sizes=[65535] * 1024, marks=[UNREAD] * 1024)),
+    "unread files that fill blocks",
+    *called(*(wide(files, marks=[UNREAD] * files) for files in (126, 127))),
+    "output lists of jobs with unread files",
+    *off(CHAIN.changed(marks=[2, 2, 1, 0]), -512, -1, 0, 1, 512),
 )
 
 

@@ -18,7 +18,7 @@ MOST_PINS = 4096
 MOST_DEN = 1000
 
 A, B = 0, 1
-FREE, PINNED = 0, 1
+FREE, PINNED, UNREAD = 0, 1, 2
 
 
 # ---- A job
@@ -57,9 +57,16 @@ class Job:
         return max(len(self.bounds) - 1, 0)
 
     @cached_property
+    def weights(self):
+        """What each file weighs: an unread one "counts neither in W, |A| or smax"."""
+        return [
+            0 if mark == UNREAD else size for size, mark in zip(self.sizes, self.marks)
+        ]
+
+    @cached_property
     def total(self):
-        """W, "the sum of all sizes"."""
-        return sum(self.sizes)
+        """W, "the sum of all sizes", those of the unread files left out."""
+        return sum(self.weights)
 
     @cached_property
     def largest(self):
@@ -68,18 +75,41 @@ class Job:
         return max(size for size, mark in zip(self.sizes, self.marks) if mark == FREE)
 
     @cached_property
-    def recipe_files(self):
-        """The files of each recipe, for a job whose bounds are sound."""
+    def whole_recipes(self):
+        """All files of each recipe, for a job whose bounds are sound."""
         return [view(self.bounds, self.pins, j) for j in range(self.recipes)]
 
     @cached_property
+    def readable_recipes(self):
+        """The readable files of each recipe: no other counts in "cut, gains, T or F".
+
+        "A recipe with fewer than two readable files is never cut, adds nothing to
+        gains and is never scanned": it keeps its number, and is empty here.
+        """
+        lists = []
+        for files in self.whole_recipes:
+            readable = [file for file in files if self.marks[file] != UNREAD]
+            lists.append(readable if len(readable) >= 2 else [])
+        return lists
+
+    @cached_property
     def file_recipes(self):
-        """The recipes of each file "in rising number"."""
+        """The recipes in which each file counts, "in rising number"."""
         lists = [[] for _ in range(self.files)]
-        for j, files in enumerate(self.recipe_files):
+        for j, files in enumerate(self.readable_recipes):
             for file in files:
                 lists[file].append(j)
         return lists
+
+    @cached_property
+    def unread(self):
+        """ "The number of unread files and of recipes that hold one"."""
+        holding = [
+            files
+            for files in self.whole_recipes
+            if any(self.marks[file] == UNREAD for file in files)
+        ]
+        return self.marks.count(UNREAD), len(holding)
 
 
 def view(bounds, pins, j):
@@ -150,7 +180,7 @@ def find_6(job, lent_ok):
     return first(
         i
         for i in range(job.files)
-        if job.sizes[i] == 0 or job.sides[i] > 1 or job.marks[i] > 1
+        if job.sizes[i] == 0 or job.sides[i] > 1 or job.marks[i] > UNREAD
     )
 
 
@@ -159,7 +189,7 @@ def find_7(job, lent_ok):
 
 
 def find_8(job, lent_ok):
-    return place_if(all(mark == PINNED for mark in job.marks))
+    return place_if(FREE not in job.marks)
 
 
 def find_9(job, lent_ok):
@@ -184,11 +214,12 @@ def check(job, lent_ok=True):
 
 
 def measure(job):
-    """Number, place, cut and |A|: "gives 1 to 6", with nothing moved."""
+    """Number, place, cut, |A| and the two unread numbers: "gives 1 to 6", with nothing
+    moved."""
     number, place = refusal(job, True, 6)
     if number:
-        return number, place, 0, 0
-    return 0, 0, cut(job, job.sides), size_of_a(job, job.sides)
+        return number, place, 0, 0, 0, 0
+    return 0, 0, cut(job, job.sides), size_of_a(job, job.sides), *job.unread
 
 
 def scratch_numbers(job):
@@ -210,9 +241,9 @@ def lent_fits(job, gains, moves, scans, scratch):
 
 
 def side_counts(job, sides):
-    """For each recipe, its number of files in A and in B."""
+    """For each recipe, its number of readable files in A and in B."""
     counts = []
-    for files in job.recipe_files:
+    for files in job.readable_recipes:
         in_b = sum(sides[file] for file in files)
         counts.append((len(files) - in_b, in_b))
     return counts
@@ -230,7 +261,7 @@ def all_gains(job, sides):
     those with no file on the other side."
     """
     gains = [0] * job.files
-    for files, counts in zip(job.recipe_files, side_counts(job, sides)):
+    for files, counts in zip(job.readable_recipes, side_counts(job, sides)):
         for file in files:
             own_side = sides[file]
             if counts[own_side] == 1:
@@ -241,7 +272,7 @@ def all_gains(job, sides):
 
 
 def size_of_a(job, sides):
-    return sum(size for size, side in zip(job.sizes, sides) if side == A)
+    return sum(weight for weight, side in zip(job.weights, sides) if side == A)
 
 
 def too_small(job, size_a):
@@ -262,7 +293,8 @@ def balanced(job, size_a):
 
 def size_after(job, sides, size_a, file):
     """|A| once the file has changed its side."""
-    return size_a - job.sizes[file] if sides[file] == A else size_a + job.sizes[file]
+    weight = job.weights[file]
+    return size_a - weight if sides[file] == A else size_a + weight
 
 
 def choose(job, sides, locked, gains):
@@ -296,7 +328,7 @@ def scans_of_move(job, sides, locked, file):
     side_to = 1 - sides[file]
     scans = []
     for j in job.file_recipes[file]:
-        others = [other for other in job.recipe_files[j] if other != file]
+        others = [other for other in job.readable_recipes[j] if other != file]
         files_t = [other for other in others if sides[other] == side_to]
         files_f = [other for other in others if sides[other] != side_to]
         if len(files_t) == 0:
@@ -330,6 +362,7 @@ class PassAnswer:
     kept: int
     scans: int
     visits: int
+    unread: tuple
     sides: list
     gains: list
     # The four move lists, "the first C move entries".
@@ -349,10 +382,10 @@ def padded(entries, length):
 
 def end_gains(job, sides, move_files, move_gains):
     """ "What stood after the last move tried: a moved file keeps the gain it had
-    when chosen, a pinned file holds 0." """
+    when chosen, a pinned file holds 0"; an unread one "holds 0 in the gain list"."""
     gains = all_gains(job, sides)
     for file in range(job.files):
-        if job.marks[file] == PINNED:
+        if job.marks[file] != FREE:
             gains[file] = 0
     for file, gain in zip(move_files, move_gains):
         gains[file] = gain
@@ -370,7 +403,7 @@ def sides_after(sides, moved):
 def one_pass(job, start):
     """One pass over a sound job from the given sides."""
     sides = list(start)
-    locked = [mark == PINNED for mark in job.marks]
+    locked = [mark != FREE for mark in job.marks]
     cuts = [cut(job, sides)]
     move_files, move_gains, move_scans, scans = [], [], [], []
     while True:
@@ -394,7 +427,9 @@ def one_pass(job, start):
         tried=len(move_files),
         kept=kept,
         scans=len(scans),
-        visits=sum(len(job.recipe_files[j]) for j, _ in scans),
+        # "Visits of other scans still count the whole recipe."
+        visits=sum(len(job.whole_recipes[j]) for j, _ in scans),
+        unread=job.unread,
         sides=left,
         gains=end_gains(job, sides, move_files, move_gains),
         move_files=padded(move_files, job.files),
@@ -424,6 +459,7 @@ class RunAnswer:
     kept: int = 0
     scans: int = 0
     visits: int = 0
+    unread: tuple = (0, 0)
     last: PassAnswer = None
 
 
@@ -457,6 +493,8 @@ def run(job, lent_ok=True):
         kept=sum(answer.kept for answer in answers),
         scans=sum(answer.scans for answer in answers),
         visits=sum(answer.visits for answer in answers),
+        # "Never summed."
+        unread=last.unread,
         last=last,
     )
 
@@ -473,6 +511,7 @@ class BalanceAnswer:
     moves: int = 0
     cut_after: int = 0
     size_a: int = 0
+    unread: tuple = (0, 0)
     sides: list = None
     scratch: list = None
 
@@ -529,6 +568,7 @@ def balance(job, scratch=None):
         moves=moves,
         cut_after=cut(job, sides),
         size_a=size_of_a(job, sides),
+        unread=job.unread,
         sides=sides,
         scratch=[0] * named + lent[named:],
     )
@@ -542,6 +582,8 @@ VALUES = 253
 FILES_TO_A_BLOCK = 126
 HEADER, FILES, BOUNDS, PINS = 1, 2, 3, 4
 HEADER_VALUES = 6
+# Side plus 4, the second value of an unread file in B.
+MOST_SECOND = 5
 
 # Lengths lent for sizes, sides, marks, bounds and pins.
 ROOM_FOR_THE_LARGEST = (MOST_FILES, MOST_FILES, MOST_FILES, MOST_RECIPES + 1, MOST_PINS)
@@ -591,7 +633,8 @@ def split(total, most):
 
 
 def file_values(job):
-    """ "Two values each, size and then side + 2·mark." """
+    """ "Two values each, size and then side + 2·mark", which is "side plus 4" for an
+    unread file."""
     values = []
     for size, side, mark in zip(job.sizes, job.sides, job.marks):
         values += [size, side + 2 * mark]
@@ -647,8 +690,9 @@ def block_refusal(data, number, kind, count):
     unused = block[4 + 2 * count : CHECKED]
     if block[:4] != head or any(unused):
         return 22
-    # "A file's second value over 3 is 22."
-    if kind == FILES and any(value > 3 for value in block_values(block, count)[1::2]):
+    # "22 a file's second value over 5."
+    seconds = block_values(block, count)[1::2]
+    if kind == FILES and any(second > MOST_SECOND for second in seconds):
         return 22
     return 0
 
@@ -725,9 +769,18 @@ def refused_line(number, place):
     return f"refused {number} {place}\n"
 
 
-def letters(sides):
-    """ "One letter for each file." """
-    return "".join("AB"[side] for side in sides)
+def first_lines(answer):
+    """ "If the first is not 0 the program's first line is `partial` in place of `done`,
+    and a line `unread` with both numbers follows it."""
+    files, recipes = answer.unread
+    return ["partial", f"unread {files} {recipes}"] if files else ["done"]
+
+
+def sides_line(job, sides):
+    """The last line: "one letter for each file", and `?` for one that is unread."""
+    return "sides " + "".join(
+        "?" if mark == UNREAD else "AB"[side] for side, mark in zip(sides, job.marks)
+    )
 
 
 def read_and(call, refused, data):
@@ -747,14 +800,14 @@ def run_stored(data):
     if answer.number:
         return refused_line(answer.number, answer.place)
     lines = [
-        "done",
+        *first_lines(answer),
         f"cut {answer.cut_before} {answer.cut_after}",
         size_line(job, answer),
         f"passes {answer.passes}",
         f"settled {'yes' if answer.settled else 'no'}",
         f"kept {answer.kept}",
         f"visits {answer.visits}",
-        f"sides {letters(answer.last.sides)}",
+        sides_line(job, answer.last.sides),
     ]
     return "\n".join(lines) + "\n"
 
@@ -776,7 +829,7 @@ def balance_stored(data):
     if answer.number:
         return b"", refused_line(answer.number, answer.place)
     lines = [
-        "done",
+        *first_lines(answer),
         f"moves {answer.moves}",
         f"cut {answer.cut_after}",
         size_line(job, answer),
@@ -809,7 +862,7 @@ def trace(data):
     if number:
         return refused_line(number, place)
     answer = one_pass(job, job.sides)
-    lines = ["done"]
+    lines = first_lines(answer)
     lines += move_lines(answer)
     lines += [
         "gains " + " ".join(str(gain) for gain in answer.gains),
@@ -819,7 +872,7 @@ def trace(data):
         f"kept {answer.kept}",
         f"scans {answer.scans}",
         f"visits {answer.visits}",
-        f"sides {letters(answer.sides)}",
+        sides_line(job, answer.sides),
     ]
     return "\n".join(lines) + "\n"
 

@@ -1,7 +1,7 @@
 """Jobs for tests: those that the documents give, those at the edges of the window,
-and random ones."""
+those with unread files, and random ones."""
 
-from planner import A, B, FREE, PINNED, Job, size_of_a
+from planner import A, B, FREE, PINNED, UNREAD, Job, balance, size_of_a
 
 
 def chain(cap=0):
@@ -230,6 +230,154 @@ def with_archives(rng, job):
     return heavy.changed(num=min(max(part, 1), 999))
 
 
+# ---- Order 5: files that could not be read
+
+
+def with_unread(job, *files):
+    """The job with these files unread."""
+    marks = [UNREAD if i in files else mark for i, mark in enumerate(job.marks)]
+    return job.changed(marks=marks)
+
+
+def partial_chain(**fields):
+    """The chain with file 3 unread: W is 3, and of |A| 1 and 2 are balanced."""
+    return with_unread(chain(), 3).changed(**fields)
+
+
+def all_free(recipes, sides, num=1, den=2):
+    """Files of size 1 on these sides, all of them free."""
+    return job_of_recipes(
+        recipes,
+        sizes=[1] * len(sides),
+        sides=sides,
+        marks=[FREE] * len(sides),
+        num=num,
+        den=den,
+        cap=0,
+    )
+
+
+def one_of_five():
+    """Eight files, A and B in turn: a recipe of the first five, and four of two."""
+    return all_free([[0, 1, 2, 3, 4], [5, 6], [6, 7], [0, 5], [4, 7]], [A, B] * 4)
+
+
+def every_mark(*marks):
+    """Six files with these marks. File 1 is in three of the five recipes."""
+    return Job(
+        sizes=[2, 50, 3, 3, 2, 2],
+        sides=[A, B, B, A, B, A],
+        marks=marks,
+        bounds=[0, 3, 6, 9, 11, 14],
+        pins=[0, 1, 2, 1, 2, 3, 3, 4, 5, 0, 5, 2, 4, 1],
+        num=1,
+        den=2,
+        cap=0,
+    )
+
+
+def unread_jobs():
+    """By name: the number that a run refuses each as, or 0; how many files are unread
+    and how many recipes hold one; and the job."""
+    row = in_a_row([], in_turn(1, 12))
+    in_pairs = row.changed(sides=[A, A, B, B] * 3)
+    five, chained = one_of_five(), chain()
+    mixed = every_mark(PINNED, UNREAD, FREE, FREE, PINNED, FREE)
+    one_free = every_mark(PINNED, UNREAD, PINNED, PINNED, PINNED, FREE)
+    around = [[0, 1, 2], [2, 3], [3, 4]]
+    star = [[0, i] for i in range(1, 7)]
+    wide_star = [[0, i, i + 1] for i in range(1, 6)]
+    light = in_turn(100, 10)
+    archive_in_a = with_unread(in_a_row([], [(60000, A)] + light), 0)
+    archive_in_b = with_unread(in_a_row([], [(60000, B)] + light), 0)
+    beside_b = with_unread(in_a_row([], [(60000, A)] + [(100, B)] * 10), 0)
+    archives = in_a_row([(60000, A), (60000, B)], light)
+    heavy = row.changed(sizes=[1] * 6 + [65535] + [1] * 5)
+    return {
+        "none": (0, 0, 0, row),
+        "first": (0, 1, 1, with_unread(row, 0)),
+        "middle": (0, 1, 2, with_unread(row, 5)),
+        "last": (0, 1, 1, with_unread(row, 11)),
+        "first_half": (0, 6, 6, with_unread(row, *range(6))),
+        # No recipe has two readable files; in the second all of these lie in B.
+        "every_other": (0, 6, 11, with_unread(in_pairs, *range(0, 12, 2))),
+        "every_other_in_a": (9, 6, 11, with_unread(row, *range(0, 12, 2))),
+        "all_but_the_first": (0, 11, 11, with_unread(row, *range(1, 12))),
+        "all_but_the_last": (0, 11, 11, with_unread(row, *range(11))),
+        # The recipe of five: how many of its files can be read, and where they lie.
+        "recipe_whole": (0, 0, 0, five),
+        "recipe_with_3": (0, 2, 2, with_unread(five, 0, 3)),
+        "recipe_with_2_apart": (0, 3, 2, with_unread(five, 0, 1, 2)),
+        "recipe_with_2_together": (0, 3, 2, with_unread(five, 0, 1, 3)),
+        "recipe_with_1": (0, 4, 2, with_unread(five, 0, 1, 2, 3)),
+        "recipe_with_none": (0, 5, 3, with_unread(five, 0, 1, 2, 3, 4)),
+        # Alone on its side of a recipe, which is not cut then; and alone in its vault.
+        "alone_in_a": (0, 1, 1, with_unread(all_free(around, [A, B, B, A, A]), 0)),
+        "alone_in_b": (0, 1, 1, with_unread(all_free(around, [B, A, A, B, B]), 0)),
+        "alone_in_vault_a": (
+            0,
+            1,
+            1,
+            with_unread(in_a_row([], [(7, A)] + [(1, B)] * 4, 1, 10), 0),
+        ),
+        "alone_in_vault_b": (
+            0,
+            1,
+            1,
+            with_unread(in_a_row([], [(7, B)] + [(1, A)] * 4, 9, 10), 0),
+        ),
+        # W is 1,000 without the archive and smax 100: |A| from 400 up to 600.
+        "archive_in_a": (0, 1, 1, archive_in_a),
+        "archive_in_b": (0, 1, 1, archive_in_b),
+        "archive_beside_b": (9, 1, 1, beside_b),
+        # The ratio that would suit if the archive counted.
+        "archive_at_its_ratio": (9, 1, 1, archive_in_a.changed(num=992, den=1000)),
+        "archives_both": (0, 2, 2, with_unread(archives, 0, 1)),
+        "archives_one": (9, 1, 2, with_unread(archives, 1)),
+        "archive_of_65535": (0, 1, 2, with_unread(heavy, 6)),
+        "beside_pinned": (0, 1, 3, mixed),
+        "beside_pinned_one_free": (0, 1, 3, one_free),
+        "beside_pinned_capped": (0, 1, 3, mixed.changed(cap=1)),
+        "on_no_recipe": (0, 1, 0, with_unread(all_free([[0, 1]], [A, B] * 4), 7)),
+        "in_every_recipe": (0, 1, 6, with_unread(all_free(star, [A, B] * 3 + [A]), 0)),
+        "in_every_wide_recipe": (
+            0,
+            1,
+            5,
+            with_unread(all_free(wide_star, [A, B] * 3 + [A]), 0),
+        ),
+        "all": (8, 4, 3, chained.changed(marks=[UNREAD] * 4)),
+        "all_or_pinned": (8, 2, 3, chained.changed(marks=[1, 2, 1, 2])),
+        "all_or_pinned_but_one": (0, 2, 3, chained.changed(marks=[1, 2, 2, 0])),
+    }
+
+
+def unread_starts():
+    """Starts to be balanced, by name: the number that balancing refuses each as, or 0,
+    its moves, and the job."""
+    ones = [1] * 14
+    in_a, in_b = in_a_row([], all_on(A, ones)), in_a_row([], all_on(B, ones))
+    pinned_in_a = in_a_row([(9, A)], all_on(B, [1] * 5))
+    return {
+        # W is 8 and smax 1: |A| from 3 up to 5.
+        "all_in_a": (0, 3, with_unread(in_a, *range(6))),
+        "all_in_b": (0, 3, with_unread(in_b, *range(6))),
+        # W is 13, |A| from 5.5 up to 7.5; file 0 would have been the first to move.
+        "first_in_a": (0, 6, with_unread(in_a, 0)),
+        # W is 1,000 without the archive: |A| from 400 up to 600.
+        "beside_an_archive": (
+            0,
+            4,
+            with_unread(in_a_row([], [(60000, A)] + all_on(A, [100] * 10)), 0),
+        ),
+        # 9 of 13 are pinned in A; without that file W is 5.
+        "heavy_pinned": (9, 0, with_unread(pinned_in_a, 5)),
+        "heavy_unread": (0, 2, with_unread(pinned_in_a, 0)),
+        "one_free": (0, 0, with_unread(in_a, *range(13))),
+        "none_free": (8, 0, with_unread(in_a, *range(14))),
+    }
+
+
 # ---- Random jobs
 
 
@@ -316,3 +464,12 @@ def unbalanced_job(rng, files, recipes, side):
     job = random_job(rng, files, recipes, pinned=pinned, top_size=top_size)
     sides = [rng.randint(A, B) if side is None else side for _ in range(files)]
     return job.changed(sides=sides, num=rng.randint(1, job.den - 1))
+
+
+def unread_job(rng, files, recipes, part, **more):
+    """A random job with such a part of its files unread, balanced where it can be."""
+    job = random_job(rng, files, recipes, **more)
+    marks = [UNREAD if rng.random() < part else mark for mark in job.marks]
+    marks[rng.randrange(files)] = FREE
+    job = job.changed(marks=marks)
+    return job.changed(sides=balance(job).sides)

@@ -14,7 +14,7 @@ import faults
 import planner
 import samples
 from mill import mill
-from planner import A, B, FREE, PINNED
+from planner import A, B, FREE, PINNED, UNREAD
 
 RANDOM_JOBS = 300
 
@@ -42,6 +42,28 @@ def random_of_seed(seed):
     return samples.with_archives(rng, job) if seed % 4 == 3 else job
 
 
+@functools.cache
+def unread_jobs():
+    """Random sound jobs with unread files, from few up to all but one."""
+    jobs = map(unread_of_seed, itertools.count())
+    sound = (job for job in jobs if planner.check(job) == (0, 0))
+    return list(itertools.islice(sound, RANDOM_JOBS))
+
+
+def unread_of_seed(seed):
+    rng = random.Random(seed)
+    return samples.unread_job(
+        rng,
+        files=rng.randint(3, 20),
+        recipes=rng.randint(1, 24),
+        part=rng.choice([0.1, 0.3, 0.5, 0.8]),
+        longest=rng.choice([2, 3, 5, 20]),
+        top_size=rng.choice([1, 3, 9, 65535]),
+        pinned=rng.choice([0, 0.1, 0.4]),
+        cap=rng.choice([0, 0, 1, 2]),
+    )
+
+
 def moves_of(answer):
     return answer.move_files[: answer.tried]
 
@@ -55,7 +77,7 @@ def scans_by_move(answer):
 
 def scanned_files(job, sides, file, recipe, kind):
     """The files that a scan of this kind speaks of. sides: before the move."""
-    others = [other for other in job.recipe_files[recipe] if other != file]
+    others = [other for other in job.whole_recipes[recipe] if other != file]
     if kind in (1, 3):
         return others
     side_to = 1 - sides[file]
@@ -71,7 +93,7 @@ class Replay:
     def __init__(self, job, start):
         self.job = job
         self.sides = list(start)
-        self.locked = [mark == PINNED for mark in job.marks]
+        self.locked = [mark != FREE for mark in job.marks]
         self.gains = planner.all_gains(job, start)
 
     def move(self, file, scans):
@@ -118,7 +140,7 @@ def see_moves(job, start):
     """Each move is free and legal, no free file ranks before it, and sums hold."""
     answer = planner.one_pass(job, start)
     sides = list(start)
-    locked = [mark == PINNED for mark in job.marks]
+    locked = [mark != FREE for mark in job.marks]
     for k, file in enumerate(moves_of(answer)):
         legal = legal_moves(job, sides, locked)
         assert file in legal, "a move that is not legal"
@@ -135,9 +157,11 @@ def see_moves(job, start):
 
 def off_goal(job, sides):
     """How far den·|A| is above num·W, less than 0 where below; and the slack."""
-    in_a = sum(size for size, side in zip(job.sizes, sides) if side == A)
+    readable = [i for i in range(job.files) if job.marks[i] != UNREAD]
+    total = sum(job.sizes[i] for i in readable)
+    in_a = sum(job.sizes[i] for i in readable if sides[i] == A)
     free_sizes = [size for size, mark in zip(job.sizes, job.marks) if mark == FREE]
-    return job.den * in_a - job.num * sum(job.sizes), job.den * max(free_sizes)
+    return job.den * in_a - job.num * total, job.den * max(free_sizes)
 
 
 def in_window(job, sides):
@@ -180,7 +204,7 @@ def see_lists(job, start):
     moves = moves_of(answer)
     end = planner.all_gains(job, planner.sides_after(start, moves))
     for file in range(job.files):
-        if job.marks[file] == PINNED:
+        if job.marks[file] != FREE:
             expected = 0
         elif file in moves:
             expected = answer.move_gains[moves.index(file)]
@@ -419,6 +443,7 @@ class Refusals(unittest.TestCase):
         answer = vars(planner.run(job, lent_ok))
         self.assertEqual((answer.pop("number"), answer.pop("place")), (number, place))
         # "All other numbers of a refused answer are 0."
+        self.assertEqual(answer.pop("unread"), (0, 0))
         self.assertFalse(any(answer.values()))
 
     def test_1(self):
@@ -475,7 +500,11 @@ class Refusals(unittest.TestCase):
     def test_6(self):
         self.refused(6, 0, sizes=[0, 1, 1, 1])
         self.refused(6, 3, sides=[A, B, A, 2])
-        self.refused(6, 1, marks=[0, 2, 0, 65535])
+        self.refused(6, 1, marks=[0, 3, 0, 65535])
+        # Order 5: "refusal 6 now means a mark over 2"; the rest of it stays.
+        self.refused(6, 3, marks=[0, 2, 0, 65535])
+        self.refused(6, 1, sizes=[1, 0, 1, 1], marks=[0, 2, 0, 0])
+        self.refused(6, 1, sides=[A, 2, A, B], marks=[0, 2, 0, 0])
 
     def test_7(self):
         self.refused(7, 0, num=0)
@@ -487,6 +516,9 @@ class Refusals(unittest.TestCase):
 
     def test_8(self):
         self.refused(8, 0, marks=[PINNED] * 4)
+        # "8 still means no mark 0."
+        self.refused(8, 0, marks=[UNREAD] * 4)
+        self.refused(8, 0, marks=[PINNED, UNREAD, UNREAD, PINNED])
 
     def test_9(self):
         self.refused(9, 0, sides=[A] * 4)
@@ -494,12 +526,15 @@ class Refusals(unittest.TestCase):
 
     def test_measure(self):
         job = samples.chain()
-        self.assertEqual(planner.measure(job), (0, 0, 3, 2))
+        found = (0, 0, 3, 2, 0, 0)
+        self.assertEqual(planner.measure(job), found)
         # It needs no ratio, no free file and no balance.
         for fields in (dict(num=0), dict(marks=[PINNED] * 4)):
-            self.assertEqual(planner.measure(job.changed(**fields)), (0, 0, 3, 2))
-        self.assertEqual(planner.measure(job.changed(sides=[A] * 4)), (0, 0, 0, 4))
-        self.assertEqual(planner.measure(job.changed(sizes=[1, 0, 1, 1])), (6, 1, 0, 0))
+            self.assertEqual(planner.measure(job.changed(**fields)), found)
+        in_a = job.changed(sides=[A] * 4)
+        self.assertEqual(planner.measure(in_a), (0, 0, 0, 4, 0, 0))
+        bad = job.changed(sizes=[1, 0, 1, 1])
+        self.assertEqual(planner.measure(bad), (6, 1, 0, 0, 0, 0))
 
     def test_view(self):
         bounds, pins = [0, 2, 5, 4, 6, 7], [0, 1, 2, 3, 1, 2]
@@ -655,8 +690,11 @@ class Stored(unittest.TestCase):
             self.assertEqual(self.answer(block), (2, 0))
 
     def test_second_value_of_a_file(self):
-        self.assertEqual(self.answer(self.rechecked(1, 6, 3)), (0, 0))
-        self.assertEqual(self.answer(self.rechecked(1, 6, 4)), (22, 1))
+        """Order 5: "22 a file's second value over 5"."""
+        for second in range(6):
+            self.assertEqual(self.answer(self.rechecked(1, 6, second)), (0, 0))
+        for second in (6, 7, 255):
+            self.assertEqual(self.answer(self.rechecked(1, 6, second)), (22, 1))
         self.assertEqual(self.answer(self.rechecked(1, 7, 1)), (22, 1))
 
     def test_reading_stops_after_6(self):
@@ -750,7 +788,7 @@ class Written(unittest.TestCase):
     def test_what_is_accepted_is_written_back(self):
         """Of all files with one byte put anew, those that are accepted."""
         accepted = 0
-        for data in stored_variants(samples.chain().changed(marks=[0, 1, 0, 0])):
+        for data in stored_variants(samples.chain().changed(marks=[0, 1, 2, 0])):
             number, _, _, job = planner.read_job(data)
             if number == 0:
                 accepted += 1
@@ -786,7 +824,7 @@ class Written(unittest.TestCase):
         self.refused(5, 5, pins=[0, 1, 2, 3, 1, 1])
         self.refused(6, 0, sizes=[0, 1, 1, 1])
         self.refused(6, 3, sides=[A, B, A, 2])
-        self.refused(6, 3, marks=[0, 0, 0, 2])
+        self.refused(6, 3, marks=[2, 2, 2, 3])
 
     def test_output_list_of_another_length(self):
         for files in (126, 127, 1024):
@@ -882,7 +920,7 @@ class Window(unittest.TestCase):
 
     def test_measure_and_writer_know_no_window(self):
         job = samples.archive()
-        self.assertEqual(planner.measure(job), (0, 0, 1, 10))
+        self.assertEqual(planner.measure(job), (0, 0, 1, 10, 0, 0))
         length = planner.stored_length(job)
         self.assertEqual(planner.write(job, bytes(length))[:2], (0, 0))
 
@@ -1068,6 +1106,310 @@ class Balanced(unittest.TestCase):
             self.assertEqual(told, (b"", f"refused {number} {place}\n"))
 
 
+# ---- Order 5: files that could not be read
+
+
+def taken_out(job):
+    """The job without its unread files, and without the recipes that then have fewer
+    than two; what is left is numbered anew. Beside it the old numbers of both."""
+    files = [i for i in range(job.files) if job.marks[i] != UNREAD]
+    lists = {}
+    for j in range(job.recipes):
+        pins = job.pins[job.bounds[j] : job.bounds[j + 1]]
+        left = [files.index(pin) for pin in pins if pin in files]
+        if len(left) > 1:
+            lists[j] = left
+    rest = samples.job_of_recipes(
+        lists.values(),
+        sizes=[job.sizes[i] for i in files],
+        sides=[job.sides[i] for i in files],
+        marks=[job.marks[i] for i in files],
+        num=job.num,
+        den=job.den,
+        cap=job.cap,
+    )
+    return rest, files, list(lists)
+
+
+def holding_unread(job):
+    """How many recipes hold an unread file, pin by pin."""
+    unread = {k for k, pin in enumerate(job.pins) if job.marks[pin] == UNREAD}
+    spans = zip(job.bounds, job.bounds[1:])
+    return sum(not unread.isdisjoint(range(start, end)) for start, end in spans)
+
+
+FIGURES = ("cut_before", "cut_after", "size_a", "tried", "kept", "scans")
+
+
+def see_same_moves(whole, part, files, recipes):
+    """The moves, their gains and cuts and their scans, in the old numbers."""
+    moves = [files[file] for file in moves_of(part)]
+    assert moves_of(whole) == moves, "other moves"
+    for name in ("move_gains", "move_cuts", "move_scans"):
+        listed = getattr(whole, name)[: whole.tried]
+        assert listed == getattr(part, name)[: part.tried], f"another {name}"
+    scanned = [recipes[j] for j in part.scan_recipes[: part.scans]]
+    assert whole.scan_recipes[: whole.scans] == scanned, "other recipes scanned"
+    kinds = whole.scan_kinds[: whole.scans]
+    assert kinds == part.scan_kinds[: part.scans], "other kinds of scan"
+
+
+def see_taken_out(job, start):
+    """A pass with unread files is one without them, but for its visits."""
+    job = job.changed(sides=start)
+    rest, files, recipes = taken_out(job)
+    whole, part = planner.one_pass(job, start), planner.one_pass(rest, rest.sides)
+    for name in FIGURES:
+        assert getattr(whole, name) == getattr(part, name), f"another {name}"
+    see_same_moves(whole, part, files, recipes)
+    for file in range(job.files):
+        if file in files:
+            at = files.index(file)
+            expected = part.sides[at], part.gains[at]
+        else:
+            expected = start[file], 0
+        assert (whole.sides[file], whole.gains[file]) == expected, "not as without"
+    scanned = whole.scan_recipes[: whole.scans]
+    lengths = [job.bounds[j + 1] - job.bounds[j] for j in scanned]
+    assert whole.visits == sum(lengths), "the visits do not count whole recipes"
+    counted = job.files - len(files), holding_unread(job)
+    assert whole.unread == counted, "other unread numbers"
+
+
+def see_start_taken_out(job, start):
+    """A balancing with unread files is one without them."""
+    job = job.changed(sides=start)
+    rest, files, _ = taken_out(job)
+    whole, part = planner.balance(job), planner.balance(rest)
+    for name in ("number", "place", "moves", "cut_after", "size_a"):
+        assert getattr(whole, name) == getattr(part, name), f"another {name}"
+    assert [whole.sides[i] for i in files] == part.sides, "other sides"
+    counted = job.files - len(files), holding_unread(job)
+    assert whole.unread == (counted if whole.number == 0 else (0, 0)), "other numbers"
+
+
+@functools.cache
+def unread_starts():
+    """Few files, most not balanced, some unread; a recipe of two others is left."""
+    rng = random.Random(5)
+    jobs = []
+    while len(jobs) < RANDOM_JOBS:
+        side = (A, B, None)[len(jobs) % 3]
+        job = samples.unbalanced_job(rng, rng.randint(3, 10), rng.randint(1, 12), side)
+        unread = [i for i in range(job.files) if rng.random() < 0.3]
+        job = samples.with_unread(job, *unread)
+        if FREE in job.marks and taken_out(job)[2]:
+            jobs.append(job)
+    return jobs
+
+
+class Unread(unittest.TestCase):
+    """Order 5: "files that could not be read"."""
+
+    def test_facts_of_every_pass(self):
+        for job in unread_jobs():
+            for see in ALL_SEEN:
+                see(job, job.sides)
+
+    def test_passes_without_them(self):
+        """Also those in which no file is unread, where nothing is taken out."""
+        partial = [job for job in unread_jobs() if UNREAD in job.marks]
+        self.assertGreater(len(partial), 200)
+        for job in (*unread_jobs(), *small_jobs()):
+            see_taken_out(job, job.sides)
+
+    def test_runs_without_them(self):
+        for job in unread_jobs():
+            rest, files, _ = taken_out(job)
+            whole, parts = planner.run(job), planner.all_passes(rest)
+            self.assertEqual(whole.passes, len(parts))
+            last = parts[-1]
+            self.assertEqual(whole.settled, last.cut_after == last.cut_before)
+            for name in ("tried", "kept", "scans"):
+                total = sum(getattr(part, name) for part in parts)
+                self.assertEqual(getattr(whole, name), total)
+            figures = whole.cut_before, whole.cut_after, whole.size_a
+            expected = parts[0].cut_before, last.cut_after, last.size_a
+            self.assertEqual(figures, expected)
+            self.assertEqual([whole.last.sides[i] for i in files], last.sides)
+
+    def test_checks_without_them(self):
+        """1 to 9 of a job is that of the job without them, where a recipe is left."""
+        numbers = []
+        for job in unread_starts():
+            rest, _, _ = taken_out(job)
+            self.assertEqual(planner.check(job), planner.check(rest))
+            numbers.append(planner.check(job)[0])
+        self.assertGreater(min(numbers.count(0), numbers.count(9)), 50)
+
+    def test_starts_without_them(self):
+        for job in unread_starts():
+            see_start_taken_out(job, job.sides)
+            see_9(job, job.sides)
+            if planner.balance(job).number == 0:
+                see_balance(job, job.sides)
+
+    def test_unread_jobs(self):
+        for name, (number, files, recipes, job) in samples.unread_jobs().items():
+            self.assertEqual(planner.check(job), (number, 0), name)
+            self.assertEqual(planner.measure(job)[4:], (files, recipes), name)
+            told = (files, recipes) if number == 0 else (0, 0)
+            self.assertEqual(planner.run(job).unread, told, name)
+            if number == 0:
+                self.assertEqual(planner.one_pass(job, job.sides).unread, told, name)
+                see_taken_out(job, job.sides)
+
+    def test_unread_starts(self):
+        for name, (number, moves, job) in samples.unread_starts().items():
+            answer = planner.balance(job)
+            self.assertEqual((answer.number, answer.moves), (number, moves), name)
+            told = planner.measure(job)[4:] if number == 0 else (0, 0)
+            self.assertEqual(answer.unread, told, name)
+            if number == 0:
+                after = job.changed(sides=answer.sides)
+                self.assertEqual(planner.check(after), (0, 0), name)
+
+    def test_it_keeps_its_side_and_holds_0(self):
+        for job in unread_jobs():
+            answer = planner.run(job)
+            for file in range(job.files):
+                if job.marks[file] == UNREAD:
+                    self.assertEqual(answer.last.sides[file], job.sides[file])
+                    self.assertEqual(answer.last.gains[file], 0)
+                    self.assertNotIn(file, moves_of(answer.last))
+
+    def test_its_side_and_its_size_change_nothing(self):
+        rng = random.Random(6)
+        for job in unread_jobs():
+            unread = [i for i in range(job.files) if job.marks[i] == UNREAD]
+            sides, sizes = list(job.sides), list(job.sizes)
+            for file in unread:
+                sides[file], sizes[file] = rng.randint(A, B), rng.randint(1, 65535)
+            other = job.changed(sides=sides, sizes=sizes)
+            self.assertEqual(planner.measure(other), planner.measure(job))
+            one, two = vars(planner.run(job)), vars(planner.run(other))
+            ends = vars(one.pop("last")), vars(two.pop("last"))
+            one_left, two_left = (end.pop("sides") for end in ends)
+            self.assertEqual((one, ends[0]), (two, ends[1]))
+            for file in range(job.files):
+                if file in unread:
+                    self.assertEqual(two_left[file], sides[file])
+                else:
+                    self.assertEqual(two_left[file], one_left[file])
+
+    def test_recipe_with_fewer_than_two(self):
+        """Of five files one is readable: never cut, no gain, no scan."""
+        _, _, _, job = samples.unread_jobs()["recipe_with_1"]
+        # File 4 in A, and 7 in B, share a recipe; 6 in A has one with 5 and one with 7.
+        self.assertEqual(planner.measure(job)[2:], (3, 2, 4, 2))
+        gains = planner.all_gains(job, job.sides)
+        self.assertEqual(gains, [0, 0, 0, 0, 1, 1, 2, 2])
+        self.assertNotIn("scan 0 ", planner.trace(planner.write_job(job)))
+
+    def test_visits_count_the_whole_recipe(self):
+        """m5 with an unread file in its recipe: six scans of three files."""
+        job = samples.with_unread(samples.three_files(), 1)
+        self.assertEqual((job.sides[0], job.sides[2]), (A, B))
+        answer = planner.run(job)
+        self.assertEqual((answer.cut_after, answer.passes), (0, 2))
+        self.assertEqual((answer.scans, answer.visits), (6, 18))
+
+    def test_never_summed(self):
+        more = [job for job in unread_jobs() if planner.run(job).passes > 1]
+        self.assertGreater(len(more), 50)
+        for job in more:
+            counted = job.marks.count(UNREAD), holding_unread(job)
+            self.assertEqual(planner.run(job).unread, counted)
+
+    def test_zeros_when_refused(self):
+        """Measure gives them where only 7 to 9 refuse."""
+        for number, fields in JOB_FAULTS.items():
+            if number in (3, 8):
+                continue
+            job = samples.partial_chain(**fields)
+            self.assertEqual(planner.check(job)[0], number)
+            self.assertEqual(planner.run(job).unread, (0, 0))
+            told = (1, 1) if number > 6 else (0, 0)
+            self.assertEqual(planner.measure(job)[4:], told)
+            if number != 9:
+                self.assertEqual(planner.balance(job).unread, (0, 0))
+
+    def test_recipes_that_hold_one(self):
+        """With two or more readable files left, with one, and with none."""
+        job = samples.one_of_five()
+        for unread in ([1], [1, 2, 3], [1, 2, 3, 0, 4]):
+            # Files 0 and 4 are in one more recipe each.
+            recipes = 1 + (0 in unread) + (4 in unread)
+            found = planner.measure(samples.with_unread(job, *unread))
+            self.assertEqual(found[4:], (len(unread), recipes))
+
+    def test_report(self):
+        report = planner.run_stored(planner.write_job(samples.partial_chain()))
+        self.assertEqual(
+            report,
+            "partial\nunread 1 1\ncut 2 1\nsize 1 2\npasses 2\nsettled yes\n"
+            "kept 1\nvisits 24\nsides BBA?\n",
+        )
+
+    def test_trace(self):
+        told = planner.trace(planner.write_job(samples.partial_chain()))
+        self.assertEqual(
+            told.splitlines(),
+            ["partial", "unread 1 1"]
+            + ["move 0 1 1", "scan 0 2", "scan 0 3"]
+            + ["move 1 0 1", "scan 0 1", "scan 2 2", "scan 2 3"]
+            + ["move 2 -1 2", "scan 2 1"]
+            + ["gains 1 0 -1 0", "cut 2 1", "size 1 2", "tried 3", "kept 1"]
+            + ["scans 6", "visits 12", "sides BBA?"],
+        )
+
+    def test_balance_tells_it(self):
+        """|A| may be 1 or 2: file 0 has a gain of -1, and so has 2, but not 1."""
+        job = samples.partial_chain(sides=[A] * 4)
+        data, said = planner.balance_stored(planner.write_job(job))
+        self.assertEqual(said, "partial\nunread 1 1\nmoves 1\ncut 1\nsize 2 1\n")
+        sides = (B, A, A, A)
+        self.assertEqual(planner.read_job(data)[3], job.changed(sides=sides))
+
+    def test_resettle_writes_the_marks(self):
+        for job in unread_jobs():
+            data, said = planner.resettle(planner.write_job(job))
+            self.assertEqual(said, "")
+            sides = planner.run(job).last.sides
+            self.assertEqual(planner.read_job(data)[3], job.changed(sides=sides))
+
+    def test_sizes_add_up(self):
+        """ "So A and B add up to W", which is that of the readable files."""
+        for job in unread_jobs():
+            lines = planner.run_stored(planner.write_job(job)).splitlines()
+            (sizes,) = [line for line in lines if line.startswith("size ")]
+            in_a, in_b = map(int, sizes.split()[1:])
+            rest, _, _ = taken_out(job)
+            self.assertEqual(in_a + in_b, sum(rest.sizes))
+
+    def test_stored_as_side_plus_4(self):
+        job = samples.chain().changed(marks=[2, 2, 1, 0])
+        data = planner.write_job(job)
+        self.assertEqual(planner.block_values(data[512:], 8)[1::2], [4, 5, 2, 1])
+        self.assertEqual(planner.read_job(data)[3], job)
+
+    def test_round_trips(self):
+        for job in unread_jobs():
+            length = planner.stored_length(job)
+            number, place, data = planner.write(job, bytes(length))
+            self.assertEqual((number, place), (0, 0))
+            number, _, _, read = planner.read_job(data)
+            self.assertEqual((number, read), (0, job))
+            self.assertEqual(planner.write(read, bytes(length)), (0, 0, data))
+
+    def test_the_old_reader(self):
+        """ "The old reader answers 22 on such a job": it took values up to 3."""
+        with mock.patch.object(planner, "MOST_SECOND", 3):
+            for job in unread_jobs():
+                told = planner.read_job(planner.write_job(job))[:2]
+                self.assertEqual(told, (22, 1) if UNREAD in job.marks else (0, 0))
+
+
 class Mill(unittest.TestCase):
     def test_it_is_balanced_and_then_runs(self):
         data, said = planner.balance_stored(planner.write_job(mill()))
@@ -1097,7 +1439,7 @@ def scans_with(kind_2_looks, kind_4_looks, t_counts_moved, else_only):
         side_to = 1 - sides[file]
         found = []
         for j in job.file_recipes[file]:
-            others = [other for other in job.recipe_files[j] if other != file]
+            others = [other for other in job.readable_recipes[j] if other != file]
             files_t = [other for other in others if sides[other] == side_to]
             files_f = [other for other in others if sides[other] != side_to]
             counted = len(files_t) + (1 if t_counts_moved else 0)
@@ -1125,18 +1467,27 @@ def last_prefix(cuts):
     return len(cuts) - 1
 
 
+def fails(see, jobs):
+    """Whether a test of what a pass has to meet fails on one of these jobs."""
+    for job in jobs:
+        try:
+            see(job, job.sides)
+        except AssertionError:
+            return True
+    return False
+
+
+def readable_part(job, files):
+    return [file for file in files if job.marks[file] != UNREAD]
+
+
 class CanFail(unittest.TestCase):
-    """Each error that document 01 names is seen by the test that is meant for it."""
+    """Each error that document 01 names, and each that an order makes near, is seen by
+    the test that is meant for it."""
 
     def seen(self, see, name, wrong, jobs=None):
-        jobs = jobs or small_jobs()
         with mock.patch.object(planner, name, wrong):
-            for job in jobs:
-                try:
-                    see(job, job.sides)
-                except AssertionError:
-                    return True
-        return False
+            return fails(see, jobs or small_jobs())
 
     def test_right_scans_pass(self):
         """The copy above, with no error put in, is not seen as wrong."""
@@ -1212,6 +1563,59 @@ class CanFail(unittest.TestCase):
         wrong = ("no_start_is_balanced", start_is_not)
         self.assertTrue(self.seen(see_9, *wrong, bad_starts()))
 
+    def unread_seen(self, see, name, wrong):
+        """The same with one of a job's own lists worked out wrongly."""
+        # Copies, which have worked out nothing yet.
+        jobs = [job.changed() for job in unread_jobs()]
+        with mock.patch.object(planner.Job, name, property(wrong)):
+            return fails(see, jobs)
+
+    def test_right_lists_pass(self):
+        def weights(job):
+            return [size * (mark != UNREAD) for size, mark in zip(job.sizes, job.marks)]
+
+        self.assertFalse(self.unread_seen(see_taken_out, "weights", weights))
+
+    def test_unread_files_that_weigh(self):
+        def weights(job):
+            return job.sizes
+
+        self.assertTrue(self.unread_seen(see_taken_out, "weights", weights))
+
+    def test_unread_files_that_count(self):
+        def whole(job):
+            return job.whole_recipes
+
+        self.assertTrue(self.unread_seen(see_taken_out, "readable_recipes", whole))
+
+    def test_recipe_of_one_readable_file(self):
+        def readable(job):
+            return [readable_part(job, files) for files in job.whole_recipes]
+
+        self.assertTrue(self.unread_seen(see_taken_out, "readable_recipes", readable))
+
+    def test_visits_of_readable_files(self):
+        def readable(job):
+            recipes = range(job.recipes)
+            views = [planner.view(job.bounds, job.pins, j) for j in recipes]
+            return [readable_part(job, files) for files in views]
+
+        self.assertTrue(self.unread_seen(see_four_scans, "whole_recipes", readable))
+
+    def test_unread_recipes_counted_by_pin(self):
+        def by_pin(job):
+            pins = [pin for pin in job.pins if job.marks[pin] == UNREAD]
+            return job.marks.count(UNREAD), len(pins)
+
+        self.assertTrue(self.unread_seen(see_taken_out, "unread", by_pin))
+
+    def test_unread_recipes_that_are_planned(self):
+        def planned(job):
+            kept = zip(job.whole_recipes, job.readable_recipes)
+            return job.marks.count(UNREAD), sum(0 < len(p) < len(w) for w, p in kept)
+
+        self.assertTrue(self.unread_seen(see_taken_out, "unread", planned))
+
     def test_gain_list_of_the_end(self):
         def not_kept(job, sides, move_files, move_gains):
             return planner.all_gains(job, sides)
@@ -1222,7 +1626,7 @@ class CanFail(unittest.TestCase):
         def only_free(job, sides):
             free = [mark == FREE for mark in job.marks]
             gains = [0] * job.files
-            for files in job.recipe_files:
+            for files in job.whole_recipes:
                 seen = [sides[f] for f in files if free[f]]
                 for f in files:
                     alone = seen.count(sides[f]) == 1

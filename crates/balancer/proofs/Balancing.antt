@@ -49,9 +49,9 @@ module _ (most : Limits) (job : Job) (a : BalanceFigures) (sides own scratch : L
     accepts : check most (withSides job sides) true .number ≡ 0
     accepts = ap (λ (b : Balancing). check most (withSides job (b .sides)) true .number) e ∙ ap (λ (v : Verdict). v .number) (balance-answers most job own .passes let-through)
 
-    told : (room : List ℕ) → balanceReporting most (job .sizes) a sides room ≡ intoRoom (balanceLines (withSides job sides) a sides) room
+    told : (room : List ℕ) → balanceReporting most (job .sizes) (job .marks) a sides room ≡ intoRoom (balanceLines (withSides job sides) a sides) room
     told room =
-        ap (λ (b : Balancing). balanceReporting most (job .sizes) (b .answer) (b .sides) room) e
+        ap (λ (b : Balancing). balanceReporting most (job .sizes) (job .marks) (b .answer) (b .sides) room) e
         ∙ balance-told most job own room let-through
         ∙ ap (λ (b : Balancing). intoRoom (balanceLines job (b .answer) (b .sides)) room) (sym e)
         ∙ ap (λ (l : List ℕ). intoRoom l room) (sym (lines-sides job a sides))
@@ -63,6 +63,7 @@ module _ (most : Limits) (job : Job) (a : BalanceFigures) (sides own scratch : L
       passes = passes-both (check1to6 most (withSides job sides) true) (check7to9 most (withSides job sides)) accepts .0;
       blocks = l;
       sidesLong = accepted most (withSides job sides) true accepts .sound .sidesLong;
+      marksLong = accepted most (withSides job sides) true accepts .sound .marksLong;
     }
 
 -- ---- of an input

@@ -70,7 +70,7 @@ module _ (most : Limits) (answer : BalanceFigures) (job : Job) (n : ℕ) (w : Ma
       ∙ ap (λ (l : List ℕ). take n room ++ l) (append-nil part)
 
   -- the lines are told there
-  module _ (fits : n ≤ length room) (a : Printed) (part : List ℕ) (e : printed a part ≡ balanceReporting most (job .sizes) answer (job .sides) behind) where
+  module _ (fits : n ≤ length room) (a : Printed) (part : List ℕ) (e : printed a part ≡ balanceReporting most (job .sizes) (job .marks) answer (job .sides) behind) where
     told : printed a part ≡ intoRoom lines (drop n room)
     told = e ∙ w .told behind ∙ ap (intoRoom lines) behind-is
 
@@ -83,8 +83,8 @@ module _ (most : Limits) (answer : BalanceFigures) (job : Job) (n : ℕ) (w : Ma
         ∙ both-short (blocksOf job) lines room (omega (arith, s .2, length-drop n room, blocks-long))
 
     -- which is never so where there is room for both
-    pub lines-enough : (length (job .sides) ≡ length (job .sizes) → 256 ≤ length behind → a .verdict .number ≢ 3) → n + 256 ≤ length room → a .verdict .number ≡ 0
-    lines-enough h long = into-number lines (drop n room) part a told (h (w .sidesLong) (omega (arith, long, ap length behind-is, length-drop n room)))
+    pub lines-enough : (length (job .sides) ≡ length (job .sizes) → length (job .marks) ≡ length (job .sizes) → 256 ≤ length behind → a .verdict .number ≢ 3) → n + 256 ≤ length room → a .verdict .number ≡ 0
+    lines-enough h long = into-number lines (drop n room) part a told (h (w .sidesLong) (w .marksLong) (omega (arith, long, ap length behind-is, length-drop n room)))
 
     -- and the blocks before them
     pub all-handed : a .verdict .number ≡ 0 → (v : Verdict) (first : List ℕ) → writingOf v first ≡ writing most job (take n (back part))

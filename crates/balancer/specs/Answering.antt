@@ -26,7 +26,8 @@ jobOut most job = answerOut job (allBalancing most job)
 
 -- what handing out a balanced job needs to know: its lines are refused only for want of room; it passes 1 to 6 with its new sides; and its blocks are n bytes
 pub record Made (most : Limits) (answer : BalanceFigures) (job : Job) (n : ℕ) : Type 0 where
-  pub told : (room : List ℕ) → balanceReporting most (job .sizes) answer (job .sides) room ≡ intoRoom (balanceLines job answer (job .sides)) room
+  pub told : (room : List ℕ) → balanceReporting most (job .sizes) (job .marks) answer (job .sides) room ≡ intoRoom (balanceLines job answer (job .sides)) room
   pub passes : check1to6 most job true .number ≡ 0
   pub blocks : n ≡ 512 * blockCount (headerFor job)
   pub sidesLong : length (job .sides) ≡ length (job .sizes)
+  pub marksLong : length (job .marks) ≡ length (job .sizes)

@@ -20,7 +20,7 @@ ghost use Rattle.stored.specs.Steps.{firstOf};
 ghost use Rattle.planner.specs.Answering.{textOut, Answered, BothLendable};
 ghost use Rattle.balancer.specs.Answering.{madeOut, jobOut, Made};
 
-// More than the four lines take, words and numbers.
+// More than the lines take, words and numbers.
 const LINES_BYTES: usize = 256;
 
 // No stored job is longer, its lines behind it.
@@ -37,8 +37,10 @@ fn hand_refusal(verdict: Verdict, room: &mut [u8]) -> Handed
         moves: 0,
         cut: 0,
         size: 0,
+        unread: 0,
+        holding: 0,
     };
-    let text = report::balanced(answer, &[], &[], room);
+    let text = report::balanced(answer, &[], &[], &[], room);
     let told = text.verdict;
     Handed {
         verdict: told,
@@ -75,7 +77,7 @@ fn hand_made(
             errors: 0,
         };
     }
-    let text = report::balanced(answer, sizes, sides, &mut room[bytes..]);
+    let text = report::balanced(answer, sizes, sides, marks, &mut room[bytes..]);
     let short = text.verdict;
     if short.number != 0 {
         return Handed {
@@ -151,7 +153,7 @@ fn balance_job(
     )
 }
 
-// The stored job with a balanced start and four lines, or a refusal's line: what the program `balance` writes to standard output and to standard error, for
+// The stored job with a balanced start and the lines that tell of it, or a refusal's line: what the program `balance` writes to standard output and to standard error, for
 // every input.
 pub fn balance(input: &[u8], room: &mut [u8]) -> Handed
     ensures { λ r. do ⌜ handingOf r (now (room .exit)) ≡ handInto (balances (limitsOf (← ⟦Job::MOST_FILES⟧ .entry) (← ⟦Job::MOST_RECIPES⟧ .entry) (← ⟦Job::MOST_PINS⟧ .entry) (← ⟦Job::MOST_DEN⟧ .entry)) (now (input .entry))) (now (room .entry)) ⌝ }

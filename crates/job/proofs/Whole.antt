@@ -6,7 +6,7 @@ use lib.Dec.{eqb}
 use borrow.Author.Tests.{eq-eqb, ne-eqb}
 use Rattle.rules.specs.declared.Verdict.{Verdict}
 use Rattle.rules.specs.Job.{Job, Limits, recipes, files, fileCount}
-use Rattle.rules.specs.Split.{cut, weight, smax, sizeOn, sizeA, largeEnough, smallEnough, balanced}
+use Rattle.rules.specs.Split.{cut, unreadFiles, unreadRecipes, weight, smax, sizeOn, sizeA, largeEnough, smallEnough, balanced}
 use Rattle.rules.specs.Check.{isDone, refuseIf, _orElse_, check1, check2, check3, check4, badPin, check5, check6, check7, check8, check9, check4to6, check1to6, check7to9, check, measure}
 use Rattle.rules.specs.Balance.{tooLarge, tooSmall, leastA, mostA, noneBalanced, check1to8, balanceCheck}
 use Rattle.rules.proofs.Verdicts.{zero-of, or-three}
@@ -47,6 +47,10 @@ size-is : (job : Job) (t : Totals) → t ≡ totalsOf job (fileCount job) → t 
 unfolding totalsOf sizeOn files
 size-is job t p = ap (λ (u : Totals). u .size) p
 
+unread-is : (job : Job) (t : Totals) → t ≡ totalsOf job (fileCount job) → t .unread ≡ unreadFiles job
+unfolding totalsOf unreadFiles files
+unread-is job t p = ap (λ (u : Totals). u .unread) p
+
 abbrev figuresOf : Job → Figures
 figuresOf job = record { num = job .num; den = job .den; cap = job .cap }
 
@@ -80,24 +84,24 @@ module _ {job : Job} {figures : Figures} {t : Totals} (has : Has job figures t) 
 
 module _ (most : Limits) (job : Job) {v : Verdict} where
   module _ (e : v ≡ check1to6 most job true) where
-    pub measure-refused : (v .number ≡ 0 → ⊥) → record { verdict = v; cut = 0; size = 0 } ≡ measure most job
+    pub measure-refused : (v .number ≡ 0 → ⊥) → record { verdict = v; cut = 0; size = 0; unread = 0; holding = 0 } ≡ measure most job
     unfolding measure
     measure-refused h = rw (e, refused e h, measure)
 
-    pub measure-done : (x : ℕ) (t : Totals) → v .number ≡ 0 → x ≡ cut (job .sides) (recipes job) → t ≡ totalsOf job (fileCount job)
-        → record { verdict = v; cut = x; size = t .size } ≡ measure most job
+    pub measure-done : (x h : ℕ) (t : Totals) → v .number ≡ 0 → x ≡ cut (job .sides) (recipes job) → h ≡ unreadRecipes job → t ≡ totalsOf job (fileCount job)
+        → record { verdict = v; cut = x; size = t .size; unread = t .unread; holding = h } ≡ measure most job
     unfolding measure
-    measure-done x t z p q = rw (e, p, size-is job t q, passes-done e z, measure)
+    measure-done x h t z p r q = rw (e, p, r, size-is job t q, unread-is job t q, passes-done e z, measure)
 
   module _ (balancing lent : Bool) (e : v ≡ (check1to6 most job lent orElse check7 most job orElse check8 job orElse nineFor balancing job)) where
     told : v ≡ checkFor balancing most job lent
     told = e ∙ sym (nine-last balancing most job lent)
 
-    pub survey-refused : (v .number ≡ 0 → ⊥) → record { verdict = v; weight = 0; largest = 0; size = 0; cut = 0 } ≡ surveyOf balancing most job lent
+    pub survey-refused : (v .number ≡ 0 → ⊥) → record { verdict = v; weight = 0; largest = 0; size = 0; cut = 0; unread = 0; holding = 0 } ≡ surveyOf balancing most job lent
     unfolding surveyOf
     survey-refused h = rw (told, refused told h, surveyOf)
 
-    pub survey-done : (x : ℕ) (t : Totals) → v .number ≡ 0 → x ≡ cut (job .sides) (recipes job) → t ≡ totalsOf job (fileCount job)
-        → record { verdict = v; weight = t .weight; largest = t .largest; size = t .size; cut = x } ≡ surveyOf balancing most job lent
-    unfolding surveyOf totalsOf weight smax sizeOn files
-    survey-done x t z p q = rw (told, p, q, passes-done told z, surveyOf)
+    pub survey-done : (x h : ℕ) (t : Totals) → v .number ≡ 0 → x ≡ cut (job .sides) (recipes job) → h ≡ unreadRecipes job → t ≡ totalsOf job (fileCount job)
+        → record { verdict = v; weight = t .weight; largest = t .largest; size = t .size; cut = x; unread = t .unread; holding = h } ≡ surveyOf balancing most job lent
+    unfolding surveyOf totalsOf weight smax sizeOn unreadFiles files
+    survey-done x h t z p r q = rw (told, p, r, q, passes-done told z, surveyOf)

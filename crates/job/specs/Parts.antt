@@ -14,6 +14,14 @@ ofFiles sizes sides marks = asJob sizes sides marks [] [] 0 0 0
 abbrev pub ofRecipes : List ℕ → List ℕ → Job
 ofRecipes bounds pins = asJob [] [] [] bounds pins 0 0 0
 
+-- the marks alone, which say what is readable
+abbrev pub ofMarks : List ℕ → Job
+ofMarks marks = asJob [] [] marks [] [] 0 0 0
+
+-- the recipes with the marks of their files
+abbrev pub ofMarked : List ℕ → List ℕ → List ℕ → Job
+ofMarked marks bounds pins = asJob [] [] marks bounds pins 0 0 0
+
 -- the pins with the files that they name
 abbrev pub ofPins : List ℕ → List ℕ → List ℕ → Job
 ofPins sizes bounds pins = asJob sizes [] [] bounds pins 0 0 0

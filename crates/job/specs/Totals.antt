@@ -1,4 +1,4 @@
--- W, smax, |A|, the least and the most that it can be, and the number of free files, as one walk over the files adds them up. Assumes nothing.
+-- W, smax, |A|, the least and the most that it can be, and the numbers of free and of unread files, as one walk over the files adds them up. Assumes nothing.
 use Prim.Native.Nat.{ℕ, _+_, _*_, _≤_, max}
 use mathlib.Core.Path.{_≡_}
 use mathlib.Core.Bool.{Bool, not, cond, _&&_, _||_}
@@ -7,8 +7,8 @@ use Rattle.job.specs.declared.Job.{Job as Figures}
 use Rattle.job.specs.declared.figures.Totals.{Totals}
 use Rattle.job.specs.Parts.{wholeJob}
 use Rattle.rules.specs.Lists.{bit, total, count, largest, upTo}
-use Rattle.rules.specs.Job.{Job, Limits, fileCount}
-use Rattle.rules.specs.Split.{onSide, sizeOf, isFree, largeEnough, smallEnough}
+use Rattle.rules.specs.Job.{Job, Limits, isRead, fileCount}
+use Rattle.rules.specs.Split.{onSide, sizeOf, isFree, weighs, largeEnough, smallEnough}
 use Rattle.rules.specs.declared.Verdict.{Verdict}
 use Rattle.rules.specs.Check.{refuseIf, _orElse_, check7, check8, check9}
 use Rattle.rules.specs.Balance.{noneBalanced}
@@ -16,23 +16,29 @@ use Rattle.rules.specs.Balance.{noneBalanced}
 -- those of the first n files
 unfoldable pub totalsOf : Job → ℕ → Totals
 totalsOf job n = record {
-  weight = total (sizeOf job) (upTo n);
+  weight = total (weighs job) (upTo n);
   largest = largest (λ f. bit (isFree job f) * sizeOf job f) (upTo n);
-  size = total (λ f. bit (onSide (job .sides) 0 f) * sizeOf job f) (upTo n);
-  least = total (λ f. bit (not (isFree job f) && onSide (job .sides) 0 f) * sizeOf job f) (upTo n);
-  most = total (λ f. bit (isFree job f || onSide (job .sides) 0 f) * sizeOf job f) (upTo n);
+  size = total (λ f. bit (onSide (job .sides) 0 f) * weighs job f) (upTo n);
+  least = total (λ f. bit (not (isFree job f) && onSide (job .sides) 0 f) * weighs job f) (upTo n);
+  most = total (λ f. bit (isFree job f || onSide (job .sides) 0 f) * weighs job f) (upTo n);
   free = count (isFree job) (upTo n);
+  unread = count (λ f. not (isRead job f)) (upTo n);
 }
+
+-- what a file of this size and mark weighs
+abbrev pub weightOf : ℕ → ℕ → ℕ
+weightOf size mark = bit (not (eqb mark 2)) * size
 
 -- one file more, of the given size, side and mark
 abbrev pub withFile : Totals → ℕ → ℕ → ℕ → Totals
 withFile t size side mark = record {
-  weight = t .weight + size;
+  weight = t .weight + weightOf size mark;
   largest = max (t .largest) (bit (eqb mark 0) * size);
-  size = t .size + bit (eqb side 0) * size;
-  least = t .least + bit (not (eqb mark 0) && eqb side 0) * size;
-  most = t .most + bit (eqb mark 0 || eqb side 0) * size;
+  size = t .size + bit (eqb side 0) * weightOf size mark;
+  least = t .least + bit (not (eqb mark 0) && eqb side 0) * weightOf size mark;
+  most = t .most + bit (eqb mark 0 || eqb side 0) * weightOf size mark;
   free = t .free + bit (eqb mark 0);
+  unread = t .unread + bit (eqb mark 2);
 }
 
 -- none of them is over b
@@ -43,6 +49,7 @@ pub record Within (t : Totals) (b : ℕ) : Type 0 where
   pub least : t .least ≤ b
   pub most : t .most ≤ b
   pub free : t .free ≤ b
+  pub unread : t .unread ≤ b
 
 -- t are the totals of n files, each of a two-byte size
 pub record Added (job : Job) (n : ℕ) (t : Totals) : Type 0 where

@@ -1,4 +1,4 @@
-// The figures of a job: what its files add up to, balance, and the cut.
+// The figures of a job: what its files add up to, balance, the cut, and the recipes that hold an unread file.
 use crate::Job;
 use crate::bounds::recipe_count;
 use crate::numbers::bit;
@@ -12,12 +12,13 @@ use rules::Verdict;
 ghost use mathlib.Core.Path.{_≡_};
 ghost use Prim.Native.Nat.{_*_, _≤_, _<_};
 ghost use lib.ListN.{length};
-ghost use Rattle.rules.specs.Job.{recipes};
-ghost use Rattle.rules.specs.Split.{countOn, isCut, «cut»};
-ghost use Rattle.job.specs.Parts.{ofFiles, ofRecipes};
-ghost use Rattle.job.specs.Totals.{withFile, Within, Added, reaches};
+ghost use Rattle.rules.specs.Lists.{those};
+ghost use Rattle.rules.specs.Job.{isRead, readIn, recipes};
+ghost use Rattle.rules.specs.Split.{countOn, isCut, «cut», unreadRecipes};
+ghost use Rattle.job.specs.Parts.{ofFiles, ofMarks, ofMarked};
+ghost use Rattle.job.specs.Totals.{weightOf, withFile, Within, Added, reaches};
 
-// W, smax, |A|, the least and the most that it can be, and the number of free files.
+// W, smax, |A|, the least and the most that it can be, and the numbers of free and of unread files.
 pub(crate) struct Totals {
     pub weight: u64,
     pub largest: u64,
@@ -25,31 +26,42 @@ pub(crate) struct Totals {
     pub least: u64,
     pub most: u64,
     pub free: u64,
+    pub unread: usize,
 }
 
-// The answer of a survey: W, smax, |A| and the cut, where the verdict is done.
+// The answer of a survey, where the verdict is done: W, smax, |A|, the cut, and the numbers of unread files and of recipes that hold one.
 pub struct Survey {
     pub verdict: Verdict,
     pub weight: u64,
     pub largest: u64,
     pub size: u64,
     pub cut: usize,
+    pub unread: usize,
+    pub holding: usize,
+}
+
+// What a file weighs: its size, and nothing where it is unread.
+fn weight_of(size: u16, mark: u16) -> u64
+    ensures { λ r. ⌜ (r ≡ weightOf size mark) × (r ≤ size) ⌝ }
+{
+    when(mark != 2, long(size))
 }
 
 fn with_file(t: Totals, size: u16, side: u16, mark: u16) -> Totals
     requires { do ⌜ Within t ((← ⟦Job::MOST_FILES⟧) * 65535) ⌝ }
     ensures { λ r. ⌜ r ≡ withFile t size side mark ⌝ }
 {
-    let s = long(size);
+    let s = weight_of(size, mark);
     let free = mark == 0;
     let in_a = side == 0;
     Totals {
         weight: t.weight + s,
-        largest: larger(t.largest, when(free, s)),
+        largest: larger(t.largest, when(free, long(size))),
         size: t.size + when(in_a, s),
         least: t.least + when(!free & in_a, s),
         most: t.most + when(free | in_a, s),
         free: t.free + when(free, 1),
+        unread: t.unread + bit(mark == 2),
     }
 }
 
@@ -65,6 +77,7 @@ pub(crate) fn totals_of(sizes: &[u16], sides: &[u16], marks: &[u16]) -> Totals
         least: 0,
         most: 0,
         free: 0,
+        unread: 0,
     };
     let mut f = 0;
     while f < sizes.len() {
@@ -99,20 +112,49 @@ pub fn count_on(list: &[u16], table: &[u16], u: u16) -> usize
     n
 }
 
-fn is_cut(sides: &[u16], recipe: &[u16]) -> bool
-    ensures { λ r. ⌜ r ≡ isCut (now (sides .entry)) (now (recipe .entry)) ⌝ }
+// How many readable files of the recipe are on side u.
+pub fn read_on(recipe: &[u16], sides: &[u16], marks: &[u16], u: u16) -> usize
+    ensures { λ r. ⌜ r ≡ countOn (now (sides .entry)) u (those (isRead (ofMarks (now (marks .entry)))) (now (recipe .entry))) ⌝ }
 {
-    (0 < count_on(recipe, sides, 0)) & (0 < count_on(recipe, sides, 1))
+    let mut n = 0;
+    let mut k = 0;
+    while k < recipe.len() {
+        let f = wide(recipe[k]);
+        n += bit((entry_at(marks, f) != 2) & (entry_at(sides, f) == u));
+        k += 1;
+    }
+    n
 }
 
-pub(crate) fn cut(sides: &[u16], bounds: &[u16], pins: &[u16]) -> usize
-    ensures { λ r. ⌜ r ≡ «cut» (now (sides .entry)) (recipes (ofRecipes (now (bounds .entry)) (now (pins .entry)))) ⌝ }
+// Readable files in both vaults are two at least.
+fn is_cut(sides: &[u16], marks: &[u16], recipe: &[u16]) -> bool
+    ensures { λ r. ⌜ r ≡ isCut (now (sides .entry)) (readIn (ofMarks (now (marks .entry))) (now (recipe .entry))) ⌝ }
+{
+    (0 < read_on(recipe, sides, marks, 0)) & (0 < read_on(recipe, sides, marks, 1))
+}
+
+pub(crate) fn cut(sides: &[u16], marks: &[u16], bounds: &[u16], pins: &[u16]) -> usize
+    ensures { λ r. ⌜ r ≡ «cut» (now (sides .entry)) (recipes (ofMarked (now (marks .entry)) (now (bounds .entry)) (now (pins .entry)))) ⌝ }
 {
     let n = recipe_count(bounds);
     let mut x = 0;
     let mut j = 0;
     while j < n {
-        x += bit(is_cut(sides, view(bounds, pins, j)));
+        x += bit(is_cut(sides, marks, view(bounds, pins, j)));
+        j += 1;
+    }
+    x
+}
+
+// How many recipes hold an unread file.
+pub(crate) fn holding(marks: &[u16], bounds: &[u16], pins: &[u16]) -> usize
+    ensures { λ r. ⌜ r ≡ unreadRecipes (ofMarked (now (marks .entry)) (now (bounds .entry)) (now (pins .entry))) ⌝ }
+{
+    let n = recipe_count(bounds);
+    let mut x = 0;
+    let mut j = 0;
+    while j < n {
+        x += bit(0 < count_on(view(bounds, pins, j), marks, 2));
         j += 1;
     }
     x

@@ -8,9 +8,9 @@ ghost use Rattle.rules.specs.Check.{badFile};
 ghost use Rattle.job.specs.Parts.{ofFiles};
 
 fn is_bad_file(size: u16, side: u16, mark: u16) -> bool
-    ensures { λ r. ⌜ r ≡ (eqb size 0 || ltb 1 side || ltb 1 mark) ⌝ }
+    ensures { λ r. ⌜ r ≡ (eqb size 0 || ltb 1 side || ltb 2 mark) ⌝ }
 {
-    (size == 0) | (1 < side) | (1 < mark)
+    (size == 0) | (1 < side) | (2 < mark)
 }
 
 // The lowest bad file, or C.

@@ -10,6 +10,8 @@ pub use bounds::recipe_count;
 pub use figures::Survey;
 pub use figures::count_on;
 use figures::cut;
+use figures::holding;
+pub use figures::read_on;
 use figures::totals_of;
 pub use numbers::bit;
 pub use numbers::entry_at;
@@ -88,7 +90,7 @@ pub fn check(
     check7to9(job, totals_of(sizes, sides, marks), false)
 }
 
-// 1 to 6, else the cut and |A|.
+// 1 to 6, else the cut, |A| and what could not be read.
 pub fn measure(
     job: Job,
     sizes: &[u16],
@@ -105,13 +107,17 @@ pub fn measure(
             verdict,
             cut: 0,
             size: 0,
+            unread: 0,
+            holding: 0,
         };
     }
     let t = totals_of(sizes, sides, marks);
     Measure {
         verdict,
-        cut: cut(sides, bounds, pins),
+        cut: cut(sides, marks, bounds, pins),
         size: t.size,
+        unread: t.unread,
+        holding: holding(marks, bounds, pins),
     }
 }
 
@@ -136,6 +142,8 @@ pub fn survey(
             largest: 0,
             size: 0,
             cut: 0,
+            unread: 0,
+            holding: 0,
         };
     }
     let t = totals_of(sizes, sides, marks);
@@ -147,6 +155,8 @@ pub fn survey(
             largest: 0,
             size: 0,
             cut: 0,
+            unread: 0,
+            holding: 0,
         };
     }
     Survey {
@@ -154,6 +164,8 @@ pub fn survey(
         weight: t.weight,
         largest: t.largest,
         size: t.size,
-        cut: cut(sides, bounds, pins),
+        cut: cut(sides, marks, bounds, pins),
+        unread: t.unread,
+        holding: holding(marks, bounds, pins),
     }
 }

@@ -1,7 +1,7 @@
 // Cases on standard input: a heading, a job that the check and the measure are asked of, a job that is balanced, or a pin list that the view is asked of.
 //
-// The line of a job: the check's number and place, then the measure's number, place, cut and size
-// of A. The lines of a balancing: its number, place, moves, cut and size of A; the sides as it leaves them; the scratch.
+// The line of a job: the check's number and place, then the measure's number, place, cut, size of A, unread files and recipes
+// that hold one. The lines of a balancing: its number, place, moves, and the other four; the sides as it leaves them; the scratch.
 // The line of a list, as of a view: how many entries it has, then the entries.
 use libc::STDOUT_FILENO;
 use rules::BalanceFigures;
@@ -60,6 +60,8 @@ fn show_answers(v: rules::Verdict, m: rules::Measure) {
     next(w.place);
     next(m.cut);
     next(m.size as usize);
+    next(m.unread);
+    next(m.holding);
     word(b"\n");
 }
 
@@ -76,6 +78,8 @@ fn show_balancing(r: BalanceFigures, sides: &[u16], scratch: &[u16]) {
     next(r.moves);
     next(r.cut);
     next(r.size as usize);
+    next(r.unread);
+    next(r.holding);
     word(b"\n");
     show_list(sides);
     show_list(scratch);

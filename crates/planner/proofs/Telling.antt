@@ -21,7 +21,7 @@ use Rattle.rules.specs.Check.{check1to6, check7to9, check}
 use Rattle.rules.specs.Split.{sizeOn}
 use Rattle.rules.specs.Run.{Ended, endedOf, noRunFigures, passEnds, runEnds}
 use Rattle.rules.specs.Stored.{Room, blockCount, jobOf, reading, readVerdict}
-use Rattle.rules.specs.Report.{refusal, sizeLine, figureLines, report, Printing, printed, intoRoom, reporting, prints, allRoom, ownLent, allLent, allRun}
+use Rattle.rules.specs.Report.{refusal, sizeLine, sidesLine, figureLines, report, Printing, printed, intoRoom, reporting, prints, allRoom, ownLent, allLent, allRun}
 use Rattle.rules.specs.Trace.{listing, holdsPass, tracing, traces}
 use Rattle.rules.specs.Writing.{headerFor, withSides, HandedOut, Handing, handingOf, handInto, handsOut, resettles}
 use Rattle.rules.specs.RoundTrip.{lastPass, resettled}
@@ -38,9 +38,9 @@ use Rattle.planner.proofs.Taken.{verdict-read, number-read, job-read}
 use Rattle.planner.proofs.Handing.{hand-text}
 
 -- what is refused is told as a refused run is
-pub refusal-told : (most : Limits) {v : Verdict} {a : RunFigures} {x : Printing} (sizes sides room : List ℕ) → x ≡ reporting most sizes a sides room → a ≡ noRunFigures v → v .number ≢ 0
+pub refusal-told : (most : Limits) {v : Verdict} {a : RunFigures} {x : Printing} (sizes marks sides room : List ℕ) → x ≡ reporting most sizes marks a sides room → a ≡ noRunFigures v → v .number ≢ 0
     → x ≡ intoRoom (refusal v) room
-refusal-told most {v} sizes sides room e f h = e ∙ ap (λ (r : RunFigures). reporting most sizes r sides room) f ∙ reporting-refusal most sizes (noRunFigures v) sides room h
+refusal-told most {v} sizes marks sides room e f h = e ∙ ap (λ (r : RunFigures). reporting most sizes marks r sides room) f ∙ reporting-refusal most sizes marks (noRunFigures v) sides room h
 
 pub into-lendable : (bytes room room' : List ℕ) (a : Printed) → printed a room' ≡ intoRoom bytes room → Lendable (a .bytes) room'
 into-lendable bytes room room' a e = let h = into-bytes bytes room room' a e in (h, sym (length-take-le (a .bytes) room' h))
@@ -49,7 +49,7 @@ into-lendable bytes room room' a e = let h = into-bytes bytes room room' a e in 
 
 -- a report knows no more of the sides than those it is told
 report-sides : (job : Job) (r : RunFigures) (sides : List ℕ) → report (withSides job sides) r sides ≡ report job r sides
-unfolding report figureLines sizeLine sizeOn files
+unfolding report figureLines sizeLine sidesLine sizeOn files
 report-sides job r sides = refl
 
 -- a run with the planner's own lists, and what is then told of it
@@ -57,9 +57,9 @@ module _ (most : Limits) (job : Job) (r : RunFigures) (sides : List ℕ) (own le
   ran : endedOf r sides lent ≡ allRun most job
   ran = e ∙ ap (runEnds most job) q
 
-  reported : (room : List ℕ) → reporting most (job .sizes) r sides room ≡ intoRoom (report (withSides job sides) r sides) room
+  reported : (room : List ℕ) → reporting most (job .sizes) (job .marks) r sides room ≡ intoRoom (report (withSides job sides) r sides) room
   reported room =
-      ap (λ (x : Ended RunFigures). reporting most (job .sizes) (x .answer) (x .sides) room) ran
+      ap (λ (x : Ended RunFigures). reporting most (job .sizes) (job .marks) (x .answer) (x .sides) room) ran
       ∙ run-told most job (allLent most job) room
       ∙ ap (λ (x : Ended RunFigures). intoRoom (report job (x .answer) (x .sides)) room) (sym ran)
       ∙ ap (λ (b : List ℕ). intoRoom b room) (sym (report-sides job r sides))
@@ -81,8 +81,8 @@ module _ (most : Limits) (job : Job) (r : RunFigures) (sides : List ℕ) (own le
         | no n ↦ absurd (n (sym (ap (λ (x : Ended RunFigures). x .answer .figures .verdict .number) (ran ∙ answers most job l .runRefused n)) ∙ z))
       ]
 
-  pub after-run : (n : ℕ) → n ≡ 512 * blockCount (headerFor job) → length sides ≡ length (job .sizes) → fileCount job ≤ most .files → AfterRun most r (withSides job sides) n
-  after-run n l s f = record { told = reported; passes = passes; blocks = l; sidesLong = s; fewFiles = f }
+  pub after-run : (n : ℕ) → n ≡ 512 * blockCount (headerFor job) → length sides ≡ length (job .sizes) → length (job .marks) ≡ length (job .sizes) → fileCount job ≤ most .files → AfterRun most r (withSides job sides) n
+  after-run n l s m f = record { told = reported; passes = passes; blocks = l; sidesLong = s; marksLong = m; fewFiles = f }
 
   pub run-out : (what : ℕ) → what ≢ 1 → runOut (eqb what 2) r (withSides job sides) ≡ jobOut what most job
   run-out what n = rw (ne-eqb what 1 n) (go (eqb what 2))
@@ -99,12 +99,12 @@ told-blocks answer job false h = absurd (subst T (sym h) tt)
 
 -- the report, or a refusal's line for standard error
 pub told-run : (most : Limits) (answer : RunFigures) (job : Job) (n : ℕ) → AfterRun most answer job n → (stored : Bool) → (stored && eqb (answer .figures .verdict .number) 0) ≡ false
-    → (a : Printed) (room room' : List ℕ) → printed a room' ≡ reporting most (job .sizes) answer (job .sides) room
+    → (a : Printed) (room room' : List ℕ) → printed a room' ≡ reporting most (job .sizes) (job .marks) answer (job .sides) room
     → (handingOf (handedTo stored a) room' ≡ handInto (runOut stored answer job) room) × (a .verdict .number ≢ 3 → a .verdict .number ≡ 0)
 told-run most answer job n w true f a room room' e = elim (ℕ-discrete (answer .figures .verdict .number) 0) [
   | yes z ↦ absurd (eqb-false (answer .figures .verdict .number) 0 f z)
   | no z ↦
-      let t = e ∙ reporting-refusal most (job .sizes) answer (job .sides) room z in
+      let t = e ∙ reporting-refusal most (job .sizes) (job .marks) answer (job .sides) room z in
       (rw (ne-eqb (answer .figures .verdict .number) 0 z) (hand-text true (refusal (answer .figures .verdict)) room room' a t), into-number (refusal (answer .figures .verdict)) room room' a t)
 ]
 told-run most answer job n w false f a room room' e =
@@ -113,14 +113,14 @@ told-run most answer job n w false f a room room' e =
 
 -- one pass with them, traced
 pub pass-printed : (most : Limits) (job : Job) (a : Printed) (f : Figures) (sides room room' : List ℕ) (own lent : Lent) → endedOf f sides lent ≡ passEnds most job own → own ≡ allLent most job
-    → printed a room' ≡ tracing most (job .sizes) f sides (listing lent) room
+    → printed a room' ≡ tracing most (job .sizes) (job .marks) f sides (listing lent) room
     → (printed a room' ≡ intoRoom (passTrace most job) room) × (a .verdict .number ≢ 3 → a .verdict .number ≡ 0) × (holdsPass (job .sizes) f (listing lent) ≡ true)
     × (length sides ≡ length (job .sides)) × (length (lent .recipes) ≡ 4 * most .recipes)
 pass-printed most job a f sides room room' own lent e q g =
     let made : endedOf f sides lent ≡ passEnds most job (allLent most job) = e ∙ ap (passEnds most job) q in
     let long = pass-long most job (allLent most job) in
     let told : printed a room' ≡ intoRoom (passTrace most job) room
-    = g ∙ ap (λ (x : Ended Figures). tracing most (job .sizes) (x .answer) (x .sides) (listing (x .lent)) room) made ∙ pass-traced most job (allLent most job) room in (
+    = g ∙ ap (λ (x : Ended Figures). tracing most (job .sizes) (job .marks) (x .answer) (x .sides) (listing (x .lent)) room) made ∙ pass-traced most job (allLent most job) room in (
       told,
       into-number (passTrace most job) room room' a told,
       ap (λ (x : Ended Figures). holdsPass (job .sizes) (x .answer) (listing (x .lent))) made ∙ pass-held most job (allLent most job) (length-replicate (fileCount job) (pos 0)),

@@ -3,7 +3,7 @@ use mathlib.Core.Path.{_≡_}
 use Prim.Native.Nat.{ℕ, _+_, _*_, _≤_}
 use mathlib.Core.Bool.{Bool, true, false, cond}
 use mathlib.Core.List.{List, []}
-use lib.ListN.{length, take, drop}
+use lib.ListN.{length, take}
 use lib.Dec.{eqb}
 use Rattle.rules.specs.declared.Verdict.{Verdict}
 use Rattle.rules.specs.declared.RunFigures.{RunFigures}
@@ -60,10 +60,11 @@ roomFor what report trace stored = cond (eqb what 1) trace (cond (eqb what 2) st
 
 -- what telling of a run needs to know: the report is refused only for want of room; run, the job passes 1 to 6 with its new sides; and its blocks are n bytes
 pub record AfterRun (most : Limits) (answer : RunFigures) (job : Job) (n : ℕ) : Type 0 where
-  pub told : (room : List ℕ) → reporting most (job .sizes) answer (job .sides) room ≡ intoRoom (report job answer (job .sides)) room
+  pub told : (room : List ℕ) → reporting most (job .sizes) (job .marks) answer (job .sides) room ≡ intoRoom (report job answer (job .sides)) room
   pub passes : answer .figures .verdict .number ≡ 0 → check1to6 most job true .number ≡ 0
   pub blocks : n ≡ 512 * blockCount (headerFor job)
   pub sidesLong : length (job .sides) ≡ length (job .sizes)
+  pub marksLong : length (job .marks) ≡ length (job .sizes)
   pub fewFiles : length (job .sizes) ≤ most .files
 
 -- lent n bytes or more, an answer is never refused for want of room

@@ -69,7 +69,7 @@ fn print_refusal(verdict: Verdict, out: &mut [u8]) -> Printed
     ensures { λ r. ⌜ «printed» r (now (out .exit)) ≡ intoRoom (refusal verdict) (now (out .entry)) ⌝ }
     ensures { λ r. do ⌜ Answered (← ⟦TEXT_BYTES⟧ .entry) (r .verdict) (now (out .entry)) ⌝ }
 {
-    report::report(runs::refused(verdict), &[], &[], out)
+    report::report(runs::refused(verdict), &[], &[], &[], out)
 }
 
 // A text for standard error, or for standard output.
@@ -147,7 +147,7 @@ fn tell_run(
     if stored & (answer.figures.verdict.number == 0) {
         return hand_blocks(job, sizes, sides, marks, bounds, pins, out, bytes);
     }
-    let text = report::report(answer, sizes, sides, out);
+    let text = report::report(answer, sizes, sides, marks, out);
     for_stream(text, stored)
 }
 
@@ -171,7 +171,7 @@ fn print_with(
     bytes: usize,
     what: u8,
 ) -> Handed
-    requires { do ⌜ (length (now sizes) ≤ (← ⟦Job::MOST_FILES⟧)) × (length (now sides) ≡ length (now sizes)) ⌝ }
+    requires { do ⌜ (length (now sizes) ≤ (← ⟦Job::MOST_FILES⟧)) × (length (now sides) ≡ length (now sizes)) × (length (now marks) ≡ length (now sizes)) ⌝ }
     requires { do ⌜ lentOf (now gains) (now tried) (now gained) (now cuts) (now ends) (now recipes) (now kinds) (now scratch) ≡ allLent (limitsOf (← ⟦Job::MOST_FILES⟧) (← ⟦Job::MOST_RECIPES⟧) (← ⟦Job::MOST_PINS⟧) (← ⟦Job::MOST_DEN⟧)) (wholeJob job (now sizes) (now sides) (now marks) (now bounds) (now pins)) ⌝ }
     requires { do ⌜ (bytes ≡ 512 * blockCount (headerFor (wholeJob job (now sizes) (now sides) (now marks) (now bounds) (now pins)))) × (bytes ≤ (← ⟦INPUT_BYTES⟧)) ⌝ }
     ensures { λ r. do ⌜ handingOf r (now (out .exit)) ≡ handInto (jobOut what (limitsOf (← ⟦Job::MOST_FILES⟧ .entry) (← ⟦Job::MOST_RECIPES⟧ .entry) (← ⟦Job::MOST_PINS⟧ .entry) (← ⟦Job::MOST_DEN⟧ .entry)) (wholeJob job (now (sizes .entry)) (now (sides .entry)) (now (marks .entry)) (now (bounds .entry)) (now (pins .entry)))) (now (out .entry)) ⌝ }
@@ -198,6 +198,7 @@ fn print_with(
             f,
             sizes,
             sides,
+            marks,
             gains,
             tried,
             gained,

@@ -115,6 +115,9 @@ grows piece text none more (suc n) =
     ∙ ap (λ (l : List ℕ). l ++ piece n) (grows piece text none more n) ∙ sym (more n)
 
 module _ {piece : ℕ → List ℕ} {n at i next : ℕ} {room mid : List ℕ} (l : Laying piece (upTo n) at room i next mid) where
+  pub growing-near : Near at (pieces piece (upTo n)) → i < n → Near next (piece i)
+  growing-near near h = rw (getD-upTo n i h) at (laying-near 0 l near (rw (length-upTo n) h))
+
   pub growing-more : {p : ℕ} {after : List ℕ} → i < n → Laid next (piece i) mid p after → Laying piece (upTo n) at room (i + 1) p after
   growing-more h m = laying-more 0 l (rw (length-upTo n) h) (rw (getD-upTo n i h) m)
 

@@ -8,7 +8,7 @@ use native.Mathlib.Omega.{arith}
 use lib.ListN.{length, getD}
 use lib.Dec.{leb, ltb, eqb}
 use borrow.Author.Tests.{le-leb, leb-true, ltb-false, eqb-true, eq-eqb, ne-eqb}
-use Rattle.rules.proofs.Tests.{not-no}
+use Rattle.rules.proofs.Tests.{not-no, and-yes}
 use Rattle.rules.proofs.Verdicts.{chain-stop, chain-go, passes-both, not-refused, zero-of}
 use Rattle.rules.specs.declared.Verdict.{Verdict}
 use Rattle.rules.specs.declared.Figures.{Figures}
@@ -17,11 +17,11 @@ use Rattle.rules.specs.declared.BalanceFigures.{BalanceFigures}
 use Rattle.rules.specs.Lists.{lowest, someBelow, onto}
 use Rattle.rules.specs.Job.{Limits}
 use Rattle.rules.specs.Check.{done, refuseIf, refuseAt, _orElse_}
-use Rattle.rules.specs.Report.{refusal, figureLines, tells, report, ofSizes, splitVerdict, Printing, printed, printing, telling, reporting}
+use Rattle.rules.specs.Report.{refusal, figureLines, tells, report, ofFiles, splitVerdict, Printing, printed, printing, telling, reporting}
 use Rattle.rules.specs.Balance.{balanceLines, balanceReport, balanceReporting}
 use Rattle.rules.specs.Trace.{Listing, passLines, trace, holdsPass, tracing}
 use Rattle.report.specs.Laying.{Laid}
-use Rattle.report.specs.Steps.{lengthsVerdict, roomVerdict}
+use Rattle.report.specs.Steps.{lengthsVerdict, roomVerdict, EachFile}
 use Rattle.report.specs.Tracing.{passVerdict}
 use Rattle.report.proofs.Laying.{counts-text, laid-onto}
 
@@ -33,10 +33,10 @@ two-parts true same lent last = refl
 two-parts false true lent last = refl
 two-parts false false lent last = refl
 
-split-parts : (most : Limits) (sizes sides : List ℕ) (lent : Bool) → splitVerdict most sizes sides lent ≡ (lengthsVerdict (most .files) sizes sides orElse roomVerdict sides lent)
+split-parts : (most : Limits) (sizes sides marks : List ℕ) (lent : Bool) → splitVerdict most sizes marks sides lent ≡ (lengthsVerdict (most .files) sizes sides marks orElse roomVerdict sides lent)
 unfolding lengthsVerdict roomVerdict
-split-parts most sizes sides lent =
-    two-parts (ltb (most .files) (length sizes)) (eqb (length sides) (length sizes)) lent (refuseAt 6 (λ f. ltb 1 (getD sides f 0)) (length sides))
+split-parts most sizes sides marks lent =
+    two-parts (ltb (most .files) (length sizes)) (eqb (length sides) (length sizes) && eqb (length marks) (length sizes)) lent (refuseAt 6 (λ f. ltb 1 (getD sides f 0)) (length sides))
 
 -- what is lent is lists that hold the pass, and room
 held-part : (v last : Verdict) (held lent : Bool)
@@ -49,27 +49,32 @@ held-part v last held lent = go (eqb (v .number) 0) refl held
     go true e false = refl
     go false e held = rw e
 
-told-parts : (most : Limits) (sizes sides : List ℕ) (held lent : Bool)
-    → splitVerdict most sizes sides (held && lent) ≡ (passVerdict (most .files) sizes sides held orElse roomVerdict sides lent)
+told-parts : (most : Limits) (sizes sides marks : List ℕ) (held lent : Bool)
+    → splitVerdict most sizes marks sides (held && lent) ≡ (passVerdict (most .files) sizes sides marks held orElse roomVerdict sides lent)
 unfolding roomVerdict passVerdict
-told-parts most sizes sides held lent =
-    split-parts most sizes sides (held && lent)
-    ∙ held-part (lengthsVerdict (most .files) sizes sides) (refuseAt 6 (λ f. ltb 1 (getD sides f 0)) (length sides)) held lent
+told-parts most sizes sides marks held lent =
+    split-parts most sizes sides marks (held && lent)
+    ∙ held-part (lengthsVerdict (most .files) sizes sides marks) (refuseAt 6 (λ f. ltb 1 (getD sides f 0)) (length sides)) held lent
 
-pub lengths-tell : (most : ℕ) (sizes sides : List ℕ) {v : Verdict} → v ≡ lengthsVerdict most sizes sides → v .number ≡ 0 → (length sizes ≤ most) × (length sides ≡ length sizes)
+pub lengths-tell : (most : ℕ) (sizes sides marks : List ℕ) {v : Verdict} → v ≡ lengthsVerdict most sizes sides marks → v .number ≡ 0 → EachFile most sizes sides marks
 unfolding lengthsVerdict
-lengths-tell most sizes sides e z =
+lengths-tell most sizes sides marks e z =
     let over : Bool = ltb most (length sizes) in
-    let same : Bool = eqb (length sides) (length sizes) in
-    let both = passes-both (refuseIf over 2 0) (refuseIf (not same) 3 0) (zero-of e z) in
-    (ltb-false most (length sizes) (not-refused over 1 0 (both .0)), eqb-true (length sides) (length sizes) (not-no same (not-refused (not same) 2 0 (both .1))))
+    let each : Bool = eqb (length sides) (length sizes) && eqb (length marks) (length sizes) in
+    let both = passes-both (refuseIf over 2 0) (refuseIf (not each) 3 0) (zero-of e z) in
+    let same = and-yes _ _ (not-no each (not-refused (not each) 2 0 (both .1))) in
+    record {
+      few = ltb-false most (length sizes) (not-refused over 1 0 (both .0));
+      sided = eqb-true (length sides) (length sizes) (same .0);
+      marked = eqb-true (length marks) (length sizes) (same .1);
+    }
 
-pub pass-tells : (most : ℕ) (sizes sides : List ℕ) (held : Bool) {v : Verdict} → v ≡ passVerdict most sizes sides held → v .number ≡ 0
-    → ((length sizes ≤ most) × (length sides ≡ length sizes)) × (held ≡ true)
+pub pass-tells : (most : ℕ) (sizes sides marks : List ℕ) (held : Bool) {v : Verdict} → v ≡ passVerdict most sizes sides marks held → v .number ≡ 0
+    → EachFile most sizes sides marks × (held ≡ true)
 unfolding passVerdict
-pass-tells most sizes sides held e z =
-    let both = passes-both (lengthsVerdict most sizes sides) (refuseIf (not held) 3 0) (zero-of e z) in
-    (lengths-tell most sizes sides refl (both .0), not-no held (not-refused (not held) 2 0 (both .1)))
+pass-tells most sizes sides marks held e z =
+    let both = passes-both (lengthsVerdict most sizes sides marks) (refuseIf (not held) 3 0) (zero-of e z) in
+    (lengths-tell most sizes sides marks refl (both .0), not-no held (not-refused (not held) 2 0 (both .1)))
 
 pub room-tells : (a b : ℕ) → refuseIf (not (leb a b)) 3 0 .number ≡ 0 → a ≤ b
 room-tells a b h = leb-true a b (not-no (leb a b) (not-refused (not (leb a b)) 2 0 h))
@@ -96,21 +101,24 @@ module _ (m n : ℕ) (t room : List ℕ) (e : n ≡ length t) (h : n ≤ m) (lon
       at-six true p z = omega (arith, z)
       at-six false p z = omega (arith, z)
 
-pub lengths-enough : (most : ℕ) (sizes sides : List ℕ) {v : Verdict} → v ≡ lengthsVerdict most sizes sides → length sides ≡ length sizes → v .number ≢ 3
+pub lengths-enough : (most : ℕ) (sizes sides marks : List ℕ) {v : Verdict} → v ≡ lengthsVerdict most sizes sides marks
+    → length sides ≡ length sizes → length marks ≡ length sizes → v .number ≢ 3
 unfolding lengthsVerdict
-lengths-enough most sizes sides e h = rw (e, eq-eqb (length sides) (length sizes) h) (at-two (ltb most (length sizes)))
+lengths-enough most sizes sides marks e sided marked =
+    rw (e, eq-eqb (length sides) (length sizes) sided, eq-eqb (length marks) (length sizes) marked) (at-two (ltb most (length sizes)))
   where
     at-two : (b : Bool) → (refuseIf b 2 0 orElse done) .number ≢ 3
     at-two true z = omega (arith, z)
     at-two false z = omega (arith, z)
 
-pub pass-enough : (most : ℕ) (sizes sides : List ℕ) (held : Bool) {v : Verdict} → v ≡ passVerdict most sizes sides held → length sides ≡ length sizes → held ≡ true → v .number ≢ 3
+pub pass-enough : (most : ℕ) (sizes sides marks : List ℕ) (held : Bool) {v : Verdict} → v ≡ passVerdict most sizes sides marks held
+    → length sides ≡ length sizes → length marks ≡ length sizes → held ≡ true → v .number ≢ 3
 unfolding passVerdict
-pass-enough most sizes sides held e h k = rw (e, k) (go (eqb (lengthsVerdict most sizes sides .number) 0))
+pass-enough most sizes sides marks held e sided marked k = rw (e, k) (go (eqb (lengthsVerdict most sizes sides marks .number) 0))
   where
-    go : (b : Bool) → cond b done (lengthsVerdict most sizes sides) .number ≢ 3
+    go : (b : Bool) → cond b done (lengthsVerdict most sizes sides marks) .number ≢ 3
     go true z = omega (arith, z)
-    go false z = lengths-enough most sizes sides refl h z
+    go false z = lengths-enough most sizes sides marks refl sided marked z
 
 -- ---- the answer and the room
 
@@ -148,9 +156,9 @@ module _ {whole : Printing} {first : Verdict} {sides t room : List ℕ} (x : Tol
 
 -- ---- what is told of an answer: its lines, or its refusal
 
-module _ (most : Limits) (sizes sides : List ℕ) (v : Verdict) (lines room : List ℕ) (h : v .number ≡ 0) where
+module _ (most : Limits) (sizes sides marks : List ℕ) (v : Verdict) (lines room : List ℕ) (h : v .number ≡ 0) where
   -- where the answer is not refused
-  lines-told : (held : Bool) → telling most sizes sides v held (tells v lines) room ≡ printing (splitVerdict most sizes sides (held && leb (length lines) (length room))) lines room
+  lines-told : (held : Bool) → telling most sizes marks sides v held (tells v lines) room ≡ printing (splitVerdict most sizes marks sides (held && leb (length lines) (length room))) lines room
   lines-told held = ap answered (eq-eqb (v .number) 0 h)
     where
       text : Bool → List ℕ
@@ -159,28 +167,28 @@ module _ (most : Limits) (sizes sides : List ℕ) (v : Verdict) (lines room : Li
       answered : Bool → Printing
       answered b =
           let lent = leb (length (text b)) (length room) in
-          printing (cond b (splitVerdict most sizes sides (held && lent)) (refuseIf (not lent) 3 0)) (text b) room
+          printing (cond b (splitVerdict most sizes marks sides (held && lent)) (refuseIf (not lent) 3 0)) (text b) room
 
   -- its text has no other list than the split
-  split-lines : Told (telling most sizes sides v true (tells v lines) room) (lengthsVerdict (most .files) sizes sides) sides lines room
-  split-lines = record { is = lines-told true ∙ ap (λ (w : Verdict). printing w lines room) (split-parts most sizes sides (leb (length lines) (length room))) }
+  split-lines : Told (telling most sizes marks sides v true (tells v lines) room) (lengthsVerdict (most .files) sizes sides marks) sides lines room
+  split-lines = record { is = lines-told true ∙ ap (λ (w : Verdict). printing w lines room) (split-parts most sizes sides marks (leb (length lines) (length room))) }
 
-pub reporting-told : (most : Limits) (sizes : List ℕ) (r : RunFigures) (sides room : List ℕ) → r .figures .verdict .number ≡ 0
-    → Told (reporting most sizes r sides room) (lengthsVerdict (most .files) sizes sides) sides (figureLines (ofSizes sizes) r sides) room
+pub reporting-told : (most : Limits) (sizes marks : List ℕ) (r : RunFigures) (sides room : List ℕ) → r .figures .verdict .number ≡ 0
+    → Told (reporting most sizes marks r sides room) (lengthsVerdict (most .files) sizes sides marks) sides (figureLines (ofFiles sizes marks) r sides) room
 unfolding reporting report
-reporting-told most sizes r sides room h = split-lines most sizes sides (r .figures .verdict) (figureLines (ofSizes sizes) r sides) room h
+reporting-told most sizes marks r sides room h = split-lines most sizes sides marks (r .figures .verdict) (figureLines (ofFiles sizes marks) r sides) room h
 
-pub balance-told : (most : Limits) (sizes : List ℕ) (a : BalanceFigures) (sides room : List ℕ) → a .verdict .number ≡ 0
-    → Told (balanceReporting most sizes a sides room) (lengthsVerdict (most .files) sizes sides) sides (balanceLines (ofSizes sizes) a sides) room
+pub balance-told : (most : Limits) (sizes marks : List ℕ) (a : BalanceFigures) (sides room : List ℕ) → a .verdict .number ≡ 0
+    → Told (balanceReporting most sizes marks a sides room) (lengthsVerdict (most .files) sizes sides marks) sides (balanceLines (ofFiles sizes marks) a sides) room
 unfolding balanceReporting balanceReport
-balance-told most sizes a sides room h = split-lines most sizes sides (a .verdict) (balanceLines (ofSizes sizes) a sides) room h
+balance-told most sizes marks a sides room h = split-lines most sizes sides marks (a .verdict) (balanceLines (ofFiles sizes marks) a sides) room h
 
-pub tracing-told : (most : Limits) (sizes : List ℕ) (f : Figures) (sides : List ℕ) (l : Listing) (room : List ℕ) → f .verdict .number ≡ 0
-    → Told (tracing most sizes f sides l room) (passVerdict (most .files) sizes sides (holdsPass sizes f l)) sides (passLines (ofSizes sizes) f sides l) room
+pub tracing-told : (most : Limits) (sizes marks : List ℕ) (f : Figures) (sides : List ℕ) (l : Listing) (room : List ℕ) → f .verdict .number ≡ 0
+    → Told (tracing most sizes marks f sides l room) (passVerdict (most .files) sizes sides marks (holdsPass sizes f l)) sides (passLines (ofFiles sizes marks) f sides l) room
 unfolding tracing trace
-tracing-told most sizes f sides l room h =
-    let lines : List ℕ = passLines (ofSizes sizes) f sides l in
+tracing-told most sizes marks f sides l room h =
+    let lines : List ℕ = passLines (ofFiles sizes marks) f sides l in
     record {
-      is = lines-told most sizes sides (f .verdict) lines room h (holdsPass sizes f l)
-          ∙ ap (λ (v : Verdict). printing v lines room) (told-parts most sizes sides (holdsPass sizes f l) (leb (length lines) (length room)));
+      is = lines-told most sizes sides marks (f .verdict) lines room h (holdsPass sizes f l)
+          ∙ ap (λ (v : Verdict). printing v lines room) (told-parts most sizes sides marks (holdsPass sizes f l) (leb (length lines) (length room)));
     }

@@ -14,9 +14,8 @@ use mir.Facts.{toZ-ofZ}
 use borrow.Author.Tests.{le-leb, lt-leb, ltb-false, leb-true, eqb-true, not-true}
 use Rattle.rules.specs.declared.Figures.{Figures}
 use Rattle.rules.specs.Lists.{lowest, someBelow, upTo}
-use Rattle.rules.specs.Job.{Job}
 use Rattle.rules.specs.Split.{sizeOn}
-use Rattle.rules.specs.Report.{text, spaced, line, sizeLine, sidesLine}
+use Rattle.rules.specs.Report.{text, spaced, line, firstLines, sizeLine, sidesLine, ofFiles}
 use Rattle.rules.specs.Trace.{Listing, signed, scanLines, scansBefore, moveLines, movesLines, passLines, badEnd, holdsPass}
 use Rattle.rules.proofs.Tests.{or-no, and-yes}
 use Rattle.rules.proofs.Searches.{none-below, Passed, passed-none, passed-more, passed-some, passed-no}
@@ -24,6 +23,7 @@ use Rattle.report.specs.Bytes.{scanBytes, moveBytes}
 use Rattle.report.specs.Laying.{Laid, pieces, shown, filled}
 use Rattle.report.specs.Tracing.{scanLists, endsOf, moveLists, InOrder, MovesHeld, moveLine, gainsLine, tailLines}
 use Rattle.report.proofs.Forms.{joined}
+use Rattle.report.proofs.Lines.{sides-alone}
 use Rattle.report.proofs.Laying.{grows, Laying, laying-none, growing-more, growing-end, growing-stop, laid-as, laid-more}
 
 -- ---- texts that grow by a line for each scan or move
@@ -281,19 +281,19 @@ figures-form a b c d t k s v =
     (joined ns (text "cut 0 1\nsize 2 3\ntried 4\n") (text "kept 5\n")
     (joined ns (text "cut 0 1\nsize 2 3\n") (text "tried 4\n") (joined ns (text "cut 0 1\n") (text "size 2 3\n") cut size) tried) kept) scans) visits
 
-pub tail-form : (f : Figures) (b : ℕ) (gains : List ℤ) (sides : List ℕ)
+pub tail-form : (f : Figures) (b : ℕ) (gains : List ℤ) (sides marks : List ℕ)
     → gainsLine gains
     ++ filled (f .before ∷ f .cut ∷ f .size ∷ b ∷ f .tried ∷ f .kept ∷ f .scans ∷ f .visits ∷ []) (text "cut 0 1\nsize 2 3\ntried 4\nkept 5\nscans 6\nvisits 7\n")
-    ++ sidesLine sides
-    ≡ tailLines f b gains sides
+    ++ sidesLine (ofFiles [] marks) sides
+    ≡ tailLines f b gains sides marks
 unfolding tailLines
-tail-form f b gains sides = rw (figures-form (f .before) (f .cut) (f .size) b (f .tried) (f .kept) (f .scans) (f .visits)) (simp append-assoc)
+tail-form f b gains sides marks = rw (figures-form (f .before) (f .cut) (f .size) b (f .tried) (f .kept) (f .scans) (f .visits)) (simp append-assoc)
 
 -- the lines grouped as they are written
-pub pass-lines : (job : Job) (f : Figures) (sides : List ℕ) (l : Listing) (b : ℕ) → b ≡ sizeOn job 1 sides
-    → line "done" [] ++ movesLines (onlyMoves l) (f .tried) ++ tailLines f b (l .gains) sides ≡ passLines job f sides l
+pub pass-lines : (sizes marks : List ℕ) (f : Figures) (sides : List ℕ) (l : Listing) (b : ℕ) → b ≡ sizeOn (ofFiles sizes marks) 1 sides
+    → firstLines (f .unread) (f .holding) ++ movesLines (onlyMoves l) (f .tried) ++ tailLines f b (l .gains) sides marks ≡ passLines (ofFiles sizes marks) f sides l
 unfolding tailLines passLines gainsLine sizeLine
-pass-lines job f sides l b e = rw (e, moves-same l (f .tried)) (simp append-assoc)
+pass-lines sizes marks f sides l b e = rw (e, sides-alone sizes marks sides, moves-same l (f .tried)) (simp append-assoc)
 
 -- ---- how many scans
 

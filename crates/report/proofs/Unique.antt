@@ -10,11 +10,11 @@ use Rattle.report.proofs.balanced.Reads as balanced
 use Rattle.report.proofs.trace.Kinds as trace-kinds
 use Rattle.report.proofs.trace.Reads as trace
 
-pub report-settled : Settles 3 kinds.ps kinds.r Printing (λ κs x e. printed x (now (e .1 .1 .1 .0))) report.Post
+pub report-settled : Settles 4 kinds.ps kinds.r Printing (λ κs x e. printed x (now (e .1 .1 .1 .1 .0))) report.Post
 report-settled κs a x y e f p q = both (p .0) (q .0)
 
-pub balanced-settled : Settles 3 balanced-kinds.ps balanced-kinds.r Printing (λ κs x e. printed x (now (e .1 .1 .1 .0))) balanced.Post
+pub balanced-settled : Settles 4 balanced-kinds.ps balanced-kinds.r Printing (λ κs x e. printed x (now (e .1 .1 .1 .1 .0))) balanced.Post
 balanced-settled κs a x y e f p q = both (p .0) (q .0)
 
-pub trace-settled : Settles 10 trace-kinds.ps trace-kinds.r Printing (λ κs x e. printed x (now (e .1 .1 .1 .1 .1 .1 .1 .1 .1 .1 .0))) trace.Post
+pub trace-settled : Settles 11 trace-kinds.ps trace-kinds.r Printing (λ κs x e. printed x (now (e .1 .1 .1 .1 .1 .1 .1 .1 .1 .1 .1 .0))) trace.Post
 trace-settled κs a x y e f p q = both (p .0) (q .0)

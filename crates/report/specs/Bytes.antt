@@ -13,14 +13,18 @@ scanBytes = 47
 abbrev pub moveBytes : ℕ
 moveBytes = 69
 
+-- the first lines where some file could not be read: their words, two numbers and the ends of the lines
+abbrev pub firstBytes : ℕ
+firstBytes = 57
+
 -- the lines of the figures, words and all, with the end of the gains' line and of the sides'; a refusal is shorter
 abbrev pub figureBytes : ℕ
 figureBytes = 256
 
--- a report: the lines of the figures, and a letter for each file
+-- a report: the lines of the figures with the first, and a letter for each file
 abbrev pub reportBytes : ℕ → ℕ
 reportBytes files = figureBytes + files
 
--- a trace: the lines of the figures, for each file a move's line, a gain and a letter, and for each scan its line, all rounded up
+-- a trace: the first lines, the lines of the figures, for each file a move's line, a gain and a letter, and for each scan its line, all rounded up
 abbrev pub traceBytes : ℕ → ℕ → ℕ
 traceBytes files scans = 512 + 128 * files + 64 * scans

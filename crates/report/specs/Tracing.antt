@@ -10,15 +10,15 @@ use lib.IntN.{ℤ}
 use Rattle.rules.specs.declared.Verdict.{Verdict}
 use Rattle.rules.specs.declared.Figures.{Figures}
 use Rattle.rules.specs.Check.{refuseIf, _orElse_}
-use Rattle.rules.specs.Report.{text, spaced, line, sidesLine}
+use Rattle.rules.specs.Report.{text, spaced, line, sidesLine, ofFiles}
 use Rattle.rules.specs.Trace.{Listing, listingOf, signed, gainWords, badEnd, holdsPass}
 use Rattle.report.specs.Bytes.{traceBytes}
 use Rattle.report.specs.Steps.{lengthsVerdict}
 
 -- where the lists hold the pass, room of this length holds every text, so that it is never refused
-abbrev pub EnoughTold : Verdict → List ℕ → Figures → List ℕ → Listing → List ℕ → Type 0
-EnoughTold v sizes f sides l room =
-    length sides ≡ length sizes → holdsPass sizes f l ≡ true
+abbrev pub EnoughTold : Verdict → List ℕ → Figures → List ℕ → List ℕ → Listing → List ℕ → Type 0
+EnoughTold v sizes f sides marks l room =
+    length sides ≡ length sizes → length marks ≡ length sizes → holdsPass sizes f l ≡ true
     → traceBytes (length sizes) (length (l .recipes)) ≤ length room → v .number ≢ 3
 
 -- ---- the lists that a step reads, the others empty
@@ -48,8 +48,8 @@ pub record MovesHeld (n : ℕ) (l : Listing) : Type 0 where
 
 -- ---- the verdict before the text is counted
 
-unfoldable pub passVerdict : ℕ → List ℕ → List ℕ → Bool → Verdict
-passVerdict most sizes sides held = lengthsVerdict most sizes sides orElse refuseIf (not held) 3 0
+unfoldable pub passVerdict : ℕ → List ℕ → List ℕ → List ℕ → Bool → Verdict
+passVerdict most sizes sides marks held = lengthsVerdict most sizes sides marks orElse refuseIf (not held) 3 0
 
 -- ---- the lines of a pass, grouped as they are written
 
@@ -61,8 +61,8 @@ unfoldable pub gainsLine : List ℤ → List ℕ
 gainsLine gains = text "gains" ++ gainWords gains ++ (10 ∷ [])
 
 -- those after the moves; the size of B after is b
-unfoldable pub tailLines : Figures → ℕ → List ℤ → List ℕ → List ℕ
-tailLines f b gains sides =
+unfoldable pub tailLines : Figures → ℕ → List ℤ → List ℕ → List ℕ → List ℕ
+tailLines f b gains sides marks =
     gainsLine gains
     ++ line "cut" (f .before ∷ f .cut ∷ [])
     ++ line "size" (f .size ∷ b ∷ [])
@@ -70,4 +70,4 @@ tailLines f b gains sides =
     ++ line "kept" (f .kept ∷ [])
     ++ line "scans" (f .scans ∷ [])
     ++ line "visits" (f .visits ∷ [])
-    ++ sidesLine sides
+    ++ sidesLine (ofFiles [] marks) sides

@@ -52,46 +52,58 @@ fn print_refusal(told: Verdict, out: &mut [u8]) -> Printed
 
 // The report of a run's answer, refused or not, as bytes in the lent room; the answer and the room are those of the reporting, for every input.
 // The text is counted only once C is within its most, so that the count is small.
-pub fn report(answer: RunFigures, sizes: &[u16], sides: &[u16], out: &mut [u8]) -> Printed
-    ensures { λ r. do ⌜ printed r (now (out .exit)) ≡ reporting (limitsOf (← ⟦Job::MOST_FILES⟧ .entry) (← ⟦Job::MOST_RECIPES⟧ .entry) (← ⟦Job::MOST_PINS⟧ .entry) (← ⟦Job::MOST_DEN⟧ .entry)) (now (sizes .entry)) answer (now (sides .entry)) (now (out .entry)) ⌝ }
-    ensures { λ r. ⌜ Enough (reportBytes (length (now (sides .entry)))) (r .verdict) (now (sizes .entry)) (now (sides .entry)) (now (out .entry)) ⌝ }
+pub fn report(
+    answer: RunFigures,
+    sizes: &[u16],
+    sides: &[u16],
+    marks: &[u16],
+    out: &mut [u8],
+) -> Printed
+    ensures { λ r. do ⌜ printed r (now (out .exit)) ≡ reporting (limitsOf (← ⟦Job::MOST_FILES⟧ .entry) (← ⟦Job::MOST_RECIPES⟧ .entry) (← ⟦Job::MOST_PINS⟧ .entry) (← ⟦Job::MOST_DEN⟧ .entry)) (now (sizes .entry)) (now (marks .entry)) answer (now (sides .entry)) (now (out .entry)) ⌝ }
+    ensures { λ r. ⌜ Enough (reportBytes (length (now (sides .entry)))) (r .verdict) (now (sizes .entry)) (now (sides .entry)) (now (marks .entry)) (now (out .entry)) ⌝ }
 {
     if answer.figures.verdict.number != 0 {
         let told = answer.figures.verdict;
         return print_refusal(told, out);
     }
-    let mut verdict = lengths_verdict(sizes, sides);
+    let mut verdict = lengths_verdict(sizes, sides, marks);
     if verdict.number != 0 {
         return Printed { verdict, bytes: 0 };
     }
-    let bytes = put_figures(&mut [], answer, sizes, sides);
+    let bytes = put_figures(&mut [], answer, sizes, sides, marks);
     verdict = room_verdict(sides, bytes <= out.len());
     if verdict.number != 0 {
         return Printed { verdict, bytes: 0 };
     }
-    put_figures(out, answer, sizes, sides);
+    put_figures(out, answer, sizes, sides, marks);
     Printed { verdict, bytes }
 }
 
 // The same of a balancing's answer: its lines tell of no file's side.
-pub fn balanced(answer: BalanceFigures, sizes: &[u16], sides: &[u16], out: &mut [u8]) -> Printed
-    ensures { λ r. do ⌜ printed r (now (out .exit)) ≡ balanceReporting (limitsOf (← ⟦Job::MOST_FILES⟧ .entry) (← ⟦Job::MOST_RECIPES⟧ .entry) (← ⟦Job::MOST_PINS⟧ .entry) (← ⟦Job::MOST_DEN⟧ .entry)) (now (sizes .entry)) answer (now (sides .entry)) (now (out .entry)) ⌝ }
-    ensures { λ r. ⌜ Enough figureBytes (r .verdict) (now (sizes .entry)) (now (sides .entry)) (now (out .entry)) ⌝ }
+pub fn balanced(
+    answer: BalanceFigures,
+    sizes: &[u16],
+    sides: &[u16],
+    marks: &[u16],
+    out: &mut [u8],
+) -> Printed
+    ensures { λ r. do ⌜ printed r (now (out .exit)) ≡ balanceReporting (limitsOf (← ⟦Job::MOST_FILES⟧ .entry) (← ⟦Job::MOST_RECIPES⟧ .entry) (← ⟦Job::MOST_PINS⟧ .entry) (← ⟦Job::MOST_DEN⟧ .entry)) (now (sizes .entry)) (now (marks .entry)) answer (now (sides .entry)) (now (out .entry)) ⌝ }
+    ensures { λ r. ⌜ Enough figureBytes (r .verdict) (now (sizes .entry)) (now (sides .entry)) (now (marks .entry)) (now (out .entry)) ⌝ }
 {
     if answer.verdict.number != 0 {
         let told = answer.verdict;
         return print_refusal(told, out);
     }
-    let mut verdict = lengths_verdict(sizes, sides);
+    let mut verdict = lengths_verdict(sizes, sides, marks);
     if verdict.number != 0 {
         return Printed { verdict, bytes: 0 };
     }
-    let bytes = put_balance(&mut [], answer, sizes, sides);
+    let bytes = put_balance(&mut [], answer, sizes, sides, marks);
     verdict = room_verdict(sides, bytes <= out.len());
     if verdict.number != 0 {
         return Printed { verdict, bytes: 0 };
     }
-    put_balance(out, answer, sizes, sides);
+    put_balance(out, answer, sizes, sides, marks);
     Printed { verdict, bytes }
 }
 
@@ -101,6 +113,7 @@ pub fn trace(
     answer: Figures,
     sizes: &[u16],
     sides: &[u16],
+    marks: &[u16],
     gains: &[i32],
     tried: &[u16],
     gained: &[i32],
@@ -110,8 +123,8 @@ pub fn trace(
     kinds: &[u16],
     out: &mut [u8],
 ) -> Printed
-    ensures { λ r. do ⌜ printed r (now (out .exit)) ≡ tracing (limitsOf (← ⟦Job::MOST_FILES⟧ .entry) (← ⟦Job::MOST_RECIPES⟧ .entry) (← ⟦Job::MOST_PINS⟧ .entry) (← ⟦Job::MOST_DEN⟧ .entry)) (now (sizes .entry)) answer (now (sides .entry)) (listingOf (now (gains .entry)) (now (tried .entry)) (now (gained .entry)) (now (cuts .entry)) (now (ends .entry)) (now (recipes .entry)) (now (kinds .entry))) (now (out .entry)) ⌝ }
-    ensures { λ r. ⌜ EnoughTold (r .verdict) (now (sizes .entry)) answer (now (sides .entry)) (listingOf (now (gains .entry)) (now (tried .entry)) (now (gained .entry)) (now (cuts .entry)) (now (ends .entry)) (now (recipes .entry)) (now (kinds .entry))) (now (out .entry)) ⌝ }
+    ensures { λ r. do ⌜ printed r (now (out .exit)) ≡ tracing (limitsOf (← ⟦Job::MOST_FILES⟧ .entry) (← ⟦Job::MOST_RECIPES⟧ .entry) (← ⟦Job::MOST_PINS⟧ .entry) (← ⟦Job::MOST_DEN⟧ .entry)) (now (sizes .entry)) (now (marks .entry)) answer (now (sides .entry)) (listingOf (now (gains .entry)) (now (tried .entry)) (now (gained .entry)) (now (cuts .entry)) (now (ends .entry)) (now (recipes .entry)) (now (kinds .entry))) (now (out .entry)) ⌝ }
+    ensures { λ r. ⌜ EnoughTold (r .verdict) (now (sizes .entry)) answer (now (sides .entry)) (now (marks .entry)) (listingOf (now (gains .entry)) (now (tried .entry)) (now (gained .entry)) (now (cuts .entry)) (now (ends .entry)) (now (recipes .entry)) (now (kinds .entry))) (now (out .entry)) ⌝ }
 {
     if answer.verdict.number != 0 {
         let told = answer.verdict;
@@ -121,6 +134,7 @@ pub fn trace(
         answer,
         sizes,
         sides,
+        marks,
         gains,
         tried,
         gained,
@@ -137,6 +151,7 @@ pub fn trace(
         answer,
         sizes,
         sides,
+        marks,
         gains,
         tried,
         gained,
@@ -154,6 +169,7 @@ pub fn trace(
         answer,
         sizes,
         sides,
+        marks,
         gains,
         tried,
         gained,

@@ -1,10 +1,10 @@
 // A pass told: whether the lists hold it, and its lines.
+use crate::figures::put_first;
 use crate::moves::put_gains;
 use crate::moves::put_moves;
 use crate::split::put_sides;
 use crate::split::size_on;
 use crate::text::put_form;
-use crate::text::put_text;
 use crate::verdict::lengths_verdict;
 use job::Job;
 use job::refuse_if;
@@ -16,11 +16,12 @@ ghost use Prim.Native.Nat.{_+_, _*_, _≤_};
 ghost use lib.ListN.{length};
 ghost use lib.Dec.{leb, ltb, eqb};
 ghost use Rattle.rules.specs.Lists.{someBelow};
-ghost use Rattle.rules.specs.Report.{ofSizes};
+ghost use Rattle.rules.specs.Report.{ofFiles};
 ghost use Rattle.rules.specs.Trace.{listingOf, badEnd, holdsPass, passLines};
 ghost use Rattle.report.specs.Bytes.{gainBytes, figureBytes, traceBytes};
 ghost use Rattle.report.specs.Laying.{Ahead, Laid};
 ghost use Rattle.report.specs.Tracing.{endsOf, passVerdict, tailLines};
+ghost use Rattle.report.specs.Steps.{EachFile};
 
 // A gain for each file, and no more moves than files.
 fn holds_files(n: u64, sizes: &[u16], gains: &[i32]) -> bool
@@ -63,11 +64,12 @@ fn holds_scans(n: u64, ends: &[u16], recipes: &[u16], kinds: &[u16]) -> bool
     true
 }
 
-// 2, or 3 for sides that are not C long or lists that do not hold the pass.
+// 2, or 3 for sides or marks that are not C long or lists that do not hold the pass.
 pub(crate) fn pass_verdict(
     answer: Figures,
     sizes: &[u16],
     sides: &[u16],
+    marks: &[u16],
     gains: &[i32],
     tried: &[u16],
     gained: &[i32],
@@ -76,9 +78,9 @@ pub(crate) fn pass_verdict(
     recipes: &[u16],
     kinds: &[u16],
 ) -> Verdict
-    ensures { λ r. do ⌜ r ≡ passVerdict (← ⟦Job::MOST_FILES⟧ .entry) (now (sizes .entry)) (now (sides .entry)) (holdsPass (now (sizes .entry)) answer (listingOf (now (gains .entry)) (now (tried .entry)) (now (gained .entry)) (now (cuts .entry)) (now (ends .entry)) (now (recipes .entry)) (now (kinds .entry)))) ⌝ }
+    ensures { λ r. do ⌜ r ≡ passVerdict (← ⟦Job::MOST_FILES⟧ .entry) (now (sizes .entry)) (now (sides .entry)) (now (marks .entry)) (holdsPass (now (sizes .entry)) answer (listingOf (now (gains .entry)) (now (tried .entry)) (now (gained .entry)) (now (cuts .entry)) (now (ends .entry)) (now (recipes .entry)) (now (kinds .entry)))) ⌝ }
 {
-    let lengths = lengths_verdict(sizes, sides);
+    let lengths = lengths_verdict(sizes, sides, marks);
     if lengths.number != 0 {
         return lengths;
     }
@@ -90,9 +92,17 @@ pub(crate) fn pass_verdict(
 }
 
 // The lines after the moves, where the size of B is b.
-fn put_tail(out: &mut [u8], at: usize, f: Figures, b: u64, gains: &[i32], sides: &[u16]) -> usize
-    requires { ⌜ Ahead at (figureBytes + gainBytes * length (now gains) + length (now sides)) ⌝ }
-    ensures { λ r. ⌜ Laid at (tailLines f b (now (gains .entry)) (now (sides .entry))) (now (out .entry)) r (now (out .exit)) ⌝ }
+fn put_tail(
+    out: &mut [u8],
+    at: usize,
+    f: Figures,
+    b: u64,
+    gains: &[i32],
+    sides: &[u16],
+    marks: &[u16],
+) -> usize
+    requires { ⌜ (length (now marks) ≡ length (now sides)) × Ahead at (figureBytes + gainBytes * length (now gains) + length (now sides)) ⌝ }
+    ensures { λ r. ⌜ Laid at (tailLines f b (now (gains .entry)) (now (sides .entry)) (now (marks .entry))) (now (out .entry)) r (now (out .exit)) ⌝ }
     ensures { λ r. ⌜ r ≤ at + (figureBytes + gainBytes * length (now (gains .entry)) + length (now (sides .entry))) ⌝ }
 {
     let mut next = put_gains(out, at, gains);
@@ -111,7 +121,7 @@ fn put_tail(out: &mut [u8], at: usize, f: Figures, b: u64, gains: &[i32], sides:
             f.visits,
         ],
     );
-    put_sides(out, next, sides)
+    put_sides(out, next, sides, marks)
 }
 
 pub(crate) fn put_pass(
@@ -119,6 +129,7 @@ pub(crate) fn put_pass(
     f: Figures,
     sizes: &[u16],
     sides: &[u16],
+    marks: &[u16],
     gains: &[i32],
     tried: &[u16],
     gained: &[i32],
@@ -127,13 +138,13 @@ pub(crate) fn put_pass(
     recipes: &[u16],
     kinds: &[u16],
 ) -> usize
-    requires { do ⌜ (length (now sizes) ≤ (← ⟦Job::MOST_FILES⟧)) × (length (now sides) ≡ length (now sizes)) ⌝ }
+    requires { do ⌜ EachFile (← ⟦Job::MOST_FILES⟧) (now sizes) (now sides) (now marks) ⌝ }
     requires { ⌜ holdsPass (now sizes) f (listingOf (now gains) (now tried) (now gained) (now cuts) (now ends) (now recipes) (now kinds)) ≡ true ⌝ }
-    ensures { λ n. ⌜ Laid 0 (passLines (ofSizes (now (sizes .entry))) f (now (sides .entry)) (listingOf (now (gains .entry)) (now (tried .entry)) (now (gained .entry)) (now (cuts .entry)) (now (ends .entry)) (now (recipes .entry)) (now (kinds .entry)))) (now (out .entry)) n (now (out .exit)) ⌝ }
+    ensures { λ n. ⌜ Laid 0 (passLines (ofFiles (now (sizes .entry)) (now (marks .entry))) f (now (sides .entry)) (listingOf (now (gains .entry)) (now (tried .entry)) (now (gained .entry)) (now (cuts .entry)) (now (ends .entry)) (now (recipes .entry)) (now (kinds .entry)))) (now (out .entry)) n (now (out .exit)) ⌝ }
     ensures { λ n. ⌜ n ≤ traceBytes (length (now (sizes .entry))) (length (now (recipes .entry))) ⌝ }
 {
-    let b = size_on(sizes, sides, 1);
-    let mut next = put_text(out, 0, b"done\n");
+    let b = size_on(sizes, sides, marks, 1);
+    let mut next = put_first(out, f.unread, f.holding);
     next = put_moves(
         out,
         next,
@@ -145,5 +156,5 @@ pub(crate) fn put_pass(
         recipes,
         kinds,
     );
-    put_tail(out, next, f, b, gains, sides)
+    put_tail(out, next, f, b, gains, sides, marks)
 }

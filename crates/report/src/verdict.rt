@@ -6,15 +6,16 @@ use rules::Verdict;
 ghost use mathlib.Core.Path.{_≡_};
 ghost use Rattle.report.specs.Steps.{lengthsVerdict, roomVerdict};
 
-// 2, or 3 for sides that are not C long.
-pub(crate) fn lengths_verdict(sizes: &[u16], sides: &[u16]) -> Verdict
-    ensures { λ r. do ⌜ r ≡ lengthsVerdict (← ⟦Job::MOST_FILES⟧ .entry) (now (sizes .entry)) (now (sides .entry)) ⌝ }
+// 2, or 3 for sides or marks that are not C long.
+pub(crate) fn lengths_verdict(sizes: &[u16], sides: &[u16], marks: &[u16]) -> Verdict
+    ensures { λ r. do ⌜ r ≡ lengthsVerdict (← ⟦Job::MOST_FILES⟧ .entry) (now (sizes .entry)) (now (sides .entry)) (now (marks .entry)) ⌝ }
 {
     let over = refuse_if(Job::MOST_FILES < sizes.len(), 2, 0);
     if over.number != 0 {
         return over;
     }
-    refuse_if(!(sides.len() == sizes.len()), 3, 0)
+    let each = (sides.len() == sizes.len()) & (marks.len() == sizes.len());
+    refuse_if(!each, 3, 0)
 }
 
 // 3 for what is lent, then 6.

@@ -14,8 +14,8 @@ use lib.ListN.{length, getD}
 use lib.Signed.{ltZ}
 use borrow.Author.Tests.{not-true, leb-true, leb-false, eqb-true, eqb-false, eq-eqb}
 use Rattle.rules.specs.Lists.{bit}
-use Rattle.rules.specs.Job.{Job, fileCount, files, recipes}
-use Rattle.rules.specs.Split.{sideOf, onSide, gain, sizeOf, isFree, weight, smax, sizeOn, sizeA, largeEnough, smallEnough, balanced}
+use Rattle.rules.specs.Job.{isRead, Job, fileCount, files, recipes}
+use Rattle.rules.specs.Split.{sideOf, onSide, gain, sizeOf, isFree, weighs, weight, smax, sizeOn, sizeA, largeEnough, smallEnough, balanced}
 use Rattle.rules.specs.Move.{State, lockOf, free, moved, greater, firstBelow}
 use Rattle.rules.specs.Balance.{tooLarge, tooSmall, heavy, freeOn, greatestOn, balanceChoice, leastA, mostA, noneBalanced}
 use Rattle.rules.specs.Theorems.{Binary}
@@ -212,9 +212,9 @@ module _ (job : Job) (u : ℕ) where
       let m : Made job u st f = made st f t e in
       let a : ℕ = sizeA job (st .sides) in
       let b : ℕ = sizeA job (moved st f .sides) in
-      let z : ℕ = sizeOf job f in
+      let z : ℕ = weighs job f in
       let s : b + bit (eqb u 0) * z ≡ a + bit (eqb (1 - u) 0) * z = rw (← m .greatest .there) (size-moved job (m .moves) (m .greatest .below) 0) in
-      let small : z ≤ smax job = size-most f (m .greatest .below) (m .greatest .free) in
+      let small : z ≤ smax job = omega (arith, bit-most (isRead job f) (sizeOf job f), size-most f (m .greatest .below) (m .greatest .free)) in
       record {
         long = moved-long f (t .long);
         binary = stays-binary (m .moves);
@@ -304,7 +304,7 @@ module _ (job : Job) (sides : List ℕ) where
   unfolding leastA sizeOn files
   least-le w = total-below _ _ (fileCount job) (λ f h. go f (isFree job f) refl h)
     where
-      go : (f : ℕ) (b : Bool) → isFree job f ≡ b → f < fileCount job → bit (not b && onSide (job .sides) 0 f) * sizeOf job f ≤ bit (onSide sides 0 f) * sizeOf job f
+      go : (f : ℕ) (b : Bool) → isFree job f ≡ b → f < fileCount job → bit (not b && onSide (job .sides) 0 f) * weighs job f ≤ bit (onSide sides 0 f) * weighs job f
       go f true e h = omega arith
       go f false e h = rw (w .stays f h e) (omega arith)
 
@@ -312,8 +312,8 @@ module _ (job : Job) (sides : List ℕ) where
   unfolding mostA sizeOn files
   le-most w = total-below _ _ (fileCount job) (λ f h. go f (isFree job f) refl h)
     where
-      go : (f : ℕ) (b : Bool) → isFree job f ≡ b → f < fileCount job → bit (onSide sides 0 f) * sizeOf job f ≤ bit (b || onSide (job .sides) 0 f) * sizeOf job f
-      go f true e h = omega (arith, bit-most (onSide sides 0 f) (sizeOf job f))
+      go : (f : ℕ) (b : Bool) → isFree job f ≡ b → f < fileCount job → bit (onSide sides 0 f) * weighs job f ≤ bit (b || onSide (job .sides) 0 f) * weighs job f
+      go f true e h = omega (arith, bit-most (onSide sides 0 f) (weighs job f))
       go f false e h = rw (w .stays f h e) (omega arith)
 
   -- with no free file in A it is the least, with none in B the most
@@ -322,7 +322,7 @@ module _ (job : Job) (sides : List ℕ) where
   none-left w empty = total-below _ _ (fileCount job) (λ f h. go f (isFree job f) (onSide sides 0 f) refl refl h (empty f h))
     where
       go : (f : ℕ) (b c : Bool) → isFree job f ≡ b → onSide sides 0 f ≡ c → f < fileCount job → (b && c) ≡ false
-          → bit c * sizeOf job f ≤ bit (not b && onSide (job .sides) 0 f) * sizeOf job f
+          → bit c * weighs job f ≤ bit (not b && onSide (job .sides) 0 f) * weighs job f
       go f true true e q h n = clash n
       go f true false e q h n = omega arith
       go f false c e q h n = rw (← q, w .stays f h e) (omega arith)
@@ -332,7 +332,7 @@ module _ (job : Job) (sides : List ℕ) where
   all-there w empty = total-below _ _ (fileCount job) (λ f h. go f (isFree job f) refl h (empty f h))
     where
       go : (f : ℕ) (b : Bool) → isFree job f ≡ b → f < fileCount job → (b && onSide sides 1 f) ≡ false
-          → bit (b || onSide (job .sides) 0 f) * sizeOf job f ≤ bit (onSide sides 0 f) * sizeOf job f
+          → bit (b || onSide (job .sides) 0 f) * weighs job f ≤ bit (onSide sides 0 f) * weighs job f
       go f true e h n =
           let l = w .binary f h e in
           let m : sideOf sides f ≢ 1 = eqb-false (sideOf sides f) 1 n in

@@ -19,7 +19,7 @@ use Rattle.rules.specs.Split.{sideOf, cut, gain, isFree, weight, smax, s
 use Rattle.rules.specs.Check.{done, refuseIf, _orElse_, check2Of, check2, check7, check8, check9, check1to6, check7to9, check}
 use Rattle.rules.specs.Move.{stepsBy, State, start, moved, after, Frees, greater, movesBy}
 use Rattle.rules.specs.Stored.{jobOf, readVerdict}
-use Rattle.rules.specs.Report.{refusal, sizeLine, ofSizes, intoRoom, allRoom, allLent}
+use Rattle.rules.specs.Report.{refusal, sizeLine, ofFiles, intoRoom, allRoom, allLent}
 use Rattle.rules.specs.Refusals.{rows1to6}
 use Rattle.rules.specs.Writing.{headerFor, blocksOf, withSides, HandedOut, handsOut}
 use Rattle.rules.specs.Balance.{heavy, freeOn, greatestOn, balanceChoice, balanceMoves, balanceSides, noneBalanced, check1to8, balanceCheck, balanceVerdict, Balancing, balancingOf, balanceFigures, noBalanceFigures, balancing, balanceLines, balanceReport, balanceReporting, balances}
@@ -284,18 +284,18 @@ module _ (most : Limits) (job : Job) (scratch : List ℕ) where
 
 -- ---- what is told of a balancing: the sizes are all that the call knows of the job, and only the room can be too short
 
-pub balance-refusal : (most : Limits) (sizes : List ℕ) (a : BalanceFigures) (sides room : List ℕ) → a .verdict .number ≢ 0
-    → balanceReporting most sizes a sides room ≡ intoRoom (refusal (a .verdict)) room
+pub balance-refusal : (most : Limits) (sizes marks : List ℕ) (a : BalanceFigures) (sides room : List ℕ) → a .verdict .number ≢ 0
+    → balanceReporting most sizes marks a sides room ≡ intoRoom (refusal (a .verdict)) room
 unfolding balanceReporting balanceReport
-balance-refusal most sizes a sides room h = telling-refusal most sizes sides (a .verdict) true (balanceLines (ofSizes sizes) a sides) room h
+balance-refusal most sizes marks a sides room h = telling-refusal most sizes marks sides (a .verdict) true (balanceLines (ofFiles sizes marks) a sides) room h
 
 pub balance-told : (most : Limits) (job : Job) (scratch room : List ℕ) → balanceVerdict most job scratch .number ≡ 0
-    → let e = balancing most job scratch in balanceReporting most (job .sizes) (e .answer) (e .sides) room ≡ intoRoom (balanceLines job (e .answer) (e .sides)) room
+    → let e = balancing most job scratch in balanceReporting most (job .sizes) (job .marks) (e .answer) (e .sides) room ≡ intoRoom (balanceLines job (e .answer) (e .sides)) room
 unfolding balanceReporting balanceReport balanceFigures balanceLines sizeLine sizeOn files
 balance-told most job scratch room z =
     let s : Sound most job = through most job scratch z in
-    let bytes = balanceLines (ofSizes (job .sizes)) (balanceFigures job done) (balanceSides job) in
-    rw (made-equal most job scratch z) (telling-made most job (balanceSides job) done true bytes room refl (s .fewFiles) (balance-holds most job s .sides) refl)
+    let bytes = balanceLines (ofFiles (job .sizes) (job .marks)) (balanceFigures job done) (balanceSides job) in
+    rw (made-equal most job scratch z) (telling-made most job (balanceSides job) done true bytes room refl (s .fewFiles) (s .marksLong) (balance-holds most job s .sides) refl)
 
 -- ---- the program
 

@@ -48,7 +48,7 @@ module _ (most : Limits) (job : Job) where
     good-file : (f : ℕ) → f < fileCount job → badFile job f ≡ false
     good-file f h =
         let n : sizeOf job f ≢ 0 = λ e. omega (arith, s .sizes f h) in
-        rw (ne-eqb (sizeOf job f) 0 n, le-ltb 1 (getD (job .sides) f 0) (s .binary f), le-ltb 1 (getD (job .marks) f 0) (s .marks f)) refl
+        rw (ne-eqb (sizeOf job f) 0 n, le-ltb 1 (getD (job .sides) f 0) (s .binary f), le-ltb 2 (getD (job .marks) f 0) (s .marks f)) refl
 
     passes-four : check4to6 job ≡ done
     unfolding answerOf

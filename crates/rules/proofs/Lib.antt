@@ -19,6 +19,8 @@ pub mod First
 pub mod Choice
 pub mod MovesEnd
 pub mod Runs
+pub mod Readable
+pub mod NeverFree
 pub mod SoundJob
 pub mod Steps
 pub mod Refusals
@@ -38,4 +40,5 @@ pub mod Writes
 pub mod Resettling
 pub mod Balance
 pub mod Balancing
+pub mod Unread
 pub mod Worked

@@ -3,15 +3,15 @@ use mathlib.Core.Path.{_≡_, refl, ap, _∙_}
 use Prim.Native.Nat.{ℕ, _≤_}
 use mathlib.Core.List.{List}
 use borrow.Author.Tests.{le-ltb}
-use Rattle.rules.specs.Lists.{total, count, largest, upTo, lowest, bestUpTo, onto, padded, diff}
-use Rattle.rules.specs.Job.{Job, Limits, limitsOf, viewOf, files, views}
-use Rattle.rules.specs.Split.{countOn, isCut, cut, times, alone, together, gain, weight, smax, sizeOn, balanced}
+use Rattle.rules.specs.Lists.{total, count, those, largest, upTo, lowest, bestUpTo, onto, padded, diff}
+use Rattle.rules.specs.Job.{Job, Limits, limitsOf, viewOf, files, views, readIn, recipes}
+use Rattle.rules.specs.Split.{countOn, isCut, cut, times, alone, together, gain, unreadFiles, unreadRecipes, weight, smax, sizeOn, balanced}
 use Rattle.rules.specs.Check.{done, check1, check2, check3, check4, badPin, check5, check6, check7, check8, check9, check4to6, check7to9, check1to6, check, checkJob}
 use Rattle.rules.specs.Move.{moved, stepsBy, sizeAfter, legal, distAfter, challenge, firstBelow, choose, movesBy, moves, fileOn, kindsIn, kindsOf, scansFrom, scans, endsFrom, visits}
 use Rattle.rules.specs.Pass.{gainsWhen, cutsAfter, cutAt, keeps, standing, gainsAfter, passOf, leaves}
 use Rattle.rules.specs.Run.{passesBy, mostPasses, passes, lastOf, figuresOf, runFiguresOf}
 use Rattle.rules.specs.Stored.{weigh, blockCheck, headerOf, laidOut, blockVerdict, blocksVerdict, jobOf, layoutVerdict, readVerdict}
-use Rattle.rules.specs.Report.{text, digitsIn, spaced, line, refusal, sizeLine, sidesLine, figureLines, report, allRoom, prints}
+use Rattle.rules.specs.Report.{text, digitsIn, spaced, line, refusal, firstLines, sizeLine, sidesLine, figureLines, report, allRoom, prints}
 use Rattle.rules.specs.Writing.{valueBytes, contents}
 use Rattle.rules.specs.Trace.{signed, gainWords, scanLines, moveLines, movesLines, passLines, trace, traces}
 use Rattle.rules.specs.Marked.{chain, pair, archive, chainBytes, pairBytes, Marked}
@@ -39,7 +39,7 @@ module _ (most : Limits) (f : 4 ≤ most .files) (r : 3 ≤ most .recipes) (p : 
   chain-read = read-same most (limitsOf 4 3 6 2) chainBytes (rw (le-ltb (most .files) 4 f, le-ltb (most .recipes) 3 r, le-ltb (most .pins) 6 p) refl) refl
 
   chain-checked : 2 ≤ most .den → checkJob most chain ≡ done
-  unfolding total count largest upTo lowest bestUpTo diff viewOf files views countOn isCut cut times alone together gain weight smax sizeOn balanced check1 check2 check3 check4 badPin check5 check6 check7 check8 check9 check4to6 check7to9 check1to6 check
+  unfolding total count largest upTo lowest bestUpTo diff viewOf files views readIn recipes those countOn isCut cut times alone together gain weight smax sizeOn balanced check1 check2 check3 check4 badPin check5 check6 check7 check8 check9 check4to6 check7to9 check1to6 check
   chain-checked d = rw (le-ltb (most .files) 4 f, le-ltb (most .recipes) 3 r, le-ltb (most .pins) 6 p, le-ltb (most .den) 2 d) refl
 
 -- ---- the pair
@@ -54,17 +54,17 @@ module _ (most : Limits) (f : 2 ≤ most .files) (r : 1 ≤ most .recipes) (p : 
   pair-read = read-same most (limitsOf 2 1 2 2) pairBytes (rw (le-ltb (most .files) 2 f, le-ltb (most .recipes) 1 r, le-ltb (most .pins) 2 p) refl) refl
 
   pair-checked : 2 ≤ most .den → checkJob most pair ≡ done
-  unfolding total count largest upTo lowest bestUpTo diff viewOf files views countOn isCut cut times alone together gain weight smax sizeOn balanced check1 check2 check3 check4 badPin check5 check6 check7 check8 check9 check4to6 check7to9 check1to6 check
+  unfolding total count largest upTo lowest bestUpTo diff viewOf files views readIn recipes those countOn isCut cut times alone together gain weight smax sizeOn balanced check1 check2 check3 check4 badPin check5 check6 check7 check8 check9 check4to6 check7to9 check1to6 check
   pair-checked d = rw (le-ltb (most .files) 2 f, le-ltb (most .recipes) 1 r, le-ltb (most .pins) 2 p, le-ltb (most .den) 2 d) refl
 
 -- ---- the archive of order 2
 
 archive-checked : (most : Limits) → 4 ≤ most .files → 2 ≤ most .recipes → 4 ≤ most .pins → 2 ≤ most .den → checkJob most archive ≡ record { number = 9; place = 0 }
-unfolding total count largest upTo lowest viewOf files views weight smax sizeOn balanced check1 check2 check3 check4 badPin check5 check6 check7 check8 check9 check4to6 check7to9 check1to6 check
+unfolding total count largest upTo lowest viewOf files views readIn recipes those weight smax sizeOn balanced check1 check2 check3 check4 badPin check5 check6 check7 check8 check9 check4to6 check7to9 check1to6 check
 archive-checked m f r p d = rw (le-ltb (m .files) 4 f, le-ltb (m .recipes) 2 r, le-ltb (m .pins) 4 p, le-ltb (m .den) 2 d) refl
 
 pub marked : Marked
-unfolding total count largest upTo lowest bestUpTo diff viewOf files views countOn isCut cut times alone together gain weight smax sizeOn balanced moved stepsBy sizeAfter legal distAfter challenge firstBelow choose movesBy moves fileOn kindsIn kindsOf scansFrom scans endsFrom visits gainsWhen cutsAfter cutAt keeps standing gainsAfter passOf passesBy mostPasses passes lastOf figuresOf runFiguresOf weigh blockCheck headerOf laidOut blockVerdict blocksVerdict layoutVerdict readVerdict text digitsIn spaced line refusal sizeLine sidesLine figureLines report onto padded leaves signed gainWords scanLines moveLines movesLines passLines trace prints
+unfolding total count largest upTo lowest bestUpTo diff viewOf files views readIn recipes those countOn isCut cut times alone together gain unreadFiles unreadRecipes weight smax sizeOn balanced moved stepsBy sizeAfter legal distAfter challenge firstBelow choose movesBy moves fileOn kindsIn kindsOf scansFrom scans endsFrom visits gainsWhen cutsAfter cutAt keeps standing gainsAfter passOf passesBy mostPasses passes lastOf figuresOf runFiguresOf weigh blockCheck headerOf laidOut blockVerdict blocksVerdict layoutVerdict readVerdict text digitsIn spaced line refusal firstLines sizeLine sidesLine figureLines report onto padded leaves signed gainWords scanLines moveLines movesLines passLines trace prints
 marked = record {
   m1·check = chain-checked;
   m1·passes = refl;

@@ -3,8 +3,8 @@ use mathlib.Core.Path.{_≡_, refl, ap, _∙_}
 use Prim.Native.Nat.{ℕ}
 use mathlib.Core.Bool.{Bool, true}
 use mathlib.Core.List.{List}
-use Rattle.rules.specs.Job.{Job, Limits, files, views, recipes, Lent}
-use Rattle.rules.specs.Split.{weight, smax, sizeOn, sizeA, balanced}
+use Rattle.rules.specs.Job.{Job, Limits, files, views, readIn, recipes, Lent}
+use Rattle.rules.specs.Split.{unreadFiles, unreadRecipes, weight, smax, sizeOn, sizeA, balanced}
 use Rattle.rules.specs.Check.{done, check, checkJob}
 use Rattle.rules.specs.Move.{sizeAfter, legal, distAfter, choose, moves}
 use Rattle.rules.specs.Pass.{Pass, passOf, pass, leaves}
@@ -18,7 +18,7 @@ module _ (job : Job) (sides : List ℕ) where
   next = withSides job sides
 
   pub same-recipes : recipes next ≡ recipes job
-  unfolding views
+  unfolding views recipes readIn
   same-recipes = refl
 
   pub same-size : (u : ℕ) (x : List ℕ) → sizeOn next u x ≡ sizeOn job u x
@@ -30,7 +30,7 @@ module _ (job : Job) (sides : List ℕ) where
   same-balance a = refl
 
   pub same-pass : (x : List ℕ) → pass next x ≡ pass job x
-  unfolding passOf moves choose legal distAfter sizeAfter balanced weight smax sizeOn files views
+  unfolding passOf moves choose legal distAfter sizeAfter balanced weight smax sizeOn files views recipes readIn unreadFiles unreadRecipes
   same-pass x = refl
 
   pub same-leaves : (l : Lent) (p : Pass) → leaves next l p ≡ leaves job l p
@@ -59,7 +59,7 @@ module _ (job : Job) (sides : List ℕ) where
 
   -- from such sides, balanced, the same job passes its check again
   pub check-again : (most : Limits) (lent : Bool) → check most job lent .number ≡ 0 → Sides job sides → balanced job (sizeA job sides) ≡ true → checkJob most next ≡ done
-  unfolding views
+  unfolding views recipes readIn
   check-again most lent ok w b =
       let a : Accepted most job = accepted most job lent ok in
       check-holds most next true .acceptedPasses

@@ -14,7 +14,7 @@ use borrow.Author.Tests.{eqb-true, eqb-false, eq-eqb, ne-eqb}
 use Rattle.rules.specs.declared.Verdict.{Verdict}
 use Rattle.rules.specs.Lists.{count, upTo, lowest, someBelow}
 use Rattle.rules.specs.Job.{Job, Limits, fileCount, recipeCount, files, views, recipes, Lent, scratchFor, fits}
-use Rattle.rules.specs.Split.{sideOf, cut, sizeA, balanced}
+use Rattle.rules.specs.Split.{sideOf, cut, unreadFiles, unreadRecipes, sizeA, balanced}
 use Rattle.rules.specs.Check.{refuseIf, _orElse_, check1, check2, check3, check4, check5, badFile, check6, check7, check8, check9, check4to6, check1to6, check7to9, check, measure}
 use Rattle.rules.specs.Move.{stepsBy, State, start, free, moved, after, Frees, sizeAfter, legal, Scan, scans, endsFrom}
 use Rattle.rules.specs.Pass.{cutAt, keeps, gainsAfter, startGains, Pass, passOf, tries, pass, leaves}
@@ -27,7 +27,7 @@ use Rattle.rules.proofs.Entries.{beyond, listed-more, listed-holds}
 use Rattle.rules.proofs.GainKept.{frees-take, after-binary, keptUp, kept-length, kept-more, gain-kept-at, gains-kept, gains-pinned, gains-chosen, replay-within, replay-listed, told-more, cut-kept, start-fresh}
 use Rattle.rules.proofs.FourScans.{recipe-scans, all-scans, all-visits}
 use Rattle.rules.proofs.Sizes.{sizes-kept, gain-range}
-use Rattle.rules.proofs.SoundJob.{ok7, sound, recipes-distinct, recipes-length, views-total}
+use Rattle.rules.proofs.SoundJob.{ok7, sound, recipes-distinct, views-length, recipes-length, views-total}
 use Rattle.rules.proofs.Choice.{chosen-one}
 use Rattle.rules.proofs.MovesEnd.{StateLong, after-long, pass-free, pass-each, pass-end, locked-stays, frees-once, frees-few}
 use Rattle.rules.proofs.Fits.{long-enough}
@@ -89,7 +89,7 @@ module _ (most : Limits) (job : Job) (s : Sound most job) where
         sizes = λ k. sizes-kept job st (take k ms) (frees-take k l) (w .binary);
         four = recipe-scans rs dis st ms l (w .binary);
         scans = rw (← recipes-length most job s) (all-scans rs dis st ms l (w .binary));
-        visits = rw (← views-total most job s) (all-visits rs dis st ms l (w .binary) (views job) refl);
+        visits = rw (← views-total most job s) (all-visits rs dis st ms l (w .binary) (views job) (views-length most job s ∙ sym (recipes-length most job s)));
         once = λ f. frees-once f l;
         few = omega (arith, frees-few l, s .marksLong);
         prefix = keeps-le rs st ms;
@@ -316,5 +316,5 @@ answers most job l =
       passDone = λ e. rw (eq-eqb (v .number) 0 e, passEnds) (ap (λ (x : Verdict). leftBy job l (figuresOf x (pass job (job .sides)) (pass job (job .sides) ∷ [])) (pass job (job .sides))) (plain-check most job (fits job l) e));
       runDone = λ e. rw (eq-eqb (v .number) 0 e, runEnds) (ap (λ (x : Verdict). leftBy job l (runFiguresOf x (pass job (job .sides)) (run job)) (lastOf (pass job (job .sides)) (run job))) (plain-check most job (fits job l) e));
       measureRefused = λ n. rw (ne-eqb (u .number) 0 n, measure) refl;
-      measureDone = λ e. rw (eq-eqb (u .number) 0 e, measure) (ap (λ (x : Verdict). record { verdict = x; cut = cut (job .sides) (recipes job); size = sizeA job (job .sides) }) (plain-six most job true e));
+      measureDone = λ e. rw (eq-eqb (u .number) 0 e, measure) (ap (λ (x : Verdict). record { verdict = x; cut = cut (job .sides) (recipes job); size = sizeA job (job .sides); unread = unreadFiles job; holding = unreadRecipes job }) (plain-six most job true e));
     }

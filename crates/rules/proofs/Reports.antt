@@ -21,7 +21,7 @@ use Rattle.rules.specs.Split.{sizeOn}
 use Rattle.rules.specs.Check.{done, refuseIf, _orElse_, check}
 use Rattle.rules.specs.Pass.{Pass, tries, pass, leaves}
 use Rattle.rules.specs.Run.{noFigures, noRunFigures, run, lastOf, passEnds, runEnds, figuresOf, runFiguresOf}
-use Rattle.rules.specs.Report.{sizeLine, figureLines, tells, report, refusal, ofSizes, splitVerdict, printVerdict, Printing, printed, printing, intoRoom, telling, reporting}
+use Rattle.rules.specs.Report.{sizeLine, figureLines, tells, report, refusal, ofFiles, splitVerdict, printVerdict, Printing, printed, printing, intoRoom, telling, reporting, sidesLine}
 use Rattle.rules.specs.Trace.{Listing, listing, passLines, trace, badEnd, holdsPass, tracing}
 use Rattle.rules.specs.Theorems.{Binary, Sides, Sound}
 use Rattle.rules.proofs.Searches.{some-none}
@@ -77,34 +77,34 @@ into-whole bytes room room' a e z = go (leb (length bytes) (length room)) refl e
 tells-refused : (v : Verdict) (lines : List ℕ) → v .number ≢ 0 → tells v lines ≡ refusal v
 tells-refused v lines h = rw (ne-eqb (v .number) 0 h, tells) refl
 
-pub telling-refusal : (most : Limits) (sizes sides : List ℕ) (v : Verdict) (held : Bool) (lines room : List ℕ) → v .number ≢ 0
-    → telling most sizes sides v held (tells v lines) room ≡ intoRoom (refusal v) room
-telling-refusal most sizes sides v held lines room h = rw (ne-eqb (v .number) 0 h) (ap (λ (b : List ℕ). intoRoom b room) (tells-refused v lines h))
+pub telling-refusal : (most : Limits) (sizes marks sides : List ℕ) (v : Verdict) (held : Bool) (lines room : List ℕ) → v .number ≢ 0
+    → telling most sizes marks sides v held (tells v lines) room ≡ intoRoom (refusal v) room
+telling-refusal most sizes marks sides v held lines room h = rw (ne-eqb (v .number) 0 h) (ap (λ (b : List ℕ). intoRoom b room) (tells-refused v lines h))
 
 -- the split of what was made is sound, so that only the room can be too short
-split-told : (most : Limits) (sizes sides : List ℕ) (lent : Bool) → length sizes ≤ most .files → length sides ≡ length sizes → Binary sides
-    → splitVerdict most sizes sides lent ≡ refuseIf (not lent) 3 0
-split-told most sizes sides lent a b c =
+split-told : (most : Limits) (sizes marks sides : List ℕ) (lent : Bool) → length sizes ≤ most .files → length sides ≡ length sizes → length marks ≡ length sizes → Binary sides
+    → splitVerdict most sizes marks sides lent ≡ refuseIf (not lent) 3 0
+split-told most sizes marks sides lent a b m c =
     let few : ltb (most .files) (length sizes) ≡ false = le-ltb (most .files) (length sizes) a in
     let long : eqb (length sides) (length sizes) ≡ true = eq-eqb (length sides) (length sizes) b in
     let none : someBelow (λ f. ltb 1 (getD sides f 0)) (length sides) ≡ false = some-none (λ f. ltb 1 (getD sides f 0)) (length sides) (λ f h. le-ltb 1 (getD sides f 0) (c f)) in
-    rw (few, long, none) (last lent)
+    rw (few, long, eq-eqb (length marks) (length sizes) m, none) (last lent)
   where
     last : (lent : Bool) → (refuseIf (not (true && lent)) 3 0 orElse done) ≡ refuseIf (not lent) 3 0
     last true = refl
     last false = refl
 
-pub telling-made : (most : Limits) (job : Job) (sides : List ℕ) (v : Verdict) (held : Bool) (bytes room : List ℕ) → v ≡ done → fileCount job ≤ most .files → Sides job sides → held ≡ true
-    → telling most (job .sizes) sides v held bytes room ≡ intoRoom bytes room
-telling-made most job sides v held bytes room e few w h =
+pub telling-made : (most : Limits) (job : Job) (sides : List ℕ) (v : Verdict) (held : Bool) (bytes room : List ℕ) → v ≡ done → fileCount job ≤ most .files → length (job .marks) ≡ fileCount job → Sides job sides → held ≡ true
+    → telling most (job .sizes) (job .marks) sides v held bytes room ≡ intoRoom bytes room
+telling-made most job sides v held bytes room e few m w h =
     let short = leb (length bytes) (length room) in
     ap (λ (v : Verdict). printing v bytes room)
-    (ap₂ (λ (v : Verdict) (b : Bool). printVerdict most (job .sizes) sides v b short) e h ∙ split-told most (job .sizes) sides short few (w .long) (w .binary))
+    (ap₂ (λ (v : Verdict) (b : Bool). printVerdict most (job .sizes) (job .marks) sides v b short) e h ∙ split-told most (job .sizes) (job .marks) sides short few (w .long) m (w .binary))
 
 -- ---- the report of a run
 
-report-sizes : (job : Job) (r : RunFigures) (sides : List ℕ) → report (ofSizes (job .sizes)) r sides ≡ report job r sides
-unfolding report figureLines sizeLine sizeOn files
+report-sizes : (job : Job) (r : RunFigures) (sides : List ℕ) → report (ofFiles (job .sizes) (job .marks)) r sides ≡ report job r sides
+unfolding report figureLines sizeLine sizeOn sidesLine files
 report-sizes job r sides = refl
 
 report-refused : (job : Job) (r : RunFigures) (sides : List ℕ) → r .figures .verdict .number ≢ 0 → report job r sides ≡ refusal (r .figures .verdict)
@@ -112,16 +112,17 @@ unfolding report
 report-refused job r sides h = tells-refused (r .figures .verdict) (figureLines job r sides) h
 
 -- a refused run tells its number and place
-pub reporting-refusal : (most : Limits) (sizes : List ℕ) (r : RunFigures) (sides room : List ℕ) → r .figures .verdict .number ≢ 0
-    → reporting most sizes r sides room ≡ intoRoom (refusal (r .figures .verdict)) room
+pub reporting-refusal : (most : Limits) (sizes marks : List ℕ) (r : RunFigures) (sides room : List ℕ) → r .figures .verdict .number ≢ 0
+    → reporting most sizes marks r sides room ≡ intoRoom (refusal (r .figures .verdict)) room
 unfolding reporting report
-reporting-refusal most sizes r sides room h = telling-refusal most sizes sides (r .figures .verdict) true (figureLines (ofSizes sizes) r sides) room h
+reporting-refusal most sizes marks r sides room h = telling-refusal most sizes marks sides (r .figures .verdict) true (figureLines (ofFiles sizes marks) r sides) room h
 
-made-told : (most : Limits) (job : Job) (r : RunFigures) (sides room : List ℕ) → r .figures .verdict ≡ done → fileCount job ≤ most .files → Sides job sides
-    → reporting most (job .sizes) r sides room ≡ intoRoom (report job r sides) room
+made-told : (most : Limits) (job : Job) (r : RunFigures) (sides room : List ℕ) → r .figures .verdict ≡ done → fileCount job ≤ most .files → length (job .marks) ≡ fileCount job
+    → Sides job sides
+    → reporting most (job .sizes) (job .marks) r sides room ≡ intoRoom (report job r sides) room
 unfolding reporting
-made-told most job r sides room e few w =
-    telling-made most job sides (r .figures .verdict) true (report (ofSizes (job .sizes)) r sides) room e few w refl ∙ ap (λ (b : List ℕ). intoRoom b room) (report-sizes job r sides)
+made-told most job r sides room e few m w =
+    telling-made most job sides (r .figures .verdict) true (report (ofFiles (job .sizes) (job .marks)) r sides) room e few m w refl ∙ ap (λ (b : List ℕ). intoRoom b room) (report-sizes job r sides)
 
 pub last-sides : (most : Limits) (job : Job) → Sound most job → Sides job (lastOf (pass job (job .sides)) (run job) .sidesAfter)
 last-sides most job s =
@@ -132,15 +133,15 @@ last-sides most job s =
     rw (ap (lastOf first) (sym all) ∙ last-at first first (run job) k (omega (arith, holds .some))) (holds .sides first k (omega (arith, holds .some)))
 
 pub run-told : (most : Limits) (job : Job) (l : Lent) (room : List ℕ) →
-    let e = runEnds most job l in reporting most (job .sizes) (e .answer) (e .sides) room ≡ intoRoom (report job (e .answer) (e .sides)) room
+    let e = runEnds most job l in reporting most (job .sizes) (job .marks) (e .answer) (e .sides) room ≡ intoRoom (report job (e .answer) (e .sides)) room
 run-told most job l room = elim (ℕ-discrete (check most job (fits job l) .number) 0) [
   | yes z ↦
       let s : Sound most job = accepted most job (fits job l) z .sound in
-      rw (answers most job l .runDone z) (made-told most job (runFiguresOf done (pass job (job .sides)) (run job)) (lastOf (pass job (job .sides)) (run job) .sidesAfter) room (told job) (s .fewFiles) (last-sides most job s))
+      rw (answers most job l .runDone z) (made-told most job (runFiguresOf done (pass job (job .sides)) (run job)) (lastOf (pass job (job .sides)) (run job) .sidesAfter) room (told job) (s .fewFiles) (s .marksLong) (last-sides most job s))
   | no n ↦
       let none : RunFigures = noRunFigures (check most job (fits job l)) in
       rw (answers most job l .runRefused n)
-      (reporting-refusal most (job .sizes) none (job .sides) room n ∙ ap (λ (b : List ℕ). intoRoom b room) (sym (report-refused job none (job .sides) n)))
+      (reporting-refusal most (job .sizes) (job .marks) none (job .sides) room n ∙ ap (λ (b : List ℕ). intoRoom b room) (sym (report-refused job none (job .sides) n)))
 ]
   where
     told : (job : Job) → runFiguresOf done (pass job (job .sides)) (run job) .figures .verdict ≡ done
@@ -148,24 +149,24 @@ run-told most job l room = elim (ℕ-discrete (check most job (fits job l) .numb
 
 -- ---- the trace of a pass
 
-trace-sizes : (job : Job) (f : Figures) (sides : List ℕ) (l : Listing) → trace (ofSizes (job .sizes)) f sides l ≡ trace job f sides l
-unfolding trace passLines sizeLine sizeOn files
+trace-sizes : (job : Job) (f : Figures) (sides : List ℕ) (l : Listing) → trace (ofFiles (job .sizes) (job .marks)) f sides l ≡ trace job f sides l
+unfolding trace passLines sizeLine sizeOn sidesLine files
 trace-sizes job f sides l = refl
 
 trace-refused : (job : Job) (f : Figures) (sides : List ℕ) (l : Listing) → f .verdict .number ≢ 0 → trace job f sides l ≡ refusal (f .verdict)
 unfolding trace
 trace-refused job f sides l h = tells-refused (f .verdict) (passLines job f sides l) h
 
-pub tracing-refusal : (most : Limits) (sizes : List ℕ) (f : Figures) (sides : List ℕ) (l : Listing) (room : List ℕ) → f .verdict .number ≢ 0
-    → tracing most sizes f sides l room ≡ intoRoom (refusal (f .verdict)) room
+pub tracing-refusal : (most : Limits) (sizes marks : List ℕ) (f : Figures) (sides : List ℕ) (l : Listing) (room : List ℕ) → f .verdict .number ≢ 0
+    → tracing most sizes marks f sides l room ≡ intoRoom (refusal (f .verdict)) room
 unfolding tracing trace
-tracing-refusal most sizes f sides l room h = telling-refusal most sizes sides (f .verdict) (holdsPass sizes f l) (passLines (ofSizes sizes) f sides l) room h
+tracing-refusal most sizes marks f sides l room h = telling-refusal most sizes marks sides (f .verdict) (holdsPass sizes f l) (passLines (ofFiles sizes marks) f sides l) room h
 
-made-traced : (most : Limits) (job : Job) (f : Figures) (sides room : List ℕ) (l : Listing) → f .verdict ≡ done → fileCount job ≤ most .files → Sides job sides → holdsPass (job .sizes) f l ≡ true
-    → tracing most (job .sizes) f sides l room ≡ intoRoom (trace job f sides l) room
+made-traced : (most : Limits) (job : Job) (f : Figures) (sides room : List ℕ) (l : Listing) → f .verdict ≡ done → fileCount job ≤ most .files → length (job .marks) ≡ fileCount job → Sides job sides → holdsPass (job .sizes) f l ≡ true
+    → tracing most (job .sizes) (job .marks) f sides l room ≡ intoRoom (trace job f sides l) room
 unfolding tracing
-made-traced most job f sides room l e few w held =
-    telling-made most job sides (f .verdict) (holdsPass (job .sizes) f l) (trace (ofSizes (job .sizes)) f sides l) room e few w held
+made-traced most job f sides room l e few m w held =
+    telling-made most job sides (f .verdict) (holdsPass (job .sizes) f l) (trace (ofFiles (job .sizes) (job .marks)) f sides l) room e few m w held
     ∙ ap (λ (b : List ℕ). intoRoom b room) (trace-sizes job f sides l)
 
 pass-sides : (most : Limits) (job : Job) → Sound most job → Sides job (pass job (job .sides) .sidesAfter)
@@ -199,17 +200,17 @@ pass-long most job l = elim (ℕ-discrete (check most job (fits job l) .number) 
 
 -- what a pass leaves, told; and where it was made its lists hold it
 pub pass-traced : (most : Limits) (job : Job) (l : Lent) (room : List ℕ) →
-    let e = passEnds most job l in tracing most (job .sizes) (e .answer) (e .sides) (listing (e .lent)) room ≡ intoRoom (trace job (e .answer) (e .sides) (listing (e .lent))) room
+    let e = passEnds most job l in tracing most (job .sizes) (job .marks) (e .answer) (e .sides) (listing (e .lent)) room ≡ intoRoom (trace job (e .answer) (e .sides) (listing (e .lent))) room
 pass-traced most job l room = elim (ℕ-discrete (check most job (fits job l) .number) 0) [
   | yes z ↦
       let s : Sound most job = accepted most job (fits job l) z .sound in
       let p : Pass = pass job (job .sides) in
       rw (answers most job l .passDone z)
-      (made-traced most job (figuresOf done p (p ∷ [])) (p .sidesAfter) room (listing (leaves job l p)) (told p) (s .fewFiles) (pass-sides most job s) (pass-told most job s l (answers most job l .fitting z)))
+      (made-traced most job (figuresOf done p (p ∷ [])) (p .sidesAfter) room (listing (leaves job l p)) (told p) (s .fewFiles) (s .marksLong) (pass-sides most job s) (pass-told most job s l (answers most job l .fitting z)))
   | no n ↦
       let none : Figures = noFigures (check most job (fits job l)) in
       rw (answers most job l .passRefused n)
-      (tracing-refusal most (job .sizes) none (job .sides) (listing l) room n ∙ ap (λ (b : List ℕ). intoRoom b room) (sym (trace-refused job none (job .sides) (listing l) n)))
+      (tracing-refusal most (job .sizes) (job .marks) none (job .sides) (listing l) room n ∙ ap (λ (b : List ℕ). intoRoom b room) (sym (trace-refused job none (job .sides) (listing l) n)))
 ]
   where
     told : (p : Pass) → figuresOf done p (p ∷ []) .verdict ≡ done

@@ -226,7 +226,7 @@ module _ (most : Limits) (job : Job) (s : Sound most job) where
   -- ---- its blocks pass
 
   -- a file's second value is not over 3
-  seconds-small : (b f : ℕ) → kindOf (headerFor job) b ≡ 2 → 2 * f < length (jobValues job b) → getD (jobValues job b) (2 * f + 1) 0 ≤ 3
+  seconds-small : (b f : ℕ) → kindOf (headerFor job) b ≡ 2 → 2 * f < length (jobValues job b) → getD (jobValues job b) (2 * f + 1) 0 ≤ 5
   seconds-small b f k l =
       let h : Header = headerFor job in
       let n : length (jobValues job b) ≡ valuesIn h b = length-tabled (jobValue job b) (valuesIn h b) in

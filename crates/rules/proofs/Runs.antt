@@ -10,7 +10,7 @@ use lib.ListN.{length, getD, take}
 use lib.Seq.{take-suc}
 use borrow.Author.Tests.{eqb-true, eqb-false, eq-eqb, ne-eqb}
 use Rattle.rules.specs.Job.{Job, recipes}
-use Rattle.rules.specs.Split.{cut, sizeA}
+use Rattle.rules.specs.Split.{cut, unreadFiles, unreadRecipes, sizeA}
 use Rattle.rules.specs.Move.{stepsBy, State, start, after}
 use Rattle.rules.specs.Pass.{cutAt, keeps, Pass, passOf}
 use Rattle.rules.specs.Run.{settles, passesBy, mostPasses, lastOf}
@@ -47,6 +47,11 @@ module _ (job : Job) (try : List ℕ → List ℕ) where
   pub pass-from : (sides : List ℕ) → onePass sides .cutBefore ≡ cut sides (recipes job)
   unfolding passOf
   pass-from sides = refl
+
+  -- what could not be read is the job's
+  pub pass-unread : (sides : List ℕ) → (onePass sides .unread ≡ unreadFiles job) × (onePass sides .holding ≡ unreadRecipes job)
+  unfolding passOf
+  pass-unread sides = (refl, refl)
 
   pub pass-to : (sides : List ℕ) → cut (onePass sides .sidesAfter) (recipes job) ≡ onePass sides .cutAfter
   unfolding passOf

@@ -10,7 +10,7 @@ use lib.Signed.{ltZ}
 use lib.ListN.{length}
 use Rattle.rules.specs.Lists.{bit, total, count, upTo, diff}
 use Rattle.rules.specs.Job.{Job, fileCount, files}
-use Rattle.rules.specs.Split.{sideOf, onSide, countOn, holds, recipesWith, alone, together, gain, sizeOf, weight, sizeOn}
+use Rattle.rules.specs.Split.{sideOf, onSide, countOn, holds, recipesWith, alone, together, gain, weighs, weight, sizeOn}
 use Rattle.rules.specs.Move.{State, lockOf, after, Frees, sizeAfter}
 use Rattle.rules.specs.Theorems.{Binary}
 use Rattle.rules.proofs.Count.{and-le, total-le, total-move, times-below}
@@ -33,8 +33,8 @@ one-side (suc (suc s)) z h = absurd (omega arith)
 pub sizes-add : (job : Job) (sides : List ℕ) → Binary sides → sizeOn job 0 sides + sizeOn job 1 sides ≡ weight job
 unfolding sizeOn weight
 sizes-add job sides bin =
-    total-plus (λ f. bit (onSide sides 0 f) * sizeOf job f) (λ f. bit (onSide sides 1 f) * sizeOf job f) (sizeOf job)
-    (λ x. one-side (sideOf sides x) (sizeOf job x) (bin x)) (files job)
+    total-plus (λ f. bit (onSide sides 0 f) * weighs job f) (λ f. bit (onSide sides 1 f) * weighs job f) (weighs job)
+    (λ x. one-side (sideOf sides x) (weighs job x) (bin x)) (files job)
 
 -- after every move
 pub sizes-kept : (job : Job) (st : State) (fs : List ℕ) → Frees st fs → Binary (st .sides)
@@ -43,17 +43,17 @@ sizes-kept job st fs l bin = sizes-add job (after st fs .sides) (after-binary st
 
 -- what a move does to the size of side u
 pub size-moved : (job : Job) {st st' : State} {f : ℕ} → Moves st st' f → f < fileCount job → (u : ℕ)
-    → sizeOn job u (st' .sides) + bit (eqb (sideOf (st .sides) f) u) * sizeOf job f
-    ≡ sizeOn job u (st .sides) + bit (eqb (1 - sideOf (st .sides) f) u) * sizeOf job f
+    → sizeOn job u (st' .sides) + bit (eqb (sideOf (st .sides) f) u) * weighs job f
+    ≡ sizeOn job u (st .sides) + bit (eqb (1 - sideOf (st .sides) f) u) * weighs job f
 unfolding sizeOn files
 size-moved job {st} {st'} {f} m h u =
     rw (← m .side)
-    (total-move (λ x. bit (onSide (st' .sides) u x) * sizeOf job x) (λ x. bit (onSide (st .sides) u x) * sizeOf job x) f
-    (λ x n. ap (λ y. bit (eqb y u) * sizeOf job x) (m .sides x n)) (upTo (fileCount job)) (times-below f (fileCount job) h))
+    (total-move (λ x. bit (onSide (st' .sides) u x) * weighs job x) (λ x. bit (onSide (st .sides) u x) * weighs job x) f
+    (λ x n. ap (λ y. bit (eqb y u) * weighs job x) (m .sides x n)) (upTo (fileCount job)) (times-below f (fileCount job) h))
 
 -- |A| after the move of a free file, from |A| before it
 pub size-after : (job : Job) (st : State) (f : ℕ) → f < length (st .sides) → f < length (st .locks) → lockOf st f ≡ 0 → Binary (st .sides) → f < fileCount job
-    → sizeAfter job st f + bit (eqb (sideOf (st .sides) f) 0) * sizeOf job f ≡ sizeOn job 0 (st .sides) + bit (eqb (1 - sideOf (st .sides) f) 0) * sizeOf job f
+    → sizeAfter job st f + bit (eqb (sideOf (st .sides) f) 0) * weighs job f ≡ sizeOn job 0 (st .sides) + bit (eqb (1 - sideOf (st .sides) f) 0) * weighs job f
 unfolding sizeAfter
 size-after job st f a b e bin h = size-moved job (move-of st f a b e bin) h 0
 

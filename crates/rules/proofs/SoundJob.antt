@@ -8,22 +8,23 @@ use native.Mathlib.Decide.{decLt}
 use native.Mathlib.Numerals.{add-one}
 use native.Mathlib.Omega.{arith}
 use lib.Dec.{eqb, leb, ltb}
-use lib.ListN.{length, getD, take, drop, length-take, length-drop, List·getD-eq-default}
+use lib.ListN.{length, getD, take, drop, length-take, length-drop, length-map, List·getD-eq-default}
 use lib.Seq.{getD-take, getD-drop}
 use borrow.Author.Tests.{ltb-false, leb-false, eqb-true, eqb-false, lt-ltb, le-leb}
 use Rattle.rules.specs.Lists.{total, count, upTo, lowest, someBelow}
-use Rattle.rules.specs.Job.{Job, Limits, fileCount, recipeCount, pinCount, bound, pin, view, views, recipes}
+use Rattle.rules.specs.Job.{Job, Limits, fileCount, recipeCount, pinCount, bound, pin, view, views, readIn, recipes}
 use Rattle.rules.specs.Split.{sizeOf, times}
 use Rattle.rules.specs.Check.{refuseIf, refuseAt, _orElse_, short, repeatsIn, badPin, badFile, check1Of, check2Of, check1, check2, check3, check4, check5, check6, check7, check4to6, check1to6}
 use Rattle.rules.specs.Theorems.{Distinct, Sound}
-use Rattle.rules.proofs.Count.{total-map, total-upTo, getD-tabled, length-tabled, times-once}
+use Rattle.rules.proofs.Count.{total-map, total-upTo, getD-mapped, getD-tabled, length-tabled, times-once}
 use Rattle.rules.proofs.Tests.{or-no, and-yes, and-no, not-no}
 use Rattle.rules.proofs.Searches.{none-below}
 use Rattle.rules.proofs.Verdicts.{passes-both, not-refused}
 use Rattle.rules.proofs.Views.{bounds-rise, is-part}
+use Rattle.rules.proofs.Readable.{read-distinct}
 
-at-most-one : (l : List ℕ) (n : ℕ) → length l ≡ n → ((i : ℕ) → i < n → getD l i 0 ≤ 1) → (i : ℕ) → getD l i 0 ≤ 1
-at-most-one l n e h i = elim (decLt i n) [
+at-most : (m : ℕ) (l : List ℕ) (n : ℕ) → length l ≡ n → ((i : ℕ) → i < n → getD l i 0 ≤ m) → (i : ℕ) → getD l i 0 ≤ m
+at-most m l n e h i = elim (decLt i n) [
   | yes p ↦ h i p
   | no q ↦ omega (arith, List·getD-eq-default l 0 {n = i} (omega arith))
 ]
@@ -99,16 +100,16 @@ module _ (job : Job) where
       )
 
   ok6 : check6 job .number ≡ 0
-      → (f : ℕ) → f < fileCount job → (1 ≤ sizeOf job f) × (getD (job .sides) f 0 ≤ 1) × (getD (job .marks) f 0 ≤ 1)
+      → (f : ℕ) → f < fileCount job → (1 ≤ sizeOf job f) × (getD (job .sides) f 0 ≤ 1) × (getD (job .marks) f 0 ≤ 2)
   unfolding check6
   ok6 h f l =
       let a = eqb (sizeOf job f) 0 in
       let b = ltb 1 (getD (job .sides) f 0) in
-      let c = ltb 1 (getD (job .marks) f 0) in
+      let c = ltb 2 (getD (job .marks) f 0) in
       let r = or-no (a || b) c (none-below (badFile job) (fileCount job) (not-refused (someBelow (badFile job) (fileCount job)) 5 (lowest (badFile job) (fileCount job)) h) f l) in
       let q = or-no a b (r .0) in
       let z : sizeOf job f ≢ 0 = eqb-false (sizeOf job f) 0 (q .0) in
-      (omega arith, ltb-false 1 (getD (job .sides) f 0) (q .1), ltb-false 1 (getD (job .marks) f 0) (r .1))
+      (omega arith, ltb-false 1 (getD (job .sides) f 0) (q .1), ltb-false 2 (getD (job .marks) f 0) (r .1))
 
 -- 7, which no sound job need pass
 pub ok7 : (most : Limits) (job : Job) → check7 most job .number ≡ 0 → (1 ≤ job .num) × (job .num < job .den) × (job .den ≤ most .den)
@@ -149,8 +150,8 @@ sound most job lent ok =
       pinsBelow = r5 .0;
       apart = r5 .1;
       sizes = λ f h. r6 f h .0;
-      binary = at-most-one (job .sides) (fileCount job) (r3 .0) (λ i h. r6 i h .1);
-      marks = at-most-one (job .marks) (fileCount job) (r3 .1) (λ i h. r6 i h .2);
+      binary = at-most 1 (job .sides) (fileCount job) (r3 .0) (λ i h. r6 i h .1);
+      marks = at-most 2 (job .marks) (fileCount job) (r3 .1) (λ i h. r6 i h .2);
     }
 
 -- ---- what a sound job has
@@ -185,17 +186,30 @@ module _ (most : Limits) (job : Job) (s : Sound most job) where
       (sym (view-at j a h (omega arith)) ∙ sym e ∙ view-at j b h q))
       x
 
-  -- no recipe holds a file twice
-  pub recipes-distinct : Distinct (recipes job)
+  pub views-length : length (views job) ≡ recipeCount job
   unfolding views
-  recipes-distinct j x = elim (decLt j (recipeCount job)) [
+  views-length = length-tabled (view job) (recipeCount job)
+
+  pub recipes-length : length (recipes job) ≡ recipeCount job
+  unfolding recipes
+  recipes-length = length-map (views job) (readIn job) ∙ views-length
+
+  -- recipe j is the readable part of view j
+  pub recipe-at : (j : ℕ) → j < recipeCount job → getD (recipes job) j [] ≡ readIn job (view job j)
+  unfolding recipes views
+  recipe-at j h = getD-mapped (readIn job) (map (view job) (upTo (recipeCount job))) j [] [] (rw (length-tabled (view job) (recipeCount job)) h) ∙ ap (readIn job) (getD-tabled (view job) (recipeCount job) j [] h)
+
+  -- no recipe holds a file twice, whole or in its readable part
+  pub views-distinct : Distinct (views job)
+  unfolding views
+  views-distinct j x = elim (decLt j (recipeCount job)) [
     | yes p ↦ rw (getD-tabled (view job) (recipeCount job) j [] p) (view-distinct j x p)
     | no q ↦ rw (List·getD-eq-default (map (view job) (upTo (recipeCount job))) [] {n = j} (rw (length-tabled (view job) (recipeCount job)) (omega arith))) (unfold times count total in omega arith)
   ]
 
-  pub recipes-length : length (recipes job) ≡ recipeCount job
-  unfolding views
-  recipes-length = length-tabled (view job) (recipeCount job)
+  pub recipes-distinct : Distinct (recipes job)
+  unfolding recipes
+  recipes-distinct = read-distinct job (views job) views-distinct
 
   views-upTo : (n : ℕ) → n ≤ recipeCount job → total (λ j. length (view job j)) (upTo n) ≡ bound job n
   views-upTo zero h = unfold upTo total in sym (s .first)

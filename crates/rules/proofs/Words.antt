@@ -164,14 +164,14 @@ module _ (b kind : ℕ) (vs : List ℕ) (few : length vs ≤ 253) where
     unfolding blockOf
     block-below = below-append 256 (contents b kind vs) (twoBytes (blockCheck (contents b kind vs))) contents-below (two-below (blockCheck (contents b kind vs)) (unfold blockCheck in omega arith))
 
-  -- it is laid out, where a file's second value is not over 3
-  pub block-laid : (kind ≡ 2 → (f : ℕ) → 2 * f < length vs → getD vs (2 * f + 1) 0 ≤ 3) → laidOut (blockOf b kind vs) b kind (length vs) ≡ true
+  -- it is laid out, where a file's second value is not over 5
+  pub block-laid : (kind ≡ 2 → (f : ℕ) → 2 * f < length vs → getD vs (2 * f + 1) 0 ≤ 5) → laidOut (blockOf b kind vs) b kind (length vs) ≡ true
   unfolding laidOut
   block-laid thirds =
       let block : List ℕ = blockOf b kind vs in
       let n : ℕ = length vs in
       let left : ℕ → Bool = λ v. leb n v && not (eqb (valueIn block v) 0) in
-      let over : ℕ → Bool = λ f. ltb (2 * f) n && ltb 3 (valueIn block (2 * f + 1)) in
+      let over : ℕ → Bool = λ f. ltb (2 * f) n && ltb 5 (valueIn block (2 * f + 1)) in
       let unused : someBelow left 253 ≡ false = some-none left 253 (λ v h. elim (decLt v n) [
         | yes l ↦ ap (λ (t : Bool). t && not (eqb (valueIn block v) 0)) (lt-leb n v l)
         | no l ↦
@@ -182,9 +182,9 @@ module _ (b kind : ℕ) (vs : List ℕ) (few : length vs ≤ 253) where
         | yes k ↦
             ap (λ (t : Bool). eqb kind 2 && t) (some-none over 126 (λ f h. elim (decLt (2 * f) n) [
               | yes l ↦
-                  ap (λ (t : Bool). ltb (2 * f) n && t) (le-ltb 3 (valueIn block (2 * f + 1)) (omega (arith, block-value (2 * f + 1) (omega arith), thirds k f l)))
+                  ap (λ (t : Bool). ltb (2 * f) n && t) (le-ltb 5 (valueIn block (2 * f + 1)) (omega (arith, block-value (2 * f + 1) (omega arith), thirds k f l)))
                   ∙ and-false (ltb (2 * f) n)
-              | no l ↦ ap (λ (t : Bool). t && ltb 3 (valueIn block (2 * f + 1))) (le-ltb (2 * f) n (omega arith))
+              | no l ↦ ap (λ (t : Bool). t && ltb 5 (valueIn block (2 * f + 1))) (le-ltb (2 * f) n (omega arith))
             ]))
             ∙ and-false (eqb kind 2)
         | no k ↦ ap (λ (t : Bool). t && someBelow over 126) (ne-eqb kind 2 k)
@@ -249,7 +249,7 @@ pub record LaidOut (block : List ℕ) (b k n : ℕ) : Type 0 where
 pub laid-out : (block : List ℕ) (b kind n : ℕ) → laidOut block b kind n ≡ true → LaidOut block b kind n
 unfolding laidOut
 laid-out block b kind n e =
-    let t4 = and-yes _ (not (eqb kind 2 && someBelow (λ f. ltb (2 * f) n && ltb 3 (valueIn block (2 * f + 1))) 126)) e in
+    let t4 = and-yes _ (not (eqb kind 2 && someBelow (λ f. ltb (2 * f) n && ltb 5 (valueIn block (2 * f + 1))) 126)) e in
     let left : ℕ → Bool = λ v. leb n v && not (eqb (valueIn block v) 0) in
     let t3 = and-yes _ (not (someBelow left 253)) (t4 .0) in
     let t2 = and-yes _ (eqb (getD block 3 0) n) (t3 .0) in

@@ -10,11 +10,11 @@ use Rattle.rules.specs.declared.Verdict.{Verdict}
 use Rattle.rules.specs.declared.BalanceFigures.{BalanceFigures}
 use Rattle.rules.specs.Lists.{bit, total, listed}
 use Rattle.rules.specs.Job.{Job, Limits, fileCount, files, recipes, scratchFor}
-use Rattle.rules.specs.Split.{onSide, cut, gain, sizeOf, isFree, weight, smax, sizeA, largeEnough, smallEnough}
+use Rattle.rules.specs.Split.{onSide, cut, gain, isFree, weighs, unreadFiles, unreadRecipes, weight, smax, sizeA, largeEnough, smallEnough}
 use Rattle.rules.specs.Check.{isDone, refuseIf, _orElse_, check7, check8, check1to6}
 use Rattle.rules.specs.Move.{State, start, moved, after, greater, firstBelow, movesBy}
 use Rattle.rules.specs.Stored.{jobOf, readVerdict}
-use Rattle.rules.specs.Report.{line, sizeLine, tells, ofSizes, Printing, telling, allRoom, allLent}
+use Rattle.rules.specs.Report.{line, firstLines, sizeLine, tells, ofFiles, Printing, telling, allRoom, allLent}
 use Rattle.rules.specs.Writing.{withSides, HandedOut, handsOut}
 
 -- ---- the two halves of the balance test: a split is balanced if A is neither
@@ -56,11 +56,11 @@ balanceSides job = after (start job (job .sides)) (balanceMoves job) .sides
 
 -- the least that |A| can be: all free files in B
 unfoldable pub leastA : Job → ℕ
-leastA job = total (λ f. bit (not (isFree job f) && onSide (job .sides) 0 f) * sizeOf job f) (files job)
+leastA job = total (λ f. bit (not (isFree job f) && onSide (job .sides) 0 f) * weighs job f) (files job)
 
 -- the most that |A| can be: all free files in A
 unfoldable pub mostA : Job → ℕ
-mostA job = total (λ f. bit (isFree job f || onSide (job .sides) 0 f) * sizeOf job f) (files job)
+mostA job = total (λ f. bit (isFree job f || onSide (job .sides) 0 f) * weighs job f) (files job)
 
 -- no assignment of the free files is balanced: A is too large with the least, or too small with the most
 unfoldable pub noneBalanced : Job → Bool
@@ -94,11 +94,13 @@ balanceFigures job v = record {
   moves = length (balanceMoves job);
   cut = cut (balanceSides job) (recipes job);
   size = sizeA job (balanceSides job);
+  unread = unreadFiles job;
+  holding = unreadRecipes job;
 }
 
 -- all other numbers of a refused answer are 0
 abbrev pub noBalanceFigures : Verdict → BalanceFigures
-noBalanceFigures v = record { verdict = v; moves = 0; cut = 0; size = 0 }
+noBalanceFigures v = record { verdict = v; moves = 0; cut = 0; size = 0; unread = 0; holding = 0 }
 
 -- the sides are left as moved, the scratch numbers named are 0 and any beyond stay; refused, no list changes
 unfoldable pub balancing : Limits → Job → List ℕ → Balancing
@@ -114,7 +116,7 @@ balancing most job scratch =
 -- what it tells of them
 unfoldable pub balanceLines : Job → BalanceFigures → List ℕ → List ℕ
 balanceLines job a sides =
-    line "done" []
+    firstLines (a .unread) (a .holding)
     ++ line "moves" (a .moves ∷ [])
     ++ line "cut" (a .cut ∷ [])
     ++ sizeLine job (a .size) sides
@@ -123,8 +125,8 @@ balanceLines job a sides =
 unfoldable pub balanceReport : Job → BalanceFigures → List ℕ → List ℕ
 balanceReport job a sides = tells (a .verdict) (balanceLines job a sides)
 
-unfoldable pub balanceReporting : Limits → List ℕ → BalanceFigures → List ℕ → List ℕ → Printing
-balanceReporting most sizes a sides room = telling most sizes sides (a .verdict) true (balanceReport (ofSizes sizes) a sides) room
+unfoldable pub balanceReporting : Limits → List ℕ → List ℕ → BalanceFigures → List ℕ → List ℕ → Printing
+balanceReporting most sizes marks a sides room = telling most sizes marks sides (a .verdict) true (balanceReport (ofFiles sizes marks) a sides) room
 
 -- the balancing of a job, lent the program's own scratch
 abbrev pub allBalancing : Limits → Job → Balancing

@@ -157,7 +157,7 @@ chain6 sides = small sides (0 ∷ 2 ∷ 4 ∷ 6 ∷ 8 ∷ 10 ∷ []) (0 ∷ 1 �
 pub record Worked : Type 0 where
   -- all in B: file 0 has gain -1, as file 5, and the lower number; then file 1 has gain 0 and file 5 still -1. With 2 in A it stops
   pub fromB : balanceMoves (chain6 (1 ∷ 1 ∷ 1 ∷ 1 ∷ 1 ∷ 1 ∷ [])) ≡ 0 ∷ 1 ∷ []
-  pub told : balanceFigures (chain6 (1 ∷ 1 ∷ 1 ∷ 1 ∷ 1 ∷ 1 ∷ [])) done ≡ record { verdict = done; moves = 2; cut = 1; size = 2 }
+  pub told : balanceFigures (chain6 (1 ∷ 1 ∷ 1 ∷ 1 ∷ 1 ∷ 1 ∷ [])) done ≡ record { verdict = done; moves = 2; cut = 1; size = 2; unread = 0; holding = 0 }
   -- all but file 5 in A: file 4 has gain 0. With 4 in A it stops
   pub fromA : balanceMoves (chain6 (0 ∷ 0 ∷ 0 ∷ 0 ∷ 0 ∷ 1 ∷ [])) ≡ 4 ∷ []
   -- order 2's job: A may be 6 or 7 and starts at 10, with no free file there: no assignment is balanced

@@ -7,7 +7,7 @@ use Rattle.rules.specs.declared.Verdict.{Verdict}
 use Rattle.rules.specs.declared.Measure.{Measure}
 use Rattle.rules.specs.Lists.{count, lowest, someBelow}
 use Rattle.rules.specs.Job.{Job, Limits, fileCount, recipeCount, pinCount, bound, pin, files, recipes}
-use Rattle.rules.specs.Split.{sizeOf, isFree, sizeA, balanced, cut}
+use Rattle.rules.specs.Split.{sizeOf, isFree, unreadFiles, unreadRecipes, sizeA, balanced, cut}
 
 abbrev pub done : Verdict
 done = record { number = 0; place = 0 }
@@ -91,10 +91,10 @@ badPin job k = leb (fileCount job) (pin job k) || someBelow (repeatsIn job k) (r
 unfoldable pub check5 : Job → Verdict
 check5 job = refuseAt 5 (badPin job) (pinCount job)
 
--- ---- 6: size 0, side over 1 or mark over 1
+-- ---- 6: size 0, side over 1 or mark over 2
 
 abbrev pub badFile : Job → ℕ → Bool
-badFile job f = eqb (sizeOf job f) 0 || ltb 1 (getD (job .sides) f 0) || ltb 1 (getD (job .marks) f 0)
+badFile job f = eqb (sizeOf job f) 0 || ltb 1 (getD (job .sides) f 0) || ltb 2 (getD (job .marks) f 0)
 
 unfoldable pub check6 : Job → Verdict
 check6 job = refuseAt 6 (badFile job) (fileCount job)
@@ -141,12 +141,18 @@ check most job lent = check1to6 most job lent orElse check7to9 most job
 abbrev pub checkJob : Limits → Job → Verdict
 checkJob most job = check most job true
 
--- ---- the measure: 1 to 6, else the cut and |A|, nothing moved
+-- ---- the measure: 1 to 6, else the cut and |A| and what could not be read, nothing moved
 
 unfoldable pub measure : Limits → Job → Measure
 measure most job =
     let v = check1to6 most job true in
     elim (isDone v) [
-      | true ↦ record { verdict = v; cut = cut (job .sides) (recipes job); size = sizeA job (job .sides) }
-      | false ↦ record { verdict = v; cut = 0; size = 0 }
+      | true ↦ record {
+        verdict = v;
+        cut = cut (job .sides) (recipes job);
+        size = sizeA job (job .sides);
+        unread = unreadFiles job;
+        holding = unreadRecipes job;
+      }
+      | false ↦ record { verdict = v; cut = 0; size = 0; unread = 0; holding = 0 }
     ]

@@ -1,13 +1,13 @@
 -- Document 01, "A job": its numbers, its limits, the view of a recipe, and what a pass or run is lent. Assumes nothing.
 use Prim.Native.Nat.{ℕ, suc, _+_, _-_, _*_, _<_}
-use mathlib.Core.Bool.{Bool, cond, _&&_}
+use mathlib.Core.Bool.{Bool, not, cond, _&&_}
 use mathlib.Core.List.{List, [], map}
 use lib.ListN.{length, getD, take, drop}
 use lib.Dec.{leb, ltb, eqb}
 use lib.IntN.{ℤ}
-use Rattle.rules.specs.Lists.{upTo, allBelow}
+use Rattle.rules.specs.Lists.{those, upTo, allBelow}
 
--- a side is 0 (A) or 1 (B), a mark 0 (free) or 1 (pinned); the ratio is num/den for A; cap 0 is none
+-- a side is 0 (A) or 1 (B), a mark 0 (free), 1 (pinned) or 2 (unread: document 02, order 5); the ratio is num/den for A; cap 0 is none
 pub record Job : Type 0 where
   pub sizes : List ℕ
   pub sides : List ℕ
@@ -91,9 +91,21 @@ files job = upTo (fileCount job)
 unfoldable pub views : Job → List (List ℕ)
 views job = map (view job) (upTo (recipeCount job))
 
--- the recipes as cut, gains and scans see them: today each whole
-abbrev pub recipes : Job → List (List ℕ)
-recipes job = views job
+-- a file that could be read: its mark is not 2
+abbrev pub isRead : Job → ℕ → Bool
+isRead job f = not (eqb (getD (job .marks) f 0) 2)
+
+-- two files make a recipe
+abbrev pub enough : List ℕ → Bool
+enough r = leb 2 (length r)
+
+-- the readable files of a recipe; none where they are fewer than two
+unfoldable pub readIn : Job → List ℕ → List ℕ
+readIn job r = let s = those (isRead job) r in cond (enough s) s []
+
+-- the recipes as cut, gains and scans see them, still in place j (order 5)
+unfoldable pub recipes : Job → List (List ℕ)
+recipes job = map (readIn job) (views job)
 
 -- ---- what a pass or run is lent besides the job
 

@@ -11,6 +11,7 @@ pub mod Report
 pub mod Trace
 pub mod Writing
 pub mod Balance
+pub mod Unread
 pub mod Marked
 pub mod Theorems
 pub mod RoundTrip

@@ -19,6 +19,11 @@ total w (x ∷ xs) = w x + total w xs
 unfoldable pub count {ℓ} : {A : Type ℓ} → (A → Bool) → List A → ℕ
 count p xs = total (λ x. bit (p x)) xs
 
+-- the entries that pass the test, in their order
+unfoldable pub those {ℓ} : {A : Type ℓ} → (A → Bool) → List A → List A
+those p [] = []
+those p (x ∷ xs) = cond (p x) (x ∷ those p xs) (those p xs)
+
 -- the largest number of an entry
 unfoldable pub largest {ℓ} : {A : Type ℓ} → (A → ℕ) → List A → ℕ
 largest w [] = 0

@@ -7,7 +7,7 @@ use lib.Dec.{eqb}
 use lib.IntN.{ℤ, pos}
 use Rattle.rules.specs.Lists.{upTo, bestUpTo, listed}
 use Rattle.rules.specs.Job.{Job, fileCount, recipeCount, views, recipes, Lent, scratchFor}
-use Rattle.rules.specs.Split.{cut, gain, sizeA}
+use Rattle.rules.specs.Split.{cut, gain, unreadFiles, unreadRecipes, sizeA}
 use Rattle.rules.specs.Move.{State, start, free, moved, after, moves, Scan, scans, endsFrom, visits}
 
 -- ---- the move lists
@@ -63,6 +63,9 @@ pub record Pass : Type 0 where
   pub cutAfter : ℕ
   pub sidesAfter : List ℕ
   pub sizeAfter : ℕ
+  -- files that could not be read, and recipes that hold one (document 02, order 5)
+  pub unread : ℕ
+  pub holding : ℕ
 
 -- the pass that tries these moves
 unfoldable pub passOf : Job → List ℕ → List ℕ → Pass
@@ -85,6 +88,8 @@ passOf job sides ms =
       cutAfter = cut last rs;
       sidesAfter = last;
       sizeAfter = sizeA job last;
+      unread = unreadFiles job;
+      holding = unreadRecipes job;
     }
 
 -- the moves of document 01 from these sides, and the pass that tries them

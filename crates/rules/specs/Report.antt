@@ -10,9 +10,9 @@ use lib.IntN.{ℤ, pos}
 use Rattle.rules.specs.declared.Verdict.{Verdict}
 use Rattle.rules.specs.declared.RunFigures.{RunFigures}
 use Rattle.rules.specs.declared.Printed.{Printed}
-use Rattle.rules.specs.Lists.{onto}
-use Rattle.rules.specs.Job.{Job, asJob, Limits, fileCount, Lent, scratchNumbers}
-use Rattle.rules.specs.Split.{sizeOn}
+use Rattle.rules.specs.Lists.{upTo, onto}
+use Rattle.rules.specs.Job.{Job, asJob, isRead, Limits, fileCount, Lent, scratchNumbers}
+use Rattle.rules.specs.Split.{sideOf, sizeOn}
 use Rattle.rules.specs.Check.{isDone, refuseIf, refuseAt, _orElse_}
 use Rattle.rules.specs.Run.{Ended, runEnds}
 use Rattle.rules.specs.Stored.{Room, jobOf, readVerdict}
@@ -50,21 +50,29 @@ sizeLine job a sides = line "size" (a ∷ sizeOn job 1 sides ∷ [])
 abbrev pub letter : ℕ → ℕ
 letter side = cond (eqb side 0) 65 66
 
+-- the first lines: `done`, or `partial` and how many files could not be read and how many recipes hold one (document 02, order 5)
+unfoldable pub firstLines : ℕ → ℕ → List ℕ
+firstLines files recipes = cond (eqb files 0) (line "done" []) (line "partial" [] ++ line "unread" (files ∷ recipes ∷ []))
+
+-- file f's letter; of one that could not be read it is `?`
+abbrev pub letterOf : Job → List ℕ → ℕ → ℕ
+letterOf job sides f = cond (isRead job f) (letter (sideOf sides f)) 63
+
 -- one letter for each file
-unfoldable pub sidesLine : List ℕ → List ℕ
-sidesLine sides = text "sides " ++ map letter sides ++ (10 ∷ [])
+unfoldable pub sidesLine : Job → List ℕ → List ℕ
+sidesLine job sides = text "sides " ++ map (letterOf job sides) (upTo (length sides)) ++ (10 ∷ [])
 
 -- cut before and after, then the sizes of A and B after, the other figures as sums over the run, and one letter for each file
 unfoldable pub figureLines : Job → RunFigures → List ℕ → List ℕ
 figureLines job r sides =
-    line "done" []
+    firstLines (r .figures .unread) (r .figures .holding)
     ++ line "cut" (r .figures .before ∷ r .figures .cut ∷ [])
     ++ sizeLine job (r .figures .size) sides
     ++ line "passes" (r .passes ∷ [])
     ++ line (cond (r .settled) "settled yes" "settled no") []
     ++ line "kept" (r .figures .kept ∷ [])
     ++ line "visits" (r .figures .visits ∷ [])
-    ++ sidesLine sides
+    ++ sidesLine job sides
 
 -- what is told of an answer with this verdict: its lines, or its refusal
 abbrev pub tells : Verdict → List ℕ → List ℕ
@@ -74,22 +82,22 @@ tells v lines = elim (isDone v) [ true ↦ lines | false ↦ refusal v ]
 unfoldable pub report : Job → RunFigures → List ℕ → List ℕ
 report job r sides = tells (r .figures .verdict) (figureLines job r sides)
 
--- ---- the call that makes a report's bytes: it knows no more of the job than its sizes, and is lent room for the bytes
+-- ---- the call that makes a report's bytes: it knows no more of the job than its sizes and marks, and is lent room for the bytes
 
-abbrev pub ofSizes : List ℕ → Job
-ofSizes sizes = asJob sizes [] [] [] [] 0 0 0
+abbrev pub ofFiles : List ℕ → List ℕ → Job
+ofFiles sizes marks = asJob sizes [] marks [] [] 0 0 0
 
--- the numbers are a job's: C over its most; sides not C long, or the lent room too short for the text; a side over 1
-abbrev pub splitVerdict : Limits → List ℕ → List ℕ → Bool → Verdict
-splitVerdict most sizes sides lent =
+-- the numbers are a job's: C over its most; sides or marks not C long, or the lent room too short for the text; a side over 1
+abbrev pub splitVerdict : Limits → List ℕ → List ℕ → List ℕ → Bool → Verdict
+splitVerdict most sizes marks sides lent =
     refuseIf (ltb (most .files) (length sizes)) 2 0
-    orElse refuseIf (not (eqb (length sides) (length sizes) && lent)) 3 0
+    orElse refuseIf (not (eqb (length sides) (length sizes) && eqb (length marks) (length sizes) && lent)) 3 0
     orElse refuseAt 6 (λ f. ltb 1 (getD sides f 0)) (length sides)
 
 -- `held` says that the other lists hold what is told; the text of a refusal needs room alone, since it tells of no split
-abbrev pub printVerdict : Limits → List ℕ → List ℕ → Verdict → Bool → Bool → Verdict
-printVerdict most sizes sides answered held roomy =
-    cond (isDone answered) (splitVerdict most sizes sides (held && roomy)) (refuseIf (not roomy) 3 0)
+abbrev pub printVerdict : Limits → List ℕ → List ℕ → List ℕ → Verdict → Bool → Bool → Verdict
+printVerdict most sizes marks sides answered held roomy =
+    cond (isDone answered) (splitVerdict most sizes marks sides (held && roomy)) (refuseIf (not roomy) 3 0)
 
 -- how many bytes there are, and what the room then holds
 pub record Printing : Type 0 where
@@ -111,11 +119,11 @@ abbrev pub intoRoom : List ℕ → List ℕ → Printing
 intoRoom bytes room = printing (refuseIf (not (leb (length bytes) (length room))) 3 0) bytes room
 
 -- the bytes that tell of an answer and its split
-abbrev pub telling : Limits → List ℕ → List ℕ → Verdict → Bool → List ℕ → List ℕ → Printing
-telling most sizes sides answered held bytes room = printing (printVerdict most sizes sides answered held (leb (length bytes) (length room))) bytes room
+abbrev pub telling : Limits → List ℕ → List ℕ → List ℕ → Verdict → Bool → List ℕ → List ℕ → Printing
+telling most sizes marks sides answered held bytes room = printing (printVerdict most sizes marks sides answered held (leb (length bytes) (length room))) bytes room
 
-unfoldable pub reporting : Limits → List ℕ → RunFigures → List ℕ → List ℕ → Printing
-reporting most sizes r sides room = telling most sizes sides (r .figures .verdict) true (report (ofSizes sizes) r sides) room
+unfoldable pub reporting : Limits → List ℕ → List ℕ → RunFigures → List ℕ → List ℕ → Printing
+reporting most sizes marks r sides room = telling most sizes marks sides (r .figures .verdict) true (report (ofFiles sizes marks) r sides) room
 
 -- ---- the program: it reads a stored job from standard input and runs it
 

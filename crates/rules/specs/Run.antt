@@ -44,7 +44,7 @@ lastOf first (p ∷ ps) = lastOf p ps
 
 -- ---- the answers
 
--- counts are sums over the passes; the cut before is the first pass's; the cut and |A| after are the last pass's
+-- counts are sums over the passes, but for what could not be read; the cut before is the first pass's; the cut and |A| after are the last pass's
 unfoldable pub figuresOf : Verdict → Pass → List Pass → Figures
 figuresOf v first ps =
     let l = lastOf first ps in
@@ -57,6 +57,8 @@ figuresOf v first ps =
       kept = total (λ p. p .kept) ps;
       scans = total (λ p. length (p .scanned)) ps;
       visits = total (λ p. p .visited) ps;
+      unread = first .unread;
+      holding = first .holding;
     }
 
 -- the number of passes; settled is yes exactly if the last pass left the cut equal
@@ -74,6 +76,8 @@ noFigures v = record {
   kept = 0;
   scans = 0;
   visits = 0;
+  unread = 0;
+  holding = 0;
 }
 
 abbrev pub noRunFigures : Verdict → RunFigures

@@ -1,12 +1,12 @@
 -- Document 01, "Gain, cut, balance". `rs` is a list of recipes, each a list of files. Assumes nothing.
 use Prim.Native.Nat.{ℕ, suc, _+_, _-_, _*_}
-use mathlib.Core.Bool.{Bool, cond, _&&_}
+use mathlib.Core.Bool.{Bool, not, cond, _&&_}
 use mathlib.Core.List.{List, [], _∷_}
 use lib.ListN.{getD}
 use lib.Dec.{leb, ltb, eqb}
 use lib.IntN.{ℤ}
 use Rattle.rules.specs.Lists.{bit, total, count, largest, diff}
-use Rattle.rules.specs.Job.{Job, files}
+use Rattle.rules.specs.Job.{Job, isRead, files, views}
 
 -- vault A is 0, vault B is 1
 abbrev pub other : ℕ → ℕ
@@ -70,9 +70,20 @@ sizeOf job f = getD (job .sizes) f 0
 abbrev pub isFree : Job → ℕ → Bool
 isFree job f = eqb (getD (job .marks) f 0) 0
 
--- W, the sum of all sizes
+-- what a file weighs: its size, and nothing where it could not be read (document 02, order 5)
+abbrev pub weighs : Job → ℕ → ℕ
+weighs job f = bit (isRead job f) * sizeOf job f
+
+-- how many files could not be read, and how many recipes hold such a file
+unfoldable pub unreadFiles : Job → ℕ
+unreadFiles job = count (λ f. not (isRead job f)) (files job)
+
+unfoldable pub unreadRecipes : Job → ℕ
+unreadRecipes job = count (λ r. ltb 0 (count (λ f. not (isRead job f)) r)) (views job)
+
+-- W, what all files weigh
 unfoldable pub weight : Job → ℕ
-weight job = total (sizeOf job) (files job)
+weight job = total (weighs job) (files job)
 
 -- the largest size among the files with mark 0 (document 02, order 2)
 unfoldable pub smax : Job → ℕ
@@ -80,7 +91,7 @@ smax job = largest (λ f. bit (isFree job f) * sizeOf job f) (files job)
 
 -- the sum on side u; |A| is that of side 0
 unfoldable pub sizeOn : Job → ℕ → List ℕ → ℕ
-sizeOn job u sides = total (λ f. bit (onSide sides u f) * sizeOf job f) (files job)
+sizeOn job u sides = total (λ f. bit (onSide sides u f) * weighs job f) (files job)
 
 abbrev pub sizeA : Job → List ℕ → ℕ
 sizeA job sides = sizeOn job 0 sides

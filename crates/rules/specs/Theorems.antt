@@ -12,7 +12,7 @@ use Rattle.rules.specs.declared.Verdict.{Verdict}
 use Rattle.rules.specs.declared.Header.{Header}
 use Rattle.rules.specs.Lists.{count, diff, sum, onto, allBelow}
 use Rattle.rules.specs.Job.{Job, Limits, TwoByte, fileCount, recipeCount, pinCount, bound, pin, recipes, Lent, scratchFor, fits}
-use Rattle.rules.specs.Split.{sideOf, cut, times, recipesWith, gain, sizeOf, sizeOn, weight, sizeA, balanced}
+use Rattle.rules.specs.Split.{sideOf, cut, times, recipesWith, gain, sizeOf, unreadFiles, unreadRecipes, sizeOn, weight, sizeA, balanced}
 use Rattle.rules.specs.Check.{done, refuseAt, check2Of, check2, check1to6, check7to9, check, measure}
 use Rattle.rules.specs.Move.{State, start, lockOf, after, legal, distAfter, Scan, replay}
 use Rattle.rules.specs.Pass.{cutAt, startGains, Pass, passOf, tries, pass, leaves}
@@ -49,7 +49,7 @@ pub record Sound (most : Limits) (job : Job) : Type 0 where
   pub apart : (j i k : ℕ) → j < recipeCount job → bound job j ≤ i → i < k → k < bound job (suc j) → k < pinCount job → pin job i ≢ pin job k
   pub sizes : (f : ℕ) → f < fileCount job → 1 ≤ sizeOf job f
   pub binary : Binary (job .sides)
-  pub marks : (f : ℕ) → getD (job .marks) f 0 ≤ 1
+  pub marks : (f : ℕ) → getD (job .marks) f 0 ≤ 2
 
 -- what checks 1 to 9 let through (Proved `accepted`, where `check` answers 0)
 pub record Accepted (most : Limits) (job : Job) : Type 0 where
@@ -269,9 +269,10 @@ pub record Answers (most : Limits) (job : Job) (l : Lent) : Type 0 where
   pub runDone : check most job (fits job l) .number ≡ 0
       → runEnds most job l ≡ leftBy job l (runFiguresOf done (pass job (job .sides)) (run job)) (lastOf (pass job (job .sides)) (run job))
   -- the measure
-  pub measureRefused : check1to6 most job true .number ≢ 0 → measure most job ≡ record { verdict = check1to6 most job true; cut = 0; size = 0 }
+  pub measureRefused : check1to6 most job true .number ≢ 0 → measure most job ≡ record { verdict = check1to6 most job true; cut = 0; size = 0; unread = 0; holding = 0 }
   pub measureDone : check1to6 most job true .number ≡ 0
-      → measure most job ≡ record { verdict = done; cut = cut (job .sides) (recipes job); size = sizeA job (job .sides) }
+      → measure most job
+      ≡ record { verdict = done; cut = cut (job .sides) (recipes job); size = sizeA job (job .sides); unread = unreadFiles job; holding = unreadRecipes job }
 
 -- ---- reading (Reading `read-holds`, of any input, and `written-holds`)
 

@@ -11,7 +11,7 @@ use Rattle.rules.specs.Job.{Job, Limits, Lent}
 use Rattle.rules.specs.Check.{isDone}
 use Rattle.rules.specs.Run.{passEnds}
 use Rattle.rules.specs.Stored.{jobOf, readVerdict}
-use Rattle.rules.specs.Report.{text, digits, spaced, line, refusal, sizeLine, sidesLine, tells, ofSizes, Printing, telling, allRoom, allLent}
+use Rattle.rules.specs.Report.{text, digits, spaced, line, refusal, firstLines, sizeLine, sidesLine, tells, ofFiles, Printing, telling, allRoom, allLent}
 
 -- the lists that tell of a pass: the gain list, the four move lists and the two scan lists
 pub record Listing : Type 0 where
@@ -71,7 +71,7 @@ movesLines l (suc n) = movesLines l n ++ moveLines l n
 -- the moves tried, the gain list at the end, and the figures of the pass
 unfoldable pub passLines : Job → Figures → List ℕ → Listing → List ℕ
 passLines job f sides l =
-    line "done" []
+    firstLines (f .unread) (f .holding)
     ++ movesLines l (f .tried)
     ++ text "gains" ++ gainWords (l .gains) ++ (10 ∷ [])
     ++ line "cut" (f .before ∷ f .cut ∷ [])
@@ -80,7 +80,7 @@ passLines job f sides l =
     ++ line "kept" (f .kept ∷ [])
     ++ line "scans" (f .scans ∷ [])
     ++ line "visits" (f .visits ∷ [])
-    ++ sidesLine sides
+    ++ sidesLine job sides
 
 -- the trace of a pass's answer, refused or not
 unfoldable pub trace : Job → Figures → List ℕ → Listing → List ℕ
@@ -102,8 +102,8 @@ holdsPass sizes f l =
     && leb (f .tried) (length (l .cuts)) && leb (f .tried) (length (l .ends))
     && not (someBelow (badEnd l) (f .tried))
 
-unfoldable pub tracing : Limits → List ℕ → Figures → List ℕ → Listing → List ℕ → Printing
-tracing most sizes f sides l room = telling most sizes sides (f .verdict) (holdsPass sizes f l) (trace (ofSizes sizes) f sides l) room
+unfoldable pub tracing : Limits → List ℕ → List ℕ → Figures → List ℕ → Listing → List ℕ → Printing
+tracing most sizes marks f sides l room = telling most sizes marks sides (f .verdict) (holdsPass sizes f l) (trace (ofFiles sizes marks) f sides l) room
 
 -- ---- the program: it reads a stored job from standard input and makes one pass
 

@@ -7,14 +7,16 @@ pub struct Verdict {
     pub place: usize,
 }
 
-// The measure: the cut and |A| of a job as it stands.
+// The measure: the cut and |A| of a job as it stands, and the numbers of unread files and of recipes that hold one.
 pub struct Measure {
     pub verdict: Verdict,
     pub cut: usize,
     pub size: u64,
+    pub unread: usize,
+    pub holding: usize,
 }
 
-// The answer of a pass: the cut before; the cut and |A| after; moves tried and kept, scans, visits.
+// The answer of a pass: the cut before; the cut and |A| after; moves tried and kept, scans, visits; unread files and recipes that hold one.
 pub struct Figures {
     pub verdict: Verdict,
     pub before: usize,
@@ -24,6 +26,8 @@ pub struct Figures {
     pub kept: u64,
     pub scans: u64,
     pub visits: u64,
+    pub unread: usize,
+    pub holding: usize,
 }
 
 // The answer of a run: that of a pass, with the number of passes and settled besides.
@@ -62,10 +66,12 @@ pub struct Handed {
     pub errors: usize,
 }
 
-// The answer of balancing: the moves made, and the cut and |A| after them.
+// The answer of balancing: the moves made, and the cut and |A| after them; unread files and recipes that hold one.
 pub struct BalanceFigures {
     pub verdict: Verdict,
     pub moves: usize,
     pub cut: usize,
     pub size: u64,
+    pub unread: usize,
+    pub holding: usize,
 }

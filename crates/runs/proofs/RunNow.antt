@@ -48,6 +48,8 @@ figures-more first ps p = λ i. record {
   kept = (total-more (λ q. q .kept) ps p ∙ one (λ q. q .kept)) i;
   scans = (total-more (λ q. length (q .scanned)) ps p ∙ one (λ q. length (q .scanned))) i;
   visits = (total-more (λ q. q .visited) ps p ∙ one (λ q. q .visited)) i;
+  unread = first .unread;
+  holding = first .holding;
 }
   where
     one : (w : Pass → ℕ) → total w ps + (w p + 0) ≡ total w ps + total w (p ∷ [])

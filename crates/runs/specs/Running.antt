@@ -14,7 +14,7 @@ use Rattle.rules.specs.Run.{settles, run, lastOf, figuresOf, runFiguresOf, left
 
 -- ---- the answer so far
 
--- counts are sums over the passes; the cut before is the first pass's; the cut and |A| after are the last pass's
+-- counts are sums over the passes, but for what could not be read; the cut before is the first pass's; the cut and |A| after are the last pass's
 unfoldable pub plusOf : Figures → Figures → Figures
 plusOf sum f = record {
   verdict = sum .verdict;
@@ -25,6 +25,8 @@ plusOf sum f = record {
   kept = sum .kept + f .kept;
   scans = sum .scans + f .scans;
   visits = sum .visits + f .visits;
+  unread = sum .unread;
+  holding = sum .holding;
 }
 
 -- with one pass more; a refused pass is none

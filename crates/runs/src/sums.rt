@@ -29,7 +29,7 @@ pub(crate) fn no_pass() -> RunFigures
     })
 }
 
-// One pass more in the sums.
+// One pass more in the sums; what could not be read is no sum.
 fn plus(sum: Figures, last: Figures) -> Figures
     requires { ⌜ SumsFit (plusOf sum last) ⌝ }
     ensures { λ r. ⌜ r ≡ plusOf sum last ⌝ }
@@ -44,6 +44,8 @@ fn plus(sum: Figures, last: Figures) -> Figures
         kept: sum.kept + last.kept,
         scans: sum.scans + last.scans,
         visits: sum.visits + last.visits,
+        unread: sum.unread,
+        holding: sum.holding,
     }
 }
 

@@ -11,8 +11,8 @@ use lib.IntN.{ℤ}
 use Rattle.rules.specs.declared.Verdict.{Verdict}
 use Rattle.rules.specs.declared.Figures.{Figures}
 use Rattle.rules.specs.Lists.{bit, total, largest, upTo}
-use Rattle.rules.specs.Job.{Job, Limits, fileCount, files, Lent, lentOf, fits}
-use Rattle.rules.specs.Split.{sizeOf, isFree, weight, smax}
+use Rattle.rules.specs.Job.{Job, Limits, fileCount, files, isRead, Lent, lentOf, fits}
+use Rattle.rules.specs.Split.{sizeOf, isFree, weighs, unreadFiles, unreadRecipes, weight, smax}
 use Rattle.rules.specs.Check.{check1to6, check}
 use Rattle.rules.specs.Run.{endedOf, Ended, noFigures, passEnds}
 use Rattle.rules.specs.Theorems.{Sound}
@@ -44,7 +44,7 @@ largest-most w h (suc n) = rw (largest-upTo w n) (max-le (largest-most w h n) (o
 module _ (job : Job) (two : (i : ℕ) → sizeOf job i < 65536) where
   weight-most : weight job ≤ fileCount job * 65535
   unfolding weight files
-  weight-most = total-most (sizeOf job) two (fileCount job)
+  weight-most = total-most (weighs job) (λ f. omega (arith, bit-most (isRead job f) (sizeOf job f), two f)) (fileCount job)
 
   smax-most : smax job ≤ 65535
   unfolding smax files
@@ -71,11 +71,23 @@ module _ {balancing : Bool} {most : Limits} {job : Job} {l : Lent} {g : List ℤ
     pub check-done : checkFor balancing most job (fits job l) .number ≡ 0
     check-done = zero-of told d
 
-    found : s ≡ record { verdict = checkFor balancing most job (fits job l); weight = weight job; largest = smax job; size = sizeAtStart job; cut = cutAtStart job }
+    found : s
+        ≡ record {
+          verdict = checkFor balancing most job (fits job l);
+          weight = weight job;
+          largest = smax job;
+          size = sizeAtStart job;
+          cut = cutAtStart job;
+          unread = unreadFiles job;
+          holding = unreadRecipes job;
+        }
     found = a .lays .answer ∙ survey-is balancing most job (fits job l) check-done
 
     pub cut-is : s .cut ≡ cutAtStart job
     cut-is = ap (λ (x : Survey). x .cut) found
+
+    pub unread-is : (s .unread ≡ unreadFiles job) × (s .holding ≡ unreadRecipes job)
+    unread-is = (ap (λ (x : Survey). x .unread) found, ap (λ (x : Survey). x .holding) found)
 
     pub begins-as : {p : Progress} → p ≡ begun (s .size) (s .cut) → p ≡ begun (sizeAtStart job) (cutAtStart job)
     begins-as e = e ∙ ap (λ (x : Survey). begun (x .size) (x .cut)) found

@@ -16,7 +16,7 @@ use Rattle.rules.specs.declared.Verdict.{Verdict}
 use Rattle.rules.specs.declared.BalanceFigures.{BalanceFigures}
 use Rattle.rules.specs.Lists.{listed}
 use Rattle.rules.specs.Job.{Job, Limits, fileCount, recipeCount, pinCount, recipes, Lent, lentOf, scratchFor, fits}
-use Rattle.rules.specs.Split.{sideOf, onSide, sizeOf, cut, weight, smax, sizeA}
+use Rattle.rules.specs.Split.{sideOf, onSide, sizeOf, cut, unreadFiles, unreadRecipes, weight, smax, sizeA}
 use Rattle.rules.specs.Check.{done}
 use Rattle.rules.specs.Move.{State, moved, distance, greater, firstBelow, after}
 use Rattle.rules.specs.Balance.{tooLarge, tooSmall, heavy, balanceChoice, balanceMoves, balanceSides, balanceFigures, noBalanceFigures, balanceVerdict, Balancing, balancingOf, balancing}
@@ -211,11 +211,12 @@ module _ {job : Job} {l : Lent} {w : Window} {sides : List ℕ} {y : Treated} (u
       all-made : stands job ms (length ms) ≡ after (begins job) ms
       all-made = ap (after (begins job)) (take-length ms)
 
-      pub balance-ends : {r : BalanceFigures} {z : List ℕ} {numbers : ℕ} → r ≡ balancedFrom (y .scanned .progress) → numbers ≡ scratchFor job
+      pub balance-ends : {r : BalanceFigures} {z : List ℕ} {unread holding numbers : ℕ} → (unread ≡ unreadFiles job) × (holding ≡ unreadRecipes job)
+          → r ≡ balancedFrom unread holding (y .scanned .progress) → numbers ≡ scratchFor job
           → z ≡ clearedIn 0 numbers 0 (y .scratch)
           → balancingOf r sides z ≡ balancingOf (balanceFigures job done) (balanceSides job) (listed (scratchFor job) 0 [] (l .scratch))
       unfolding balanceFigures
-      balance-ends {r} {z} told n e =
+      balance-ends {r} {z} un told n e =
           let long : scratchFor job ≤ length (y .scratch) = omega (arith, under-long (u .under) .scratch, long-enough job l (may .fitting) .scratch) in
           let scratch = e ∙ ap (λ (i : ℕ). clearedIn 0 i 0 (y .scratch)) n
           ∙ cleared-in 0 (scratchFor job) 0 (y .scratch) (omega arith) long
@@ -225,7 +226,7 @@ module _ {job : Job} {l : Lent} {w : Window} {sides : List ℕ} {y : Treated} (u
           let cuts = over .progress .cutNow ∙ ap (λ (x : State). cut (x .sides) (recipes job)) all-made in
           let sizes = over .progress .size ∙ ap (λ (x : State). sizeA job (x .sides)) all-made in
           λ i. record {
-            answer = (told ∙ λ j. record { verdict = done; moves = over .progress .moves j; cut = cuts j; size = sizes j }) i;
+            answer = (told ∙ λ j. record { verdict = done; moves = over .progress .moves j; cut = cuts j; size = sizes j; unread = un .0 j; holding = un .1 j }) i;
             sides = (over .sides ∙ ap (λ (x : State). x .sides) all-made) i;
             scratch = scratch i;
           }

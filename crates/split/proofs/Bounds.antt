@@ -1,5 +1,5 @@
 -- What keeps moves within their lists and numbers. Assumes nothing.
-use mathlib.Core.Path.{_≡_, refl, ap, _∙_}
+use mathlib.Core.Path.{_≡_, sym, ap, _∙_}
 use Prim.Native.Nat.{ℕ, suc, _+_, _*_, _≤_, _<_}
 use mathlib.Core.Bool.{Bool, true, false, cond}
 use mathlib.Core.List.{List, [], _∷_, map}
@@ -21,7 +21,7 @@ use Rattle.rules.proofs.GainKept.{gains-kept, cut-moved}
 use Rattle.rules.proofs.Steps.{gains-length, cuts-length, ends-length}
 use Rattle.rules.proofs.FourScans.{all-scans, all-visits}
 use Rattle.rules.proofs.Sizes.{sizes-add, gain-abs}
-use Rattle.rules.proofs.SoundJob.{recipes-distinct, recipes-length, views-total}
+use Rattle.rules.proofs.SoundJob.{recipes-distinct, recipes-length, views-length, views-total}
 use Rattle.split.specs.Moving.{Board}
 use Rattle.split.proofs.Going.{begins, made, stands, Line, Going}
 use Rattle.split.proofs.NextMove.{Next, stands-long, stands-binary, made-free, few-moves}
@@ -76,7 +76,8 @@ module _ {job : Job} {ms : List ℕ} (v : Line job ms) (k : ℕ) where
   pub visits-few : visits (views job) (scans (recipes job) (begins job) (made ms k)) ≤ 4 * pinCount job
   visits-few =
       rw (← views-total (v .most) job (v .sound))
-      (all-visits (recipes job) (recipes-distinct (v .most) job (v .sound)) (begins job) (made ms k) (made-free v k) (v .sound .binary) (views job) refl)
+      (all-visits (recipes job) (recipes-distinct (v .most) job (v .sound)) (begins job) (made ms k) (made-free v k) (v .sound .binary) (views job)
+      (views-length (v .most) job (v .sound) ∙ sym (recipes-length (v .most) job (v .sound))))
 
   -- the gain listed of the next move is its gain, and takes from the cut no more than it has
   pub gain-now : (f : ℕ) → Next job ms k f → getD (gainsNow job ms k) f (pos 0) ≡ gain (stands job ms k .sides) (recipes job) f

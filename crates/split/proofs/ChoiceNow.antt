@@ -12,12 +12,13 @@ use lib.ListN.{length, getD, take}
 use borrow.Author.Tests.{leb-true, leb-false, le-leb, lt-leb, eqb-true, ne-eqb}
 use Rattle.rules.specs.Lists.{bit}
 use Rattle.rules.specs.Job.{Job, fileCount, recipes, Lent}
-use Rattle.rules.specs.Split.{sideOf, sizeOf, weight, smax, sizeA, inWindow, balanced}
+use Rattle.rules.specs.Split.{sideOf, sizeOf, weighs, weight, smax, sizeA, inWindow, balanced}
 use Rattle.rules.specs.Move.{lockOf, free, distance, sizeAfter, legal, distAfter, better, choose}
 use Rattle.rules.specs.Pass.{gainsAfter, startGains}
 use Rattle.rules.proofs.Tests.{and-yes}
 use Rattle.rules.proofs.Count.{length-tabled}
 use Rattle.rules.proofs.First.{first-same}
+use Rattle.rules.proofs.NeverFree.{free-weighs}
 use Rattle.rules.proofs.Sizes.{size-after}
 use Rattle.rules.proofs.SoundJob.{recipes-distinct}
 use Rattle.rules.proofs.MovesEnd.{StateLong}
@@ -60,7 +61,8 @@ module _ {job : Job} {ms : List ℕ} (v : Line job ms) (k : ℕ) where
       → sizeBy (sizeA job (stands job ms k .sides)) (sideOf (stands job ms k .sides) f) (sizeOf job f) ≡ sizeAfter job (stands job ms k) f
   size-moved-by f h e =
       let long : StateLong (fileCount job) (stands job ms k) = stands-long v k in
-      size-by (sideOf (stands job ms k .sides) f) (sizeOf job f) (sizeA job (stands job ms k .sides)) (sizeAfter job (stands job ms k) f) (stands-binary v k f)
+      ap (sizeBy (sizeA job (stands job ms k .sides)) (sideOf (stands job ms k .sides) f)) (sym (free-weighs job (job .sides) (made ms k) f e))
+      ∙ size-by (sideOf (stands job ms k .sides) f) (weighs job f) (sizeA job (stands job ms k .sides)) (sizeAfter job (stands job ms k) f) (stands-binary v k f)
       (size-after job (stands job ms k) f (omega arith) (omega arith) e (stands-binary v k) h)
 
   pub gains-long : length (gainsNow job ms k) ≡ fileCount job

@@ -1,19 +1,20 @@
 -- The move of the chosen file: what its code may count on, and what it leaves. Assumes nothing.
 use mathlib.Core.Path.{_≡_, sym, ap, ap₂, _∙_, subst}
 use Prim.Native.Nat.{ℕ, suc, _+_, _*_, _≤_, _<_, _^_}
-use mathlib.Core.Bool.{true}
+use mathlib.Core.Bool.{true, false}
 use mathlib.Core.List.{List, [], _∷_, _++_, map, map-append, append-nil}
 use native.Mathlib.Omega.{arith}
 use lib.IntN.{pos}
 use lib.ListN.{length, getD, take, set, length-set, length-append, length-map}
 use lib.Seq.{getD-set-same, getD-set-other, take-set-lt, drop-set-lt}
 use Rattle.rules.specs.Lists.{allBelow, onto}
-use Rattle.rules.specs.Job.{Job, fileCount, recipeCount, pinCount, viewOf, view, views, recipes, Lent, scratchFor, fits}
+use Rattle.rules.specs.Job.{Job, fileCount, recipeCount, pinCount, viewOf, view, views, isRead, recipes, Lent, scratchFor, fits}
 use Rattle.rules.specs.Split.{other, sideOf, recipesOf, cut}
-use Rattle.rules.specs.Move.{State, moved, Scan, scansOf, scans, visits}
+use Rattle.rules.specs.Move.{State, free, moved, Scan, scansOf, scans, visits}
 use Rattle.rules.proofs.Count.{getD-tabled, total-append}
 use Rattle.rules.proofs.Entries.{onto-length}
-use Rattle.rules.proofs.SoundJob.{bound-le, view-length, view-below, recipes-distinct, recipes-length}
+use Rattle.rules.proofs.SoundJob.{bound-le, view-length, view-below, recipe-at, recipes-distinct, recipes-length}
+use Rattle.rules.proofs.NeverFree.{read-short, unread-locked, scans-whole}
 use Rattle.rules.proofs.Steps.{scans-append}
 use Rattle.split.specs.declared.progress.Progress.{Progress}
 use Rattle.tables.specs.Zones.{cellsAt, endsAt, roomAt, countsAt, sideAt, part, stateIn, cellsOf, Counts}
@@ -60,6 +61,10 @@ module _ {job : Job} {ms : List ℕ} (v : Line job ms) (small : Small job) {l : 
   abbrev rs : List (List ℕ)
   rs = recipes job
 
+  -- the recipes as the scans walk them, whole
+  abbrev ws : List (List ℕ)
+  ws = views job
+
   abbrev st : State
   st = stands job ms k
 
@@ -83,7 +88,7 @@ module _ {job : Job} {ms : List ℕ} (v : Line job ms) (small : Small job) {l : 
       (shiftedTo (b .rest .scanned .progress) (sizeBy (b .rest .scanned .progress .size) (sideOf (b .sides) f) (getD (job .sizes) f 0))
       (cutBy (b .rest .scanned .progress .cut) (getD (b .rest .scanned .gains) f (pos 0))))
 
-  sees : (j : ℕ) → j < n → viewOf (job .bounds) (job .pins) j ≡ getD rs j []
+  sees : (j : ℕ) → j < n → viewOf (job .bounds) (job .pins) j ≡ getD ws j []
   unfolding views
   sees j h = sym (getD-tabled (view job) n j [] h)
 
@@ -114,10 +119,10 @@ module _ {job : Job} {ms : List ℕ} (v : Line job ms) (small : Small job) {l : 
       ∙ ap (λ (u : ℕ). treatAll (moved st f) (wayTo c n p u) (viewOf (job .bounds) (job .pins)) (cellsOf c p z f) treatBegun) side
       ∙ ap (λ (u : List ℕ). treatAll (moved st f) (wayOf c n p st f) (viewOf (job .bounds) (job .pins)) u treatBegun) (g .cells .hold f (x .below))
 
-  did : TreatedMove rs st (moved st f) f (countsAt c p) n treatBegun (treatMove (job .sizes) (job .bounds) (job .pins) f b)
+  did : TreatedMove rs ws st (moved st f) f (countsAt c p) n treatBegun (treatMove (job .sizes) (job .bounds) (job .pins) f b)
   did =
       rw is
-      (move-treated rs (recipes-distinct (v .most) job (v .sound)) st f (x .moves) c n p (recipes-length (v .most) job (v .sound)) (viewOf (job .bounds) (job .pins)) sees
+      (move-treated rs ws (recipes-distinct (v .most) job (v .sound)) st f (x .moves) c n p (recipes-length (v .most) job (v .sound)) (viewOf (job .bounds) (job .pins)) sees
       (moved st f) treatBegun (rw long (omega (arith, room))) counts-locked)
 
   -- the scans so far, and this move's
@@ -136,9 +141,9 @@ module _ {job : Job} {ms : List ℕ} (v : Line job ms) (small : Small job) {l : 
   entry : (i : ℕ) → cellsAt c ≤ i → i < roomAt c p → getD (treatMove (job .sizes) (job .bounds) (job .pins) f b .scratch) i 0 ≡ getD z i 0
   entry i l h = beside-entry (did .beside) i (omega arith) ∙ getD-set-other z f i 1 0 (λ e. omega (arith, x .below))
 
-  visits-more : (us vs : List Scan) → visits rs (us ++ vs) ≡ visits rs us + visits rs vs
+  visits-more : (us vs : List Scan) → visits ws (us ++ vs) ≡ visits ws us + visits ws vs
   unfolding visits
-  visits-more us vs = total-append (λ c. length (getD rs (c .recipe) [])) us vs
+  visits-more us vs = total-append (λ c. length (getD ws (c .recipe) [])) us vs
 
   shifted : Shifted job ms k f b (treatMove (job .sizes) (job .bounds) (job .pins) f b .scanned .progress)
   unfolding shiftedTo
@@ -154,8 +159,12 @@ module _ {job : Job} {ms : List ℕ} (v : Line job ms) (small : Small job) {l : 
         scanned = ap (λ (q : Progress). q .scans) e
             ∙ omega (arith, g .progress .scanned, ap length more, length-append (scans rs (begins job) (made ms k)) (scansOf rs st f));
         visited = ap (λ (q : Progress). q .visits) e
-            ∙ omega (arith, g .progress .visited, ap (visits (views job)) more, visits-more (scans rs (begins job) (made ms k)) (scansOf rs st f));
+            ∙ omega (arith, g .progress .visited, ap (visits ws) more, visits-more (scans rs (begins job) (made ms k)) (scansOf rs st f));
       }
+
+  -- an unread file is not free after the move either
+  unread-stays : (i : ℕ) → isRead job i ≡ false → free (moved st f) i ≡ false
+  unread-stays i e = rw (← x .then) (unread-locked job (job .sides) (made ms (suc k)) i e)
 
   care : Safe job ms k f b
   care = safe v (omega (arith, small .scans)) ok g x
@@ -177,7 +186,7 @@ module _ {job : Job} {ms : List ℕ} (v : Line job ms) (small : Small job) {l : 
         beyond =
             beyond-numbers job (y .scratch) locked (did .beside .beyond)
             ∙ drop-set-lt (scratchFor job) z f 1 (omega (arith, x .below));
-        gains = did .gains;
+        gains = did .gains ∙ scans-whole job st (moved st f) unread-stays (other (sideOf (st .sides) f)) f (b .rest .scanned .gains);
         scannedRecipes =
             did .recipes (map (λ u. u .recipe) (scans rs (begins job) (made ms k))) (l .recipes) (g .scannedRecipes)
             (length-map (scans rs (begins job) (made ms k)) (λ u. u .recipe) ∙ sym (g .progress .scanned)) (omega (arith, scans-fit, r .scannedRecipes))
@@ -193,7 +202,9 @@ module _ {job : Job} {ms : List ℕ} (v : Line job ms) (small : Small job) {l : 
   pins-below j h i q = view-below (v .most) job (v .sound) j i h q
 
   recipes-short : (j : ℕ) → j < n → length (getD rs j []) < 65535
-  recipes-short j h = rw (← sees j h) (omega (arith, view-length (v .most) job (v .sound) j h, bound-le (v .most) job (v .sound) (suc j) h, small .pins))
+  recipes-short j h =
+      rw (recipe-at (v .most) job (v .sound) j h)
+      (omega (arith, read-short job (view job j), view-length (v .most) job (v .sound) j h, bound-le (v .most) job (v .sound) (suc j) h, small .pins))
 
   -- where the file's cells end
   abbrev until : ℕ
@@ -203,7 +214,7 @@ module _ {job : Job} {ms : List ℕ} (v : Line job ms) (small : Small job) {l : 
   ready =
       subst (λ (u : ℕ). Ready (wayTo c n p u) (viewOf (job .bounds) (job .pins)) until (cellsOf c p z f) locked) (sym side)
       (subst (λ (u : List ℕ). Ready (wayOf c n p st f) (viewOf (job .bounds) (job .pins)) until u locked) (sym (g .cells .hold f (x .below)))
-      (move-ready rs (recipes-distinct (v .most) job (v .sound)) st f (x .moves) c n p (recipes-length (v .most) job (v .sound)) (viewOf (job .bounds) (job .pins)) sees
+      (move-ready rs ws (recipes-distinct (v .most) job (v .sound)) st f (x .moves) c n p (recipes-length (v .most) job (v .sound)) (viewOf (job .bounds) (job .pins)) sees
       until (omega (arith, g .cells .inside f (x .below))) locked (rw long (omega (arith, room))) counts-locked pins-below recipes-short))
 
   -- the lists written are as long as those lent

@@ -8,14 +8,15 @@ use lib.ListN.{length}
 use lib.IntN.{ℤ, pos}
 use Rattle.rules.specs.declared.Figures.{Figures}
 use Rattle.rules.specs.Lists.{total}
-use Rattle.rules.specs.Job.{Job, Limits, fileCount, recipeCount, pinCount, views, Lent, lentOf, scratchNumbers, scratchFor}
+use Rattle.rules.specs.Job.{Job, Limits, fileCount, recipeCount, pinCount, views, readIn, recipes, Lent, lentOf, scratchNumbers, scratchFor}
+use Rattle.rules.specs.Split.{unreadFiles, unreadRecipes}
 use Rattle.rules.specs.Check.{done}
 use Rattle.rules.specs.Move.{Frees}
 use Rattle.rules.specs.Pass.{tries, Pass, pass}
 use Rattle.rules.specs.Run.{endedOf, lastOf, figuresOf}
 use Rattle.rules.specs.Theorems.{Sound}
 use Rattle.rules.proofs.Fits.{LongEnough, long-enough}
-use Rattle.rules.proofs.Runs.{pass-from}
+use Rattle.rules.proofs.Runs.{pass-from, pass-unread}
 use Rattle.tables.specs.declared.zones.Extent.{Extent}
 use Rattle.tables.specs.Zones.{extentOf}
 use Rattle.tables.specs.Clearing.{clearedIn}
@@ -45,7 +46,7 @@ boardOn job l g z p = board (job .sides) (l .tried) (l .gained) (l .cuts) (l .en
 begins-here : (most : Limits) (job : Job) → Sound most job → (l : Lent) (g : List ℤ) (z : List ℕ)
     → Prepared (job .bounds) (job .pins) (job .sides) (job .marks) (l .scratch) z g (recipeCount job)
     → Begun job l (boardOn job l g z (begun (sizeAtStart job) (cutAtStart job)))
-unfolding views
+unfolding recipes views readIn
 begins-here most job s l g z d =
     let e : length (job .sides) ≡ fileCount job = s .sidesLong in
     record {
@@ -93,9 +94,10 @@ module _ {job : Job} {l : Lent} {w : Window} (y : Playable job l w) {b : Board} 
   ended = finished line going refl
 
   -- what the pass leaves; scans and numbers as the code has them
-  pub pass-ends : {before scans numbers : ℕ} {r : Figures} {sides tried : List ℕ} {gained : List ℤ} {cuts ends rs kinds scratch : List ℕ}
+  pub pass-ends : {before unread holding scans numbers : ℕ} {r : Figures} {sides tried : List ℕ} {gained : List ℤ} {cuts ends rs kinds scratch : List ℕ}
       → before ≡ cutAtStart job
-      → r ≡ figuresFrom before q
+      → (unread ≡ unreadFiles job) × (holding ≡ unreadRecipes job)
+      → r ≡ figuresFrom before unread holding q
       → (sides ≡ backTo (b .tried) (q .best) (q .moves - q .best) (b .sides))
       × (tried ≡ clearedIn (q .moves) (fileCount job) 0 (b .tried))
       × (gained ≡ clearedIn (q .moves) (fileCount job) (pos 0) (b .gained))
@@ -107,7 +109,7 @@ module _ {job : Job} {l : Lent} {w : Window} (y : Playable job l w) {b : Board} 
       × (scratch ≡ clearedIn 0 numbers 0 (b .rest .scratch))
       → endedOf r sides (lentOf (b .rest .scanned .gains) tried gained cuts ends rs kinds scratch) ≡ passLeft job l
   unfolding figuresOf lastOf total
-  pass-ends {scans = scans} {numbers = numbers} be told m ro s =
+  pass-ends {scans = scans} {numbers = numbers} be un told m ro s =
       let p : Pass = pass job (job .sides) in
       let c : ℕ = fileCount job in
       let d : Finished job (passMoves job) l b = ended in
@@ -136,6 +138,8 @@ module _ {job : Job} {l : Lent} {w : Window} (y : Playable job l w) {b : Board} 
           kept = (d .best ∙ sym (add-zero (p .kept))) j;
           scans = (d .scanned ∙ sym (add-zero (length (p .scanned)))) j;
           visits = (d .visited ∙ sym (add-zero (p .visited))) j;
+          unread = (un .0 ∙ sym (pass-unread job (tries job) (job .sides) .0)) j;
+          holding = (un .1 ∙ sym (pass-unread job (tries job) (job .sides) .1)) j;
         }) i;
         sides = back i;
         lent = record {

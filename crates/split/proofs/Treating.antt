@@ -91,21 +91,21 @@ module _ {rs : List (List ℕ)} {st : State} {f : ℕ} (m : Moves st (moved st f
 
 -- ---- all recipes of the moved file
 
--- what treating recipes makes of y, cs the scans of the recipes treated
-record Treats (rs : List (List ℕ)) (st' now : State) (at n t : ℕ) (cs : List Scan) (y y' : Treated) : Type 0 where
+-- what treating recipes makes of y, cs the scans of the recipes treated; ws are the recipes as the scans walk them
+record Treats (rs ws : List (List ℕ)) (st' now : State) (at n t : ℕ) (cs : List Scan) (y y' : Treated) : Type 0 where
   counts : Counts rs st' at n (y' .scratch)
   beside : Beside at n (y .scratch) (y' .scratch)
-  made : y' .scanned ≡ scansMade rs now t cs (y .scanned)
+  made : y' .scanned ≡ scansMade ws now t cs (y .scanned)
 
 -- the scans of the recipes js
 abbrev scansIn : List (List ℕ) → State → ℕ → List ℕ → List Scan
 scansIn rs st f js = scansOver (λ j. getD rs j []) st f js
 
-module _ (rs : List (List ℕ)) (st : State) (f : ℕ) (m : Moves st (moved st f) f) (c n p : ℕ) (look : ℕ → List ℕ)
-    (sees : (j : ℕ) → j < n → look j ≡ getD rs j []) where
+module _ (rs ws : List (List ℕ)) (st : State) (f : ℕ) (m : Moves st (moved st f) f) (c n p : ℕ) (look : ℕ → List ℕ)
+    (sees : (j : ℕ) → j < n → look j ≡ getD ws j []) where
   treat-one : (now : State) (j : ℕ) → j < n → times f (getD rs j []) ≡ 1 → (y : Treated) → CountsOf rs st (countsAt c p) n (y .scratch) j
       → treatOne now (wayOf c n p st f) j (look j) y .scanned
-      ≡ scansMade rs now (other (sideOf (st .sides) f)) (map (λ k. record { recipe = j; kind = k }) (kindsIn st f (getD rs j []))) (y .scanned)
+      ≡ scansMade ws now (other (sideOf (st .sides) f)) (map (λ k. record { recipe = j; kind = k }) (kindsIn st f (getD rs j []))) (y .scanned)
   unfolding treatOne wayTo
   treat-one now j h o y k =
       kinds-scanned m c n p (y .scratch) j o k now (look j) (y .scanned)
@@ -114,7 +114,7 @@ module _ (rs : List (List ℕ)) (st : State) (f : ℕ) (m : Moves st (moved st f
 
   treat-turns : (now : State) {b : ℕ} {js : List ℕ} → Turns rs f n b js
       → (y : Treated) → countsAt c p + 4 * n ≤ length (y .scratch) → Between rs st (moved st f) (countsAt c p) n b (y .scratch)
-      → Treats rs (moved st f) now (countsAt c p) n (other (sideOf (st .sides) f)) (scansIn rs st f js) y (treatAll now (wayOf c n p st f) look js y)
+      → Treats rs ws (moved st f) now (countsAt c p) n (other (sideOf (st .sides) f)) (scansIn rs st f js) y (treatAll now (wayOf c n p st f) look js y)
   unfolding treatAll treatOne scansOver
   treat-turns now (over e) y fits w =
       record { counts = record { each = λ i h. w .done i (omega arith) }; beside = beside-self (countsAt c p) n (y .scratch); made = unfold scansBy in refl }
@@ -127,7 +127,7 @@ module _ (rs : List (List ℕ)) (st : State) (f : ℕ) (m : Moves st (moved st f
         counts = i .counts;
         beside = beside-then (g .beside) (i .beside);
         made = i .made
-            ∙ ap (scansMade rs now (other (sideOf (st .sides) f)) (scansIn rs st f js)) (treat-one now b h o y k)
+            ∙ ap (scansMade ws now (other (sideOf (st .sides) f)) (scansIn rs st f js)) (treat-one now b h o y k)
             ∙ sym (scans-then _ (map (λ k. record { recipe = b; kind = k }) (kindsIn st f (getD rs b []))) (scansIn rs st f js) (y .scanned));
       }
 
@@ -159,40 +159,40 @@ module _ (rs : List (List ℕ)) (st : State) (f : ℕ) (m : Moves st (moved st f
         let g = recounted m c n p z fits b h o k in
         next (treatable z fits b h o k) (ready-turns ts _ (omega (arith, g .beside .long)) (treated-too m c n p h g w))
 
--- what treating all recipes of f, which moves from the state st, makes of y; now is the state that the scans see
-pub record TreatedMove (rs : List (List ℕ)) (st now : State) (f at n : ℕ) (y y' : Treated) : Type 0 where
+-- what treating all recipes of f, which moves from the state st, makes of y; now is the state that the scans see, ws the recipes that they walk
+pub record TreatedMove (rs ws : List (List ℕ)) (st now : State) (f at n : ℕ) (y y' : Treated) : Type 0 where
   pub counts : Counts rs (moved st f) at n (y' .scratch)
   pub beside : Beside at n (y .scratch) (y' .scratch)
-  pub gains : y' .scanned .gains ≡ scanAll rs now (other (sideOf (st .sides) f)) (scansOf rs st f) (y .scanned .gains)
+  pub gains : y' .scanned .gains ≡ scanAll ws now (other (sideOf (st .sides) f)) (scansOf rs st f) (y .scanned .gains)
   pub progress : y' .scanned .progress
-      ≡ withScans (y .scanned .progress) (y .scanned .progress .scans + length (scansOf rs st f)) (y .scanned .progress .visits + visits rs (scansOf rs st f))
+      ≡ withScans (y .scanned .progress) (y .scanned .progress .scans + length (scansOf rs st f)) (y .scanned .progress .visits + visits ws (scansOf rs st f))
   pub recipes : Writes (λ s. s .recipe) (scansOf rs st f) (y .scanned .progress .scans) (y .scanned .recipes) (y' .scanned .recipes)
   pub kinds : Writes (λ s. s .kind) (scansOf rs st f) (y .scanned .progress .scans) (y .scanned .kinds) (y' .scanned .kinds)
 
-module _ (rs : List (List ℕ)) (dis : Distinct rs) (st : State) (f : ℕ) (m : Moves st (moved st f) f) (c n p : ℕ) (long : length rs ≡ n)
-    (look : ℕ → List ℕ) (sees : (j : ℕ) → j < n → look j ≡ getD rs j []) where
+module _ (rs ws : List (List ℕ)) (dis : Distinct rs) (st : State) (f : ℕ) (m : Moves st (moved st f) f) (c n p : ℕ) (long : length rs ≡ n)
+    (look : ℕ → List ℕ) (sees : (j : ℕ) → j < n → look j ≡ getD ws j []) where
   -- no recipe is treated yet
   start-between : {z : List ℕ} → Counts rs st (countsAt c p) n z → Between rs st (moved st f) (countsAt c p) n 0 z
   start-between k = record { done = λ i h. absurd (omega arith); todo = λ i a h. k .each i h }
 
   pub move-treated : (now : State) (y : Treated) → countsAt c p + 4 * n ≤ length (y .scratch) → Counts rs st (countsAt c p) n (y .scratch)
-      → TreatedMove rs st now f (countsAt c p) n y (treatAll now (wayOf c n p st f) look (recipesOf rs f) y)
+      → TreatedMove rs ws st now f (countsAt c p) n y (treatAll now (wayOf c n p st f) look (recipesOf rs f) y)
   move-treated now y fits k =
       let t = other (sideOf (st .sides) f) in
       let cs = scansOf rs st f in
-      let a = treat-turns rs st f m c n p look sees now (turns rs dis f n long) y fits (start-between k) in
-      let made : treatAll now (wayOf c n p st f) look (recipesOf rs f) y .scanned ≡ scansMade rs now t cs (y .scanned)
-      = a .made ∙ ap (λ l. scansMade rs now t l (y .scanned)) (sym (scans-cells rs st f)) in
+      let a = treat-turns rs ws st f m c n p look sees now (turns rs dis f n long) y fits (start-between k) in
+      let made : treatAll now (wayOf c n p st f) look (recipesOf rs f) y .scanned ≡ scansMade ws now t cs (y .scanned)
+      = a .made ∙ ap (λ l. scansMade ws now t l (y .scanned)) (sym (scans-cells rs st f)) in
       record {
         counts = a .counts;
         beside = a .beside;
-        gains = rw made (gains-made rs now t cs (y .scanned));
-        progress = rw made (progress-made rs now t cs (y .scanned));
-        recipes = rw made (recipes-made rs now t cs (y .scanned));
-        kinds = rw made (kinds-made rs now t cs (y .scanned));
+        gains = rw made (gains-made ws now t cs (y .scanned));
+        progress = rw made (progress-made ws now t cs (y .scanned));
+        recipes = rw made (recipes-made ws now t cs (y .scanned));
+        kinds = rw made (kinds-made ws now t cs (y .scanned));
       }
 
   pub move-ready : (e : ℕ) → e ≤ countsAt c p → (z : List ℕ) → countsAt c p + 4 * n ≤ length z → Counts rs st (countsAt c p) n z
       → ((j : ℕ) → j < n → allBelow c (look j)) → ((j : ℕ) → j < n → length (getD rs j []) < 65535)
       → Ready (wayOf c n p st f) look e (recipesOf rs f) z
-  move-ready e low z fits k below short = ready-turns rs st f m c n p look sees e low below short (turns rs dis f n long) z fits (start-between k)
+  move-ready e low z fits k below short = ready-turns rs ws st f m c n p look sees e low below short (turns rs dis f n long) z fits (start-between k)

@@ -13,9 +13,9 @@ use Rattle.split.specs.declared.progress.Progress.{Progress}
 abbrev pub passLeft : Job → Lent → Ended Figures
 passLeft job l = leftBy job l (figuresOf done (pass job (job .sides)) (pass job (job .sides) ∷ [])) (pass job (job .sides))
 
--- the figures of a pass from its record and the cut before
-abbrev pub figuresFrom : ℕ → Progress → Figures
-figuresFrom before q = record {
+-- the figures of a pass from its record, the cut before, and what could not be read
+abbrev pub figuresFrom : ℕ → ℕ → ℕ → Progress → Figures
+figuresFrom before unread holding q = record {
   verdict = done;
   before = before;
   cut = q .least;
@@ -24,8 +24,10 @@ figuresFrom before q = record {
   kept = q .best;
   scans = q .scans;
   visits = q .visits;
+  unread = unread;
+  holding = holding;
 }
 
--- the answer of the balancing from its record
-abbrev pub balancedFrom : Progress → BalanceFigures
-balancedFrom q = record { verdict = done; moves = q .moves; cut = q .cut; size = q .size }
+-- the answer of the balancing from its record, and what could not be read
+abbrev pub balancedFrom : ℕ → ℕ → Progress → BalanceFigures
+balancedFrom unread holding q = record { verdict = done; moves = q .moves; cut = q .cut; size = q .size; unread = unread; holding = holding }

@@ -29,6 +29,8 @@ fn none_made(verdict: Verdict) -> BalanceFigures
         moves: 0,
         cut: 0,
         size: 0,
+        unread: 0,
+        holding: 0,
     }
 }
 
@@ -81,7 +83,7 @@ fn balance_with(
         if c <= f {
             let extent = extent_of(c, bounds, pins);
             end_scans(recipes, kinds, scratch, p.scans, extent);
-            return p.balanced();
+            return p.balanced(s.unread, s.holding);
         }
         p = treat_move(
             sizes,

@@ -50,5 +50,7 @@ pub fn refused(verdict: Verdict) -> Figures
         kept: 0,
         scans: 0,
         visits: 0,
+        unread: 0,
+        holding: 0,
     }
 }

@@ -78,7 +78,7 @@ pub fn pass_once(
             end_moves(sides, tried, gained, cuts, ends, p.best, p.moves, c);
             let extent = extent_of(c, bounds, pins);
             end_scans(recipes, kinds, scratch, p.scans, extent);
-            return p.figures(s.cut);
+            return p.figures(s.cut, s.unread, s.holding);
         }
         let at = p.moves;
         tried[at] = f as u16;

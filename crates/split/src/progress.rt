@@ -70,9 +70,9 @@ impl Progress {
         self
     }
 
-    // The figures of the pass, once its moves have ended.
-    pub fn figures(self, before: usize) -> Figures
-        ensures { λ r. ⌜ r ≡ figuresFrom before self ⌝ }
+    // The figures of the pass, once its moves have ended; what could not be read is the job's.
+    pub fn figures(self, before: usize, unread: usize, holding: usize) -> Figures
+        ensures { λ r. ⌜ r ≡ figuresFrom before unread holding self ⌝ }
     {
         let verdict = Verdict {
             number: 0,
@@ -87,11 +87,13 @@ impl Progress {
             kept: self.best as u64,
             scans: self.scans as u64,
             visits: self.visits,
+            unread,
+            holding,
         }
     }
     // The answer of the balancing, once its moves have ended.
-    pub fn balanced(self) -> BalanceFigures
-        ensures { λ r. ⌜ r ≡ balancedFrom self ⌝ }
+    pub fn balanced(self, unread: usize, holding: usize) -> BalanceFigures
+        ensures { λ r. ⌜ r ≡ balancedFrom unread holding self ⌝ }
     {
         let verdict = Verdict {
             number: 0,
@@ -102,6 +104,8 @@ impl Progress {
             moves: self.moves,
             cut: self.cut,
             size: self.size,
+            unread,
+            holding,
         }
     }
 }

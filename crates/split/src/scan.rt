@@ -45,7 +45,7 @@ fn shifted(g: i32, lock: u16, side: u16, there: u16, left: u16, kind: u16) -> i3
     g
 }
 
-// One scan over the pins of its recipe; the locks of the files stand at the start of the scratch.
+// One scan over the pins of its recipe, whole: an unread file is locked, so that nothing of it changes. The locks of the files stand at the start of the scratch.
 fn scan_pins(gains: &mut [i32], sides: &[u16], scratch: &[u16], pins: &[u16], way: Way, kind: u16)
     requires { ⌜ way .side ≤ 1 ⌝ }
     requires { ⌜ allBelow (way .files) (now pins) ⌝ }

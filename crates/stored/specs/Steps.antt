@@ -16,9 +16,9 @@ use Rattle.rules.specs.Stored.{Room, word, valueIn, value, headerOf, blockCheck
 abbrev pub leftOver : List ℕ → ℕ → ℕ → Bool
 leftOver block n v = leb n v && not (eqb (valueIn block v) 0)
 
--- the second value of file f of a block of n values is over 3
+-- the second value of file f of a block of n values is over 5
 abbrev pub badSecond : List ℕ → ℕ → ℕ → Bool
-badSecond block n f = ltb (2 * f) n && ltb 3 (valueIn block (2 * f + 1))
+badSecond block n f = ltb (2 * f) n && ltb 5 (valueIn block (2 * f + 1))
 
 -- the check of a block, then its layout
 abbrev pub verdictOf : List ℕ → ℕ → ℕ → ℕ → Verdict

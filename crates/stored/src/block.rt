@@ -43,13 +43,13 @@ fn has_left_over(block: &[u8; 512], n: u8) -> bool
     false
 }
 
-// Whether a file of a block of n values has a second value over 3.
+// Whether a file of a block of n values has a second value over 5.
 fn has_bad_second(block: &[u8; 512], n: u8) -> bool
     ensures { λ r. ⌜ r ≡ someBelow (badSecond (now (block .entry)) n) 126 ⌝ }
 {
     let mut f: u8 = 0;
     while f < 126 {
-        if (2 * f < n) & (3 < value_in(block, 2 * f + 1)) {
+        if (2 * f < n) & (5 < value_in(block, 2 * f + 1)) {
             return true;
         }
         f += 1;

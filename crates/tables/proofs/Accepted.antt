@@ -10,11 +10,11 @@ use lib.IntN.{ℤ, pos}
 use borrow.Author.Tests.{eq-eqb, ne-eqb}
 use Rattle.rules.specs.declared.Verdict.{Verdict}
 use Rattle.rules.specs.Job.{Job, Limits, fileCount, recipeCount, pinCount, views, recipes, Lent, lentOf, fits}
-use Rattle.rules.specs.Split.{weight, smax, cut, sizeA}
+use Rattle.rules.specs.Split.{weight, smax, cut, sizeA, unreadFiles, unreadRecipes}
 use Rattle.rules.specs.Check.{_orElse_, check7, check8, check1to6}
 use Rattle.rules.specs.Theorems.{Binary, Sound}
 use Rattle.rules.proofs.Fits.{LongEnough, long-enough}
-use Rattle.rules.proofs.SoundJob.{sound, recipes-distinct}
+use Rattle.rules.proofs.SoundJob.{sound, views-distinct}
 use Rattle.rules.proofs.Verdicts.{zero-of, passes-both}
 use Rattle.rules.proofs.Proved.{lent-six}
 use Rattle.job.specs.declared.figures.Survey.{Survey}
@@ -45,7 +45,7 @@ module _ (balancing : Bool) (most : Limits) (job : Job) (word : Bool) where
   ]
 
   pub survey-is : checkFor balancing most job word .number ≡ 0
-      → surveyOf balancing most job word ≡ record { verdict = checkFor balancing most job word; weight = weight job; largest = smax job; size = sizeA job (job .sides); cut = cut (job .sides) (recipes job) }
+      → surveyOf balancing most job word ≡ record { verdict = checkFor balancing most job word; weight = weight job; largest = smax job; size = sizeA job (job .sides); cut = cut (job .sides) (recipes job); unread = unreadFiles job; holding = unreadRecipes job }
   unfolding surveyOf
   survey-is e = rw (eq-eqb (checkFor balancing most job word .number) 0 e, surveyOf)
 
@@ -87,7 +87,7 @@ buildable {most} {job} n s =
       rise = λ j h. omega (arith, s .two j h);
       last = s .last;
       files = s .pinsBelow;
-      distinct = recipes-distinct most job s;
+      distinct = views-distinct most job s;
       fewFiles = omega (arith, s .fewFiles, n .files);
       fewPins = omega (arith, s .fewPins, n .pins);
       fewRecipes = omega (arith, s .fewRecipes, n .recipes);

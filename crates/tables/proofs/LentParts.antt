@@ -1,5 +1,5 @@
 -- A part of a list lent and put back, and the zones of the scratch filled so one after the other. Assumes nothing.
-use mathlib.Core.Path.{_≡_, sym, ap, ap₂, _∙_}
+use mathlib.Core.Path.{_≡_, refl, sym, ap, ap₂, _∙_}
 use Prim.Native.Nat.{ℕ, _+_, _-_, _*_, _≤_, _<_}
 use mathlib.Core.List.{List, _++_}
 use native.Mathlib.Omega.{arith}
@@ -7,9 +7,9 @@ use lib.ListN.{length, getD, take, drop}
 use lib.Seq.{length-take-le, take-take, take-at, drop-at, drop-drop, take-all, getD-drop}
 use borrow.Rule.Slice.PartMut.{putMid, same-len-mid, take-put, drop-put}
 use Rattle.rules.specs.Move.{State}
-use Rattle.rules.specs.Split.{recipesOf}
+use Rattle.rules.specs.Split.{times, recipesOf}
 use Rattle.tables.specs.Zones.{cellsAt, startsAt, endsAt, roomAt, countsAt, sideAt, part, Cells, Counts}
-use Rattle.tables.specs.Building.{viewsOf, Buildable}
+use Rattle.tables.specs.Building.{readOf, Buildable}
 use Rattle.tables.specs.Filling.{startAt, endAt, startOf, Filled}
 use Rattle.tables.proofs.Parts.{part-length, part-entry, front-entry, front-part}
 use Rattle.tables.proofs.Filling.{start-within}
@@ -57,10 +57,10 @@ cells-same {rs} {c} {p} {z} {z'} same parts d =
     }
 
 -- the cells of a zone that is filled, in a list that has the zone where they begin
-module _ {bounds pins : List ℕ} {c : ℕ} (able : Buildable bounds pins c) (z : List ℕ) {y : List ℕ} (here : part (cellsAt c) (length pins + 2 * c) z ≡ y)
-    (s : Filled pins c (recipesOf (viewsOf bounds pins)) y) where
+module _ (marks : List ℕ) {bounds pins : List ℕ} {c : ℕ} (able : Buildable bounds pins c) (z : List ℕ) {y : List ℕ} (here : part (cellsAt c) (length pins + 2 * c) z ≡ y)
+    (s : Filled pins c (recipesOf (readOf marks bounds pins)) y) where
   abbrev mine : ℕ → List ℕ
-  mine = recipesOf (viewsOf bounds pins)
+  mine = recipesOf (readOf marks bounds pins)
 
   same : take (length pins + 2 * c) (drop (cellsAt c) z) ≡ take (length pins + 2 * c) y
   same = here ∙ sym (take-all (length pins + 2 * c) y (omega (arith, s .long)))
@@ -74,10 +74,13 @@ module _ {bounds pins : List ℕ} {c : ℕ} (able : Buildable bounds pins c) (z 
   ends-from : (f : ℕ) → f < c → getD z (endsAt c (length pins) + f) 0 ≡ startOf pins f + length (mine f)
   ends-from f h = entry (endAt c (length pins) f) _ (omega arith) (omega arith) ∙ s .ends f h
 
-  within : (f : ℕ) → f < c → startOf pins f + length (mine f) ≤ length pins
-  within f h = omega (arith, recipes-many bounds pins c able f, start-within c pins f (able .files) h)
+  pub spare-from : (f i : ℕ) → f < c → getD z (endsAt c (length pins) + f) 0 ≤ i → i < startOf pins f + times f pins → getD z (cellsAt c + i) 0 ≡ 0
+  spare-from f i h a b = entry i _ (omega (arith, start-within c pins f (able .files) h)) refl ∙ s .spare f i h (omega (arith, ends-from f h)) b
 
-  pub cells-from : Cells (viewsOf bounds pins) c (length pins) z
+  within : (f : ℕ) → f < c → startOf pins f + length (mine f) ≤ length pins
+  within f h = omega (arith, recipes-many marks bounds pins c able f, start-within c pins f (able .files) h)
+
+  pub cells-from : Cells (readOf marks bounds pins) c (length pins) z
   cells-from =
       record {
         order = λ f h. omega (arith, starts-from f h, ends-from f h);
@@ -245,10 +248,14 @@ module _ {c p n a b d e : ℕ} {z z₁ z₂ z₃ : List ℕ} (l : ThreeZones c p
       (ap₂ (λ (i j : ℕ). part i j all) (sym (g .counts)) k ∙ put-here d e two z₃ (third-in (l .before) .0) (third-in (l .before) .1) third-long)
 
 -- the cells, where the middle zone is filled
-module _ {bounds pins : List ℕ} {c n a b d e : ℕ} {z z₁ z₂ z₃ : List ℕ} (l : ThreeZones c (length pins) n a b d e z z₁ z₂ z₃) (able : Buildable bounds pins c)
-    (s : Filled pins c (recipesOf (viewsOf bounds pins)) z₂) where
+module _ (marks : List ℕ) {bounds pins : List ℕ} {c n a b d e : ℕ} {z z₁ z₂ z₃ : List ℕ} (l : ThreeZones c (length pins) n a b d e z z₁ z₂ z₃) (able : Buildable bounds pins c)
+    (s : Filled pins c (recipesOf (readOf marks bounds pins)) z₂) where
   pub zones-starts : (f : ℕ) → f < c → getD (threeZones a b d e z z₁ z₂ z₃) (startsAt c (length pins) + f) 0 ≡ startOf pins f
-  zones-starts = starts-from able (threeZones a b d e z z₁ z₂ z₃) (zones-middle l) s
+  zones-starts = starts-from marks able (threeZones a b d e z z₁ z₂ z₃) (zones-middle l) s
 
-  pub zones-cells : Cells (viewsOf bounds pins) c (length pins) (threeZones a b d e z z₁ z₂ z₃)
-  zones-cells = cells-from able (threeZones a b d e z z₁ z₂ z₃) (zones-middle l) s
+  pub zones-spare : (f i : ℕ) → f < c → getD (threeZones a b d e z z₁ z₂ z₃) (endsAt c (length pins) + f) 0 ≤ i → i < startOf pins f + times f pins
+      → getD (threeZones a b d e z z₁ z₂ z₃) (cellsAt c + i) 0 ≡ 0
+  zones-spare = spare-from marks able (threeZones a b d e z z₁ z₂ z₃) (zones-middle l) s
+
+  pub zones-cells : Cells (readOf marks bounds pins) c (length pins) (threeZones a b d e z z₁ z₂ z₃)
+  zones-cells = cells-from marks able (threeZones a b d e z z₁ z₂ z₃) (zones-middle l) s

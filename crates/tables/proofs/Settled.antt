@@ -5,7 +5,7 @@ use mathlib.Core.Bool.{Bool}
 use mathlib.Core.List.{List}
 use native.Mathlib.Omega.{arith}
 use native.Mathlib.Decide.{ℕ-discrete, decLt}
-use lib.ListN.{length, getD}
+use lib.ListN.{length, getD, List·getD-eq-default}
 use lib.Seq.{getD-drop, ext-getD}
 use lib.IntN.{ℤ}
 use Rattle.rules.specs.Job.{Job, Limits}
@@ -13,12 +13,11 @@ use Rattle.rules.specs.Split.{times, recipesOf}
 use Rattle.job.specs.declared.figures.Survey.{Survey}
 use Rattle.tables.specs.declared.lent.ListLengths.{ListLengths}
 use Rattle.tables.specs.Zones.{cellsAt, startsAt, endsAt, roomAt, countsAt, sideAt, part}
-use Rattle.tables.specs.Building.{viewsOf, Buildable}
+use Rattle.tables.specs.Building.{readOf, Buildable}
 use Rattle.tables.specs.Filling.{startOf}
 use Rattle.tables.specs.LayingOut.{Prepared, LaysOut}
 use Rattle.tables.proofs.Parts.{part-entry, part-length, front-entry}
 use Rattle.tables.proofs.Filling.{cell-of}
-use Rattle.tables.proofs.Placing.{recipes-many}
 use Rattle.tables.proofs.Accepted.{Narrow, let-through, fitWord, builders-ask}
 
 -- what holds below a, and at the next k, holds below their end
@@ -35,7 +34,7 @@ further P a k b h below next i l = elim (decLt i a) [
 module _ {bounds pins sides marks z₀ z : List ℕ} {g : List ℤ} {n : ℕ} (able : Buildable bounds pins (length sides)) (fits : startsAt (length sides) (length pins) ≤ length z₀)
     (d : Prepared bounds pins sides marks z₀ z g n) where
   abbrev mine : ℕ → List ℕ
-  mine f = recipesOf (viewsOf bounds pins) f
+  mine f = recipesOf (readOf marks bounds pins) f
 
   cells-long : (f : ℕ) → f < length sides → getD z (endsAt (length sides) (length pins) + f) 0 - getD z (startsAt (length sides) (length pins) + f) 0 ≡ length (mine f)
   cells-long f h =
@@ -47,12 +46,15 @@ module _ {bounds pins sides marks z₀ z : List ℕ} {g : List ℤ} {n : ℕ} (a
   end-is f h = omega (arith, cells-long f h, d .cells .order f h, d .starts f h)
 
   cell-is : (f i : ℕ) → f < length sides → startOf pins f ≤ i → i < startOf pins f + times f pins → getD z (cellsAt (length sides) + i) 0 ≡ getD (mine f) (i - startOf pins f) 0
-  cell-is f i h from to =
-      let e : cellsAt (length sides) + startOf pins f + (i - startOf pins f) ≡ cellsAt (length sides) + i = omega arith in
-      ap (λ (k : ℕ). getD z k 0) (sym e)
-      ∙ sym (part-entry (cellsAt (length sides) + startOf pins f) (length (mine f)) z (i - startOf pins f) (omega (arith, recipes-many bounds pins (length sides) able f)))
-      ∙ ap (λ (l : List ℕ). getD l (i - startOf pins f) 0)
-      (ap₂ (λ (a k : ℕ). part (cellsAt (length sides) + a) k z) (sym (d .starts f h)) (sym (cells-long f h)) ∙ d .cells .hold f h)
+  cell-is f i h from to = elim (decLt (i - startOf pins f) (length (mine f))) [
+    | yes l ↦
+        let e : cellsAt (length sides) + startOf pins f + (i - startOf pins f) ≡ cellsAt (length sides) + i = omega arith in
+        ap (λ (k : ℕ). getD z k 0) (sym e)
+        ∙ sym (part-entry (cellsAt (length sides) + startOf pins f) (length (mine f)) z (i - startOf pins f) l)
+        ∙ ap (λ (l : List ℕ). getD l (i - startOf pins f) 0)
+        (ap₂ (λ (a k : ℕ). part (cellsAt (length sides) + a) k z) (sym (d .starts f h)) (sym (cells-long f h)) ∙ d .cells .hold f h)
+    | no n ↦ d .spare f i h (omega (arith, end-is f h)) to ∙ sym (List·getD-eq-default (mine f) 0 {n = i - startOf pins f} (omega arith))
+  ]
 
 -- ---- two
 

@@ -1,29 +1,31 @@
 -- What stands before the first move of a pass, and the answer of the call that lays it out. Assumes nothing.
 use mathlib.Core.Path.{_≡_}
 use mathlib.Core.Logic.{_≢_}
-use Prim.Native.Nat.{ℕ, _+_, _*_, _<_}
+use Prim.Native.Nat.{ℕ, _+_, _*_, _≤_, _<_}
 use mathlib.Core.Bool.{Bool}
 use mathlib.Core.List.{List}
 use lib.ListN.{length, getD, take, drop}
 use lib.IntN.{ℤ}
 use Rattle.rules.specs.Job.{Job, Limits, recipeCount}
+use Rattle.rules.specs.Split.{times}
 use Rattle.rules.specs.Pass.{startGains}
 use Rattle.job.specs.declared.figures.Survey.{Survey}
 use Rattle.job.specs.Survey.{surveyOf}
-use Rattle.tables.specs.Zones.{startsAt, roomAt, countsAt, part, stateOf, Cells, Counts}
-use Rattle.tables.specs.Building.{viewsOf}
+use Rattle.tables.specs.Zones.{cellsAt, startsAt, endsAt, roomAt, countsAt, part, stateOf, Cells, Counts}
+use Rattle.tables.specs.Building.{readOf}
 use Rattle.tables.specs.Filling.{startOf}
 
--- what is built before the first move, in the scratch z that was z₀
+-- what is built before the first move, in the scratch z that was z₀; each file has room for as many cells as it has pins, and 0 in those that no readable recipe fills
 pub record Prepared (bounds pins sides marks z₀ z : List ℕ) (gains : List ℤ) (n : ℕ) : Type 0 where
   pub locks : take (length sides) z ≡ marks
   pub starts : (f : ℕ) → f < length sides → getD z (startsAt (length sides) (length pins) + f) 0 ≡ startOf pins f
-  pub cells : Cells (viewsOf bounds pins) (length sides) (length pins) z
+  pub cells : Cells (readOf marks bounds pins) (length sides) (length pins) z
+  pub spare : (f i : ℕ) → f < length sides → getD z (endsAt (length sides) (length pins) + f) 0 ≤ i → i < startOf pins f + times f pins → getD z (cellsAt (length sides) + i) 0 ≡ 0
   pub room : part (roomAt (length sides) (length pins)) (length sides) z ≡ part (roomAt (length sides) (length pins)) (length sides) z₀
-  pub counts : Counts (viewsOf bounds pins) (stateOf sides marks) (countsAt (length sides) (length pins)) n z
+  pub counts : Counts (readOf marks bounds pins) (stateOf sides marks) (countsAt (length sides) (length pins)) n z
   pub long : length z ≡ length z₀
   pub beyond : drop (countsAt (length sides) (length pins) + 4 * n) z ≡ drop (countsAt (length sides) (length pins) + 4 * n) z₀
-  pub starting : gains ≡ startGains (viewsOf bounds pins) (length sides) (stateOf sides marks)
+  pub starting : gains ≡ startGains (readOf marks bounds pins) (length sides) (stateOf sides marks)
 
 -- the check's answer, told whether the lent lists fit; refused, gains and scratch stay as they were, else they are prepared
 pub record LaysOut (balancing : Bool) (most : Limits) (job : Job) (word : Bool) (gains₀ : List ℤ) (z₀ : List ℕ) (gains : List ℤ) (z : List ℕ) (s : Survey) : Type 0 where

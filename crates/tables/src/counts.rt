@@ -6,25 +6,29 @@ ghost use Rattle.rules.specs.Pass.{startGains};
 ghost use Rattle.rules.specs.Theorems.{Binary};
 ghost use Rattle.rules.specs.Move.{lockedOn};
 ghost use Rattle.tables.specs.Zones.{countsAt, extentOf, stateOf, Cells, Counts};
-ghost use Rattle.tables.specs.Building.{viewsOf, Buildable};
+ghost use Rattle.tables.specs.Building.{readOf, readable, Buildable};
 ghost use Rattle.tables.specs.Counting.{countedSide, counted, gainBy, startGain};
+use super::scanned::scanned;
 use super::zones::Extent;
 use super::zones::side_at;
 use super::zones::zones_of;
 use job::bit;
 use job::count_on;
 use job::entry_at;
+use job::read_on;
+use job::view;
 use job::wide;
 
-// How many files of the recipe are on side u and locked.
+// How many readable files of the recipe are on side u and locked.
 fn locked_on(recipe: &[u16], sides: &[u16], locks: &[u16], u: u16) -> usize
-    ensures { λ r. ⌜ r ≡ lockedOn (stateOf (now (sides .entry)) (now (locks .entry))) u (now (recipe .entry)) ⌝ }
+    ensures { λ r. ⌜ r ≡ lockedOn (stateOf (now (sides .entry)) (now (locks .entry))) u (readable (now (locks .entry)) (now (recipe .entry))) ⌝ }
 {
     let mut n = 0;
     let mut k = 0;
     while k < recipe.len() {
         let f = wide(recipe[k]);
-        n += bit((entry_at(sides, f) == u) & (entry_at(locks, f) != 0));
+        let lock = entry_at(locks, f);
+        n += bit((lock != 2) & ((entry_at(sides, f) == u) & (lock != 0)));
         k += 1;
     }
     n
@@ -41,22 +45,22 @@ fn count_side(
     n: usize,
 )
     requires { ⌜ (length (now recipe) < 65536) × (n < 65536) × (at + 2 * n < length (now zone)) ⌝ }
-    ensures { λ _. ⌜ now (zone .exit) ≡ countedSide (stateOf (now (sides .entry)) (now (locks .entry))) n u at (now (recipe .entry)) (now (zone .entry)) ⌝ }
+    ensures { λ _. ⌜ now (zone .exit) ≡ countedSide (stateOf (now (sides .entry)) (now (locks .entry))) n u at (readable (now (locks .entry)) (now (recipe .entry))) (now (zone .entry)) ⌝ }
 {
-    zone[at] = count_on(recipe, sides, u) as u16;
+    zone[at] = read_on(recipe, sides, locks, u) as u16;
     zone[at + 2 * n] = locked_on(recipe, sides, locks, u) as u16;
 }
 
 // The counts of recipe j, for each side.
 fn count_recipe(zone: &mut [u16], sides: &[u16], locks: &[u16], recipe: &[u16], j: usize, n: usize)
     requires { ⌜ (length (now recipe) < 65536) × (j < n) × (n < 65536) × (length (now zone) ≡ 4 * n) ⌝ }
-    ensures { λ _. ⌜ now (zone .exit) ≡ counted (stateOf (now (sides .entry)) (now (locks .entry))) n j (now (recipe .entry)) (now (zone .entry)) ⌝ }
+    ensures { λ _. ⌜ now (zone .exit) ≡ counted (stateOf (now (sides .entry)) (now (locks .entry))) n j (readable (now (locks .entry)) (now (recipe .entry))) (now (zone .entry)) ⌝ }
 {
     count_side(zone, sides, locks, recipe, 0, j, n);
     count_side(zone, sides, locks, recipe, 1, n + j, n);
 }
 
-// The zone is 4N counts: files on A, on B, locked on A, locked on B.
+// The zone is 4N counts of readable files: on A, on B, locked on A, locked on B.
 pub(crate) fn fill_counts(
     zone: &mut [u16],
     sides: &[u16],
@@ -67,13 +71,12 @@ pub(crate) fn fill_counts(
 )
     requires { ⌜ Buildable (now bounds) (now pins) (length (now sides)) ⌝ }
     requires { ⌜ (n ≡ length (now bounds) - 1) × (length (now zone) ≡ 4 * n) ⌝ }
-    ensures { λ _. ⌜ Counts (viewsOf (now (bounds .entry)) (now (pins .entry))) (stateOf (now (sides .entry)) (now (locks .entry))) 0 n (now (zone .exit)) ⌝ }
+    ensures { λ _. ⌜ Counts (readOf (now (locks .entry)) (now (bounds .entry)) (now (pins .entry))) (stateOf (now (sides .entry)) (now (locks .entry))) 0 n (now (zone .exit)) ⌝ }
 {
     let mut j = 0;
     while j < n {
-        let a = wide(bounds[j]);
-        let b = wide(bounds[j + 1]);
-        count_recipe(zone, sides, locks, &pins[a..b], j, n);
+        let own = scanned(view(bounds, pins, j), locks);
+        count_recipe(zone, sides, locks, own, j, n);
         j += 1;
     }
 }
@@ -112,7 +115,7 @@ fn start_gain(
     )
 }
 
-// Each free file's gain, from its cells and their counts; a pinned file holds 0.
+// Each free file's gain, from its cells and their counts; a pinned or unread file holds 0.
 pub(crate) fn start_gains(
     gains: &mut [i32],
     sides: &[u16],
@@ -126,9 +129,9 @@ pub(crate) fn start_gains(
     requires { ⌜ (length (now gains) ≡ length (now sides)) × (length (now marks) ≡ length (now sides)) × (extent ≡ extentOf (length (now sides)) (length (now bounds) - 1) (length (now pins))) ⌝ }
     requires { ⌜ countsAt (length (now sides)) (length (now pins)) + 4 * (length (now bounds) - 1) ≤ length (now scratch) ⌝ }
     requires { ⌜ Binary (now sides) ⌝ }
-    requires { ⌜ Cells (viewsOf (now bounds) (now pins)) (length (now sides)) (length (now pins)) (now scratch) ⌝ }
-    requires { ⌜ Counts (viewsOf (now bounds) (now pins)) (stateOf (now sides) (now marks)) (countsAt (length (now sides)) (length (now pins))) (length (now bounds) - 1) (now scratch) ⌝ }
-    ensures { λ _. ⌜ now (gains .exit) ≡ startGains (viewsOf (now (bounds .entry)) (now (pins .entry))) (length (now (sides .entry))) (stateOf (now (sides .entry)) (now (marks .entry))) ⌝ }
+    requires { ⌜ Cells (readOf (now marks) (now bounds) (now pins)) (length (now sides)) (length (now pins)) (now scratch) ⌝ }
+    requires { ⌜ Counts (readOf (now marks) (now bounds) (now pins)) (stateOf (now sides) (now marks)) (countsAt (length (now sides)) (length (now pins))) (length (now bounds) - 1) (now scratch) ⌝ }
+    ensures { λ _. ⌜ now (gains .exit) ≡ startGains (readOf (now (marks .entry)) (now (bounds .entry)) (now (pins .entry))) (length (now (sides .entry))) (stateOf (now (sides .entry)) (now (marks .entry))) ⌝ }
 {
     let zones = zones_of(extent);
     let n = wide(extent.recipes);

@@ -3,6 +3,7 @@ mod cells;
 mod counts;
 mod ending;
 mod lent;
+mod scanned;
 mod start;
 mod zones;
 

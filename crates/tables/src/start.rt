@@ -52,7 +52,7 @@ pub(crate) fn prepare(
     let counts = zones.counts;
     let end = counts + 4 * n;
     copy(&mut scratch[0..cells], marks);
-    build_cells(&mut scratch[cells..room], bounds, pins, sides.len());
+    build_cells(&mut scratch[cells..room], marks, bounds, pins, sides.len());
     fill_counts(&mut scratch[counts..end], sides, marks, bounds, pins, n);
     start_gains(gains, sides, marks, scratch, bounds, pins, extent);
 }

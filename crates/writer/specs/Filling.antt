@@ -13,11 +13,11 @@ use Rattle.rules.specs.Theorems.{Binary}
 abbrev pub jobWith : Header → List ℕ → List ℕ → List ℕ → List ℕ → List ℕ → Job
 jobWith h sizes sides marks bounds pins = asJob sizes sides marks bounds pins (h .num) (h .den) (h .cap)
 
--- h is the job's header, and a file's second value is not over 3
+-- h is the job's header, and a file's second value is not over 5
 pub record Writable (h : Header) (job : Job) : Type 0 where
   pub header : h ≡ headerFor job
   pub sides : Binary (job .sides)
-  pub marks : (f : ℕ) → getD (job .marks) f 0 ≤ 1
+  pub marks : (f : ℕ) → getD (job .marks) f 0 ≤ 2
 
 -- two bytes from byte i on
 abbrev pub withWord : List ℕ → ℕ → ℕ → List ℕ

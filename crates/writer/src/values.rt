@@ -22,7 +22,7 @@ fn figure(h: Header, v: u8) -> u16
 
 // Value v of file f: its size, and then side + 2·mark.
 fn file_value(sizes: &[u16], sides: &[u16], marks: &[u16], f: usize, v: u8) -> u16
-    requires { ⌜ Binary (now sides) × ((f : _) → getD (now marks) f 0 ≤ 1) ⌝ }
+    requires { ⌜ Binary (now sides) × ((f : _) → getD (now marks) f 0 ≤ 2) ⌝ }
     ensures { λ r. ⌜ r ≡ fileValue (ofFiles (now (sizes .entry)) (now (sides .entry)) (now (marks .entry))) f v ⌝ }
 {
     if v == 0 {

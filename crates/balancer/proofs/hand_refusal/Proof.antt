@@ -16,6 +16,9 @@ slice-aggregate-balanced c = search needs
 slice-aggregate-balanced-2 : tie.Need-slice-aggregate-balanced-2
 slice-aggregate-balanced-2 c = search needs
 
+slice-aggregate-balanced-3 : tie.Need-slice-aggregate-balanced-3
+slice-aggregate-balanced-3 c = search needs
+
 balanced-requires : tie.Need-balanced-requires
 balanced-requires c κs = search needs
 
@@ -24,12 +27,12 @@ same-length c = search needs
 
 returns : tie.Need-returns
 returns c =
-    let start = c .before .before .before .before .before .before .before .before in
+    let start = c .before .before .before .before .before .before .before .before .before in
     let room = start .args .room .now in
     let text = refusal (start .args .verdict) in
     let t = c .before .before .before .balanced in
-    let e = t .ensures .0 ∙ balance-refusal (limitsOf _ _ _ _) _ _ _ room (start .pre) in
-    (hand-text true text room _ (t .result) e, λ long. into-number text room _ (t .result) e (t .ensures .1 refl (omega (arith, long))))
+    let e = t .ensures .0 ∙ balance-refusal (limitsOf _ _ _ _) _ _ _ _ room (start .pre) in
+    (hand-text true text room _ (t .result) e, λ long. into-number text room _ (t .result) e (t .ensures .1 refl refl (omega (arith, long))))
 
 pub hand-refusal-spec : {M : Type 1} → statement M
 hand-refusal-spec =
@@ -37,6 +40,7 @@ hand-refusal-spec =
     (tie.spec
     slice-aggregate-balanced
     slice-aggregate-balanced-2
+    slice-aggregate-balanced-3
     balanced-requires
     same-length
     returns)

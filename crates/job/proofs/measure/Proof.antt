@@ -1,5 +1,6 @@
 use mathlib.Core.Path.{_∙_}
-use Rattle.rules.specs.Job.{views}
+use Rattle.rules.specs.Job.{views, readIn, recipes}
+use Rattle.rules.specs.Split.{unreadRecipes}
 use Rattle.rules.proofs.Verdicts.{zero-of}
 use Rattle.rules.proofs.SoundJob.{sound}
 use Rattle.job.specs.Totals.{totalsOf}
@@ -22,12 +23,16 @@ totals-of-requires c κs =
 cut-requires : tie.Need-cut-requires
 cut-requires c κs = search needs
 
+holding-requires : tie.Need-holding-requires
+holding-requires c κs = search needs
+
 returns-2 : tie.Need-returns-2
-unfolding totalsOf views
+unfolding totalsOf recipes readIn views unreadRecipes
 returns-2 c =
-    measure-done _ _ (c .before .before .before .before .check1to6 .ensures ∙ lists-only _ _ _) _ _
-    (c .before .before .if1 .left) (c .cut .ensures) (c .before .totals-of .ensures .is)
+    let t = c .before .before in
+    measure-done _ _ (t .before .before .before .check1to6 .ensures ∙ lists-only _ _ _) _ _ _
+    (t .before .if1 .left) (c .before .cut .ensures) (c .holding .ensures) (t .totals-of .ensures .is)
 
 pub measure-spec : {M : Type 1} → statement M
 measure-spec =
-    tie.close (tie.spec check1to6-requires returns totals-of-requires cut-requires returns-2)
+    tie.close (tie.spec check1to6-requires returns totals-of-requires cut-requires holding-requires returns-2)

@@ -1,6 +1,7 @@
 use mathlib.Core.Path.{refl, _∙_}
 use native.Mathlib.Omega.{arith}
-use Rattle.rules.specs.Job.{views}
+use Rattle.rules.specs.Job.{views, readIn, recipes}
+use Rattle.rules.specs.Split.{unreadRecipes}
 use Rattle.rules.proofs.Verdicts.{chain-stop, chain-go, zero-of}
 use Rattle.rules.proofs.SoundJob.{sound}
 use Rattle.job.specs.Totals.{totalsOf}
@@ -39,14 +40,17 @@ returns-2 c =
 cut-requires : tie.Need-cut-requires
 cut-requires c κs = search needs
 
+holding-requires : tie.Need-holding-requires
+holding-requires c κs = search needs
+
 returns-3 : tie.Need-returns-3
-unfolding totalsOf views
+unfolding totalsOf recipes readIn views unreadRecipes
 returns-3 c =
-    let t = c .before .before .before .before in
+    let t = c .before .before .before .before .before in
     survey-done _ _ _ _
     (chain-go (t .before .before .before .check1to6 .ensures ∙ lists-only _ _ _) (t .before .if1 .left)
-    (c .before .before .before .check7to9 .ensures _ (record { job-is = refl; totals = t .totals-of .ensures .is })))
-    _ _ (c .before .if2 .left) (c .cut .ensures) (t .totals-of .ensures .is)
+    (c .before .before .before .before .check7to9 .ensures _ (record { job-is = refl; totals = t .totals-of .ensures .is })))
+    _ _ _ (c .before .before .if2 .left) (c .before .cut .ensures) (c .holding .ensures) (t .totals-of .ensures .is)
 
 pub survey-spec : {M : Type 1} → statement M
 survey-spec =
@@ -58,4 +62,5 @@ survey-spec =
     check7to9-requires
     returns-2
     cut-requires
+    holding-requires
     returns-3)

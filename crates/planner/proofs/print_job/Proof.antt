@@ -86,7 +86,8 @@ print-with-requires c κs =
     let n = start .args .h .files in
     let sizes = length-take-le n (start .args .sizes .now) (start .pre .0 .0) in
     let sides = length-take-le n (start .args .sides .now) (start .pre .0 .1) in
-    ((omega (arith, start .pre .1 .0, sizes), sides ∙ sym sizes), (own-lent most (take n (start .args .sizes .now)) n sizes (start .pre .1 .0), start .pre .1 .1))
+    let marks = length-take-le n (start .args .marks .now) (start .pre .0 .2) in
+    ((omega (arith, start .pre .1 .0, sizes), sides ∙ sym sizes, marks ∙ sym sizes), (own-lent most (take n (start .args .sizes .now)) n sizes (start .pre .1 .0), start .pre .1 .1))
 
 same-length : tie.Need-same-length
 same-length c = search needs

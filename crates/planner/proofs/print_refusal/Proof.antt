@@ -17,6 +17,9 @@ slice-aggregate-report c = search needs
 slice-aggregate-report-2 : tie.Need-slice-aggregate-report-2
 slice-aggregate-report-2 c = search needs
 
+slice-aggregate-report-3 : tie.Need-slice-aggregate-report-3
+slice-aggregate-report-3 c = search needs
+
 report-requires : tie.Need-report-requires
 report-requires c κs = search needs
 
@@ -25,10 +28,10 @@ same-length c = search needs
 
 returns : tie.Need-returns
 returns c =
-    let start = c .before .before .before .before .before .before .before .before in
+    let start = c .before .before .before .before .before .before .before .before .before in
     let r = c .before .before .report .ensures in
-    let e = refusal-told (limitsOf _ _ _ _) _ _ (start .args .out .now) (r .0) (c .before .before .before .before .before .before .refused .ensures) (start .pre) in
-    (e, λ long. into-number (refusal (start .args .verdict)) (start .args .out .now) _ _ e (r .1 refl (omega (arith, long))))
+    let e = refusal-told (limitsOf _ _ _ _) _ _ _ (start .args .out .now) (r .0) (c .before .before .before .before .before .before .before .refused .ensures) (start .pre) in
+    (e, λ long. into-number (refusal (start .args .verdict)) (start .args .out .now) _ _ e (r .1 refl refl (omega (arith, long))))
 
 pub print-refusal-spec : {M : Type 1} → statement M
 print-refusal-spec =
@@ -37,6 +40,7 @@ print-refusal-spec =
     refused-requires
     slice-aggregate-report
     slice-aggregate-report-2
+    slice-aggregate-report-3
     report-requires
     same-length
     returns)

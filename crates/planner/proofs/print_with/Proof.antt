@@ -24,7 +24,7 @@ same-length-2 : tie.Need-same-length-2
 same-length-2 c = search (needs, c .before .before .before .before .before .before .before .before .before .before .before .before .before .before .before .before .before .before .before .before .before .before .before .before .before .before .gains .given)
 
 same-length-3 : tie.Need-same-length-3
-same-length-3 c = search needs
+same-length-3 c = search (needs, c .before .before .before .before .before .before .before .before .before .before .before .before .before .before .before .before .before .before .before .before .before .before .before .before .before .tried .given)
 
 same-length-4 : tie.Need-same-length-4
 same-length-4 c = search needs
@@ -55,7 +55,7 @@ returns c =
     let e = pass-printed (limitsOf _ _ _ _) (asJob _ _ _ _ _ _ _ _) _ _ _ _ _ _ _ (c .before .before .before .before .before .before .before .before .before .before .before .before .before .before .before .before .before .before .before .before .before .before .before .before .before .before .before .before .before .pass-once .ensures) (start .pre .1 .0) (t .0) in
     let p = c .before .before .before .trace .result in (
       told-out false p _ (c .for-stream .ensures) (trace-out (start .args .what) (limitsOf _ _ _ _) (asJob _ _ _ _ _ _ _ _) (start .args .out .now) _ p q (e .0)),
-      λ long. told-number false p (c .for-stream .ensures) (e .1 (t .1 (e .3 ∙ start .pre .0 .1) (e .2) (omega (arith, trace-room (start .args .what) _ _ _ _ q long, e .4, start .pre .0 .0)))),
+      λ long. told-number false p (c .for-stream .ensures) (e .1 (t .1 (e .3 ∙ start .pre .0 .1) (start .pre .0 .2) (e .2) (omega (arith, trace-room (start .args .what) _ _ _ _ q long, e .4, start .pre .0 .0)))),
     )
 
 run-requires : tie.Need-run-requires
@@ -64,7 +64,7 @@ run-requires c κs = search needs
 tell-run-requires : tie.Need-tell-run-requires
 tell-run-requires c κs =
     let start = c .before .before .before .before .before .before .before .before .before .before .before .before .before .before .before .before .before .before .before .before .before .before .before .before .before .before .before .before .before .before .before .before .before .before .before .before .before .before .before .before .before in (
-      after-run (limitsOf _ _ _ _) (asJob _ _ _ _ _ _ _ _) _ _ _ _ (c .before .before .before .before .before .before .before .before .before .before .before .before .before .before .before .before .before .before .run .ensures) (start .pre .1 .0) (start .args .bytes) (start .pre .1 .1 .0) (omega (arith, c .before .before .before .before .before .before .before .before .before .before .before .before .before .before .before .before .before .sides2 .given, start .pre .0 .1)) (start .pre .0 .0),
+      after-run (limitsOf _ _ _ _) (asJob _ _ _ _ _ _ _ _) _ _ _ _ (c .before .before .before .before .before .before .before .before .before .before .before .before .before .before .before .before .before .before .run .ensures) (start .pre .1 .0) (start .args .bytes) (start .pre .1 .1 .0) (omega (arith, c .before .before .before .before .before .before .before .before .before .before .before .before .before .before .before .before .before .sides2 .given, start .pre .0 .1)) (start .pre .0 .2) (start .pre .0 .0),
       start .pre .1 .1 .1,
     )
 

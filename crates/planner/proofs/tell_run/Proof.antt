@@ -1,8 +1,5 @@
 use mathlib.Core.Path.{ap, sym, _∙_}
-use mathlib.Core.Bool.{Bool, cond}
-use Prim.Native.Nat.{ℕ, _≤_}
 use native.Mathlib.Omega.{arith}
-use lib.ListN.{length}
 use Rattle.rules.specs.Job.{Job, limitsOf}
 use Rattle.rules.specs.Writing.{HandedOut, handInto}
 use Rattle.job.specs.Parts.{wholeJob}
@@ -49,7 +46,7 @@ returns-2 c =
     let t = told-run (limitsOf _ _ _ _) (a .answer) job (a .bytes) (start .pre .0) (a .stored) (c .before .before .before .before .before .if1 .left) (c .before .before .before .report .result) (a .out .now) _ (r .0) in
     let p = c .before .before .before .report .result in (
       told-out (a .stored) p _ s (t .0),
-      λ long. told-number (a .stored) p s (t .1 (r .1 (start .pre .0 .sidesLong) (omega (arith, told-room (a .stored) _ _ _ long (omega arith), start .pre .0 .sidesLong, start .pre .0 .fewFiles)))),
+      λ long. told-number (a .stored) p s (t .1 (r .1 (start .pre .0 .sidesLong) (start .pre .0 .marksLong) (omega (arith, told-room (a .stored) _ _ _ long (omega arith), start .pre .0 .sidesLong, start .pre .0 .fewFiles)))),
     )
 
 pub tell-run-spec : {M : Type 1} → statement M

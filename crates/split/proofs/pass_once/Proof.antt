@@ -23,7 +23,7 @@ use Rattle.split.proofs.OneMove.{steps-move}
 use Rattle.split.proofs.Played.{same-below, file-fits, count-fits, place-fits, gain-place-fits, one-less, Chose, under-long, sides-stay, gains-stay, choosable, playing-next, playing-safe, playing-fits, playing-more, playing-goes, playing-end}
 use Rattle.split.proofs.PassMoves.{passMoves, PassUnderway, pass-frees, pass-chose, pass-gain}
 use Rattle.split.proofs.PassOnce.{first-under, few-numbers, extent-known, pass-ends}
-use Rattle.split.proofs.Accepting.{Accepting, accepting, cut-is, begins-as, sums-small, playable, pass-refused, pass-done}
+use Rattle.split.proofs.Accepting.{Accepting, accepting, cut-is, unread-is, begins-as, sums-small, playable, pass-refused, pass-done}
 use Rattle.split.proofs.pass_once.Statement.{statement}
 use Rattle.split.proofs.pass_once.Tie as tie
 
@@ -266,7 +266,7 @@ returns-2 c =
     let known = survey (here (last c)) in
     let clear = clear (last c .before) in
     pass-done known clear
-    (pass-ends (now (last c) .playable) (over c) (cut-is known clear) (c .figures .ensures) (moved c .end-moves .ensures) (extent-known (c .before .before .before .before .before .before .before .before .before .before .before .extent-of .ensures)) (scans c .end-scans .ensures))
+    (pass-ends (now (last c) .playable) (over c) (cut-is known clear) (unread-is known clear) (c .figures .ensures) (moved c .end-moves .ensures) (extent-known (c .before .before .before .before .before .before .before .before .before .before .before .extent-of .ensures)) (scans c .end-scans .ensures))
 
 -- its entries
 module _ (i : tie.Else2 Inv-loop μ-loop) where

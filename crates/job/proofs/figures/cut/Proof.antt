@@ -1,19 +1,22 @@
-use mathlib.Core.Path.{ap, _∙_}
-use Prim.Native.Nat.{_-_}
+use mathlib.Core.Path.{ap, sym, _∙_}
+use Prim.Native.Nat.{ℕ, _-_}
+use mathlib.Core.Bool.{Bool}
+use mathlib.Core.List.{List, map}
 use native.Mathlib.Omega.{arith}
-use Rattle.rules.specs.Lists.{bit, count}
-use Rattle.rules.specs.Job.{viewOf, views}
+use Rattle.rules.specs.Lists.{bit, count, upTo}
+use Rattle.rules.specs.Job.{viewOf, views, readIn, recipes}
 use Rattle.rules.specs.Split.{isCut, cut}
-use Rattle.rules.proofs.Count.{count-mapped, Summed, summed-none, summed-bit, summed-end}
+use Rattle.rules.proofs.Count.{total-map, count-mapped, Summed, summed-none, summed-bit, summed-end}
+use Rattle.job.specs.Parts.{ofMarks}
 use borrow.Author.Needs.{needs}
 use Rattle.job.proofs.figures.cut.Statement.{statement}
 use Rattle.job.proofs.figures.cut.Tie as tie
 
 abbrev Inv-loop : tie.InvT-loop
-Inv-loop sides bounds pins n x₀ j₀ x j = Summed (λ k. bit (isCut sides (viewOf bounds pins k))) 1 n j x
+Inv-loop sides marks bounds pins n x₀ j₀ x j = Summed (λ k. bit (isCut sides (readIn (ofMarks marks) (viewOf bounds pins k)))) 1 n j x
 
 abbrev μ-loop : tie.MeasureT-loop
-μ-loop sides bounds pins n x₀ j₀ x j = n - j
+μ-loop sides marks bounds pins n x₀ j₀ x j = n - j
 
 recipe-count-requires : tie.Need-recipe-count-requires Inv-loop μ-loop
 recipe-count-requires c κs = search needs
@@ -42,18 +45,22 @@ loop-less c = search needs
 loop-again : tie.Need-loop-again Inv-loop μ-loop
 loop-again c =
     let l = c .before .before .before .before in
-    let a = l .before .before .before .before .before .args in
-    summed-bit (λ k. isCut (a .sides .now) (viewOf (a .bounds .now) (a .pins .now) k)) (l .loop .inv) (omega arith)
-    (c .bit .ensures .0 ∙ ap bit (c .before .is-cut .ensures ∙ ap (isCut (a .sides .now)) (c .before .before .view .ensures)))
+    let a = l .before .before .before .before .before .before .args in
+    let seen : List ℕ → Bool = λ r. isCut (a .sides .now) (readIn (ofMarks (a .marks .now)) r) in
+    summed-bit (λ k. seen (viewOf (a .bounds .now) (a .pins .now) k)) (l .loop .inv) (omega arith)
+    (c .bit .ensures .0 ∙ ap bit (c .before .is-cut .ensures ∙ ap seen (c .before .before .view .ensures)))
 
 returns : tie.Need-returns Inv-loop μ-loop
-unfolding cut views count
+unfolding cut recipes views readIn count
 returns c =
     let n = c .before .before in
-    let a = n .before .before .before .before .args in
+    let a = n .before .before .before .before .before .args in
+    let read = readIn (ofMarks (a .marks .now)) in
+    let view = viewOf (a .bounds .now) (a .pins .now) in
     rw (← n .recipe-count .ensures)
     (summed-end (c .before .loop .inv) (omega arith)
-    ∙ count-mapped (isCut (a .sides .now)) (viewOf (a .bounds .now) (a .pins .now)) (n .recipe-count .result))
+    ∙ count-mapped (λ r. isCut (a .sides .now) (read r)) view (n .recipe-count .result)
+    ∙ sym (total-map (λ r. bit (isCut (a .sides .now) r)) read (map view (upTo (n .recipe-count .result)))))
 
 pub cut-spec : {M : Type 1} → statement M
 cut-spec =

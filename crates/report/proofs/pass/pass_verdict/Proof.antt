@@ -31,7 +31,7 @@ refuse-if-requires c κs = search needs
 returns-2 : tie.Need-returns-2
 unfolding passVerdict
 returns-2 c =
-    let a = c .before .before .before .before .before .before .before .before .before .before .before .before .before .before .args in
+    let a = c .before .before .before .before .before .before .before .before .before .before .before .before .before .before .before .args in
     let lists = listingOf (a .gains .now) (a .tried .now) (a .gained .now) (a .cuts .now) (a .ends .now) (a .recipes .now) (a .kinds .now) in
     let held = held-is (a .sizes .now) (a .answer) lists (c .before .before .before .holds-files .ensures) (c .before .before .holds-moves .ensures) (c .before .holds-scans .ensures) in
     chain-go (c .before .before .before .before .before .before .lengths-verdict .ensures) (c .before .before .before .before .if1 .left) (c .refuse-if .ensures ∙ ap (λ (b : Bool). refuseIf (not b) 3 0) held)

@@ -13,19 +13,19 @@ use Rattle.split.specs.Moving.{treatFrom}
 use Rattle.split.proofs.Playable.{Playable}
 use Rattle.split.proofs.PassOnce.{few-numbers, extent-known}
 use Rattle.split.proofs.Played.{same-below, one-less, under-long, sides-stay, gains-stay, choosable}
-use Rattle.split.proofs.Accepting.{Accepting, begins-as, sums-small, playable}
+use Rattle.split.proofs.Accepting.{Accepting, unread-is, begins-as, sums-small, playable}
 use Rattle.split.proofs.Balanced.{BalanceUnderway, balance-first, balance-safe, balance-fits, balance-early, balance-more, balance-goes, balance-ends, ownLent, own-accepting, balance-refused, balance-done}
 use Rattle.split.proofs.balancing.balance_with.Statement.{statement}
 use Rattle.split.proofs.balancing.balance_with.Tie as tie
 
 abbrev Inv-loop : tie.InvT-loop
-Inv-loop sizes sides₀ marks bounds pins gains₀ recipes₀ kinds₀ scratch₀ c window p₀ sides gains recipes kinds scratch p =
+Inv-loop sizes sides₀ marks bounds pins gains₀ recipes₀ kinds₀ scratch₀ c s window p₀ sides gains recipes kinds scratch p =
     (figures : Figures) (l : Lent)
     → BalanceUnderway (wholeJob figures sizes sides₀ marks bounds pins) l window sides₀ (treated scratch₀ gains₀ recipes₀ kinds₀ p₀)
     → BalanceUnderway (wholeJob figures sizes sides₀ marks bounds pins) l window sides (treated scratch gains recipes kinds p)
 
 abbrev μ-loop : tie.MeasureT-loop
-μ-loop sizes sides₀ marks bounds pins gains₀ recipes₀ kinds₀ scratch₀ c window p₀ sides gains recipes kinds scratch p = length sizes - p .moves
+μ-loop sizes sides₀ marks bounds pins gains₀ recipes₀ kinds₀ scratch₀ c s window p₀ sides gains recipes kinds scratch p = length sizes - p .moves
 
 abbrev At : Type 0
 At = tie.At-loop Inv-loop μ-loop
@@ -203,7 +203,7 @@ returns-2 c =
     let a = s t .args in
     let k = chosen c in
     balance-done (known t .0) (job t) (a .gains .now) (a .recipes .now) (a .kinds .now) (a .scratch .now) (s t .pre) (survey t) (clear (last c .before))
-    (balance-ends (now (last c)) (k .before .before .before .before .heavy-side .ensures) (k .greatest-on .ensures) (c .before .before .before .before .before .before .before .before .before .before .before .before .if2 .taken) (c .balanced .ensures)
+    (balance-ends (now (last c)) (k .before .before .before .before .heavy-side .ensures) (k .greatest-on .ensures) (c .before .before .before .before .before .before .before .before .before .before .before .before .if2 .taken) (unread-is (survey t) (clear (last c .before))) (c .balanced .ensures)
     (extent-known (c .before .before .before .before .before .before .before .before .before .before .before .extent-of .ensures) .1) (scans c .end-scans .ensures .2))
 
 treat-move-requires : tie.Need-treat-move-requires Inv-loop μ-loop

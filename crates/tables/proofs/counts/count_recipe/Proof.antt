@@ -4,6 +4,7 @@ use mathlib.Core.List.{List}
 use Prim.Native.Nat.{ℕ, _+_}
 use borrow.Author.Needs.{needs}
 use Rattle.tables.specs.Zones.{stateOf}
+use Rattle.tables.specs.Building.{readable}
 use Rattle.tables.specs.Counting.{countedSide, counted}
 use Rattle.tables.proofs.counts.count_recipe.Statement.{statement}
 use Rattle.tables.proofs.counts.count_recipe.Tie as tie
@@ -25,7 +26,7 @@ unfolding counted
 returns c =
     let b = c .before .before in
     let x = c .before .before .before .before .before .before .before .before .before .before .before .before .args in
-    b .count-side2 .ensures ∙ ap (λ (z : List ℕ). countedSide (stateOf (x .sides .now) (x .locks .now)) (x .n) 1 (x .n + x .j) (x .recipe .now) z) (b .before .before .before .before .count-side .ensures)
+    b .count-side2 .ensures ∙ ap (λ (z : List ℕ). countedSide (stateOf (x .sides .now) (x .locks .now)) (x .n) 1 (x .n + x .j) (readable (x .locks .now) (x .recipe .now)) z) (b .before .before .before .before .count-side .ensures)
 
 pub count-recipe-spec : {M : Type 1} → statement M
 count-recipe-spec =

@@ -1,5 +1,5 @@
 -- `counts::locked_on` meets its contract. The invariant: n is the count of the first k files. Assumes nothing.
-use mathlib.Core.Path.{ap, ap₂, _∙_}
+use mathlib.Core.Path.{sym, ap, ap₂, _∙_}
 use Prim.Native.Nat.{ℕ, _-_}
 use mathlib.Core.Bool.{Bool, not, _&&_}
 use mathlib.Core.List.{List}
@@ -7,16 +7,19 @@ use lib.ListN.{length, getD}
 use lib.Dec.{eqb}
 use borrow.Author.Needs.{needs}
 use Rattle.rules.specs.Lists.{bit}
+use Rattle.rules.specs.Job.{isRead}
 use Rattle.rules.specs.Split.{onSide}
 use Rattle.rules.specs.Move.{free, lockedOn}
 use Rattle.rules.proofs.Count.{Summed, summed-none, summed-bit, summed-entries}
+use Rattle.rules.proofs.Readable.{count-those}
+use Rattle.job.specs.Parts.{ofMarks}
 use Rattle.tables.specs.Zones.{stateOf}
 use Rattle.tables.proofs.counts.locked_on.Statement.{statement}
 use Rattle.tables.proofs.counts.locked_on.Tie as tie
 
--- file x is on side u and locked
+-- file x is readable, on side u and locked
 abbrev locked : List ℕ → List ℕ → ℕ → ℕ → Bool
-locked sides locks u x = onSide sides u x && not (free (stateOf sides locks) x)
+locked sides locks u x = isRead (ofMarks locks) x && (onSide sides u x && not (free (stateOf sides locks) x))
 
 abbrev Inv-loop : tie.InvT-loop
 Inv-loop recipe sides locks u n₀ k₀ n k = Summed (λ i. bit (locked sides locks u (getD recipe i 0))) 1 (length recipe) k n
@@ -61,12 +64,15 @@ loop-again c =
     let a = i .before .before .before .before .before .args in
     summed-bit (λ j. locked (a .sides .now) (a .locks .now) (a .u) (getD (a .recipe .now) j 0)) (i .before .loop .inv) (i .loop-test .taken)
     (c .bit .ensures .0
-    ∙ ap₂ (λ (s l : ℕ). bit (eqb s (a .u) && not (eqb l 0))) (c .before .before .entry-at .ensures) (c .before .entry-at2 .ensures)
+    ∙ ap₂ (λ (l s : ℕ). bit (not (eqb l 2) && (eqb s (a .u) && not (eqb l 0)))) (c .before .before .entry-at .ensures) (c .before .entry-at2 .ensures)
     ∙ ap (λ (x : ℕ). bit (locked (a .sides .now) (a .locks .now) (a .u) x)) (w .wide .ensures))
 
 returns : tie.Need-returns Inv-loop μ-loop
 unfolding lockedOn
-returns c = summed-entries _ _ (c .before .loop .inv) (c .loop-test .left)
+returns c =
+    let a = c .before .before .before .before .before .args in
+    let there : ℕ → Bool = λ x. onSide (a .sides .now) (a .u) x && not (free (stateOf (a .sides .now) (a .locks .now)) x) in
+    summed-entries _ _ (c .before .loop .inv) (c .loop-test .left) ∙ sym (count-those there (isRead (ofMarks (a .locks .now))) (a .recipe .now))
 
 pub locked-on-spec : {M : Type 1} → statement M
 locked-on-spec =

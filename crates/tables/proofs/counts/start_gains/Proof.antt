@@ -11,9 +11,9 @@ use mir.Val.{toZ, ofZ}
 use Rattle.rules.specs.Pass.{startGains}
 use Rattle.tables.specs.Zones.{cellsAt, startsAt, endsAt, roomAt, countsAt, sideAt, zonesOf, extentOf, stateOf}
 use Rattle.tables.specs.declared.zones.Extent.{Extent}
-use Rattle.tables.specs.Building.{viewsOf}
+use Rattle.tables.specs.Building.{readOf}
 use Rattle.tables.specs.Counting.{startGain}
-use Rattle.tables.proofs.Buildable.{recipes-long}
+use Rattle.tables.proofs.Buildable.{read-long}
 use Rattle.tables.proofs.Starting.{start-gain-is, start-gains-long, gain-asks}
 use Rattle.tables.proofs.Sides.{zones-are}
 use Rattle.tables.proofs.Filled.{Stored, stored-none, stored-more, stored-end}
@@ -21,7 +21,7 @@ use Rattle.tables.proofs.counts.start_gains.Statement.{statement}
 use Rattle.tables.proofs.counts.start_gains.Tie as tie
 
 abbrev Inv-loop : tie.InvT-loop
-Inv-loop gains₀ sides marks scratch bounds pins extent zones n f₀ gains f = (f ≤ length sides) × Stored (pos 0) (startGains (viewsOf bounds pins) (length sides) (stateOf sides marks)) f gains
+Inv-loop gains₀ sides marks scratch bounds pins extent zones n f₀ gains f = (f ≤ length sides) × Stored (pos 0) (startGains (readOf marks bounds pins) (length sides) (stateOf sides marks)) f gains
 
 abbrev μ-loop : tie.MeasureT-loop
 μ-loop gains₀ sides marks scratch bounds pins extent zones n f₀ gains f = length sides - f
@@ -97,13 +97,13 @@ module _ (c : Turn) where
 
   -- what the turn works out
   value : startGain scratch (getD (start c .args .marks .now) (file c) 0) s e (c .before .before .side-at .result) (c .side-at2 .result) number
-      ≡ getD (startGains (viewsOf (start c .args .bounds .now) (start c .args .pins .now)) (C (zoned c)) (stateOf (start c .args .sides .now) (start c .args .marks .now))) (file c) (pos 0)
+      ≡ getD (startGains (readOf (start c .args .marks .now) (start c .args .bounds .now) (start c .args .pins .now)) (C (zoned c)) (stateOf (start c .args .sides .now) (start c .args .marks .now))) (file c) (pos 0)
   value =
       let x = start c .args in
       let pre = start c .pre in
       ap (startGain scratch (getD (x .marks .now) (file c) 0) s e (c .before .before .side-at .result) (c .side-at2 .result)) number-is
-      ∙ start-gain-is (x .sides .now) (x .marks .now) (viewsOf (x .bounds .now) (x .pins .now)) (C (zoned c)) (P (zoned c)) N scratch
-      (recipes-long (x .bounds .now) (x .pins .now) _ (pre .0)) (pre .1 .1 .1 .0) (pre .1 .1 .1 .1 .0) (pre .1 .1 .1 .1 .1) (file c) s e (inside c) from-is to-is _ _ own-is other-is
+      ∙ start-gain-is (x .sides .now) (x .marks .now) (readOf (x .marks .now) (x .bounds .now) (x .pins .now)) (C (zoned c)) (P (zoned c)) N scratch
+      (read-long (x .bounds .now) (x .pins .now) _ (pre .0) (x .marks .now)) (pre .1 .1 .1 .0) (pre .1 .1 .1 .1 .0) (pre .1 .1 .1 .1 .1) (file c) s e (inside c) from-is to-is _ _ own-is other-is
 
 zones-of-requires : tie.Need-zones-of-requires Inv-loop μ-loop
 zones-of-requires c κs = search needs

@@ -1,5 +1,5 @@
 -- `start::prepare` meets its contract: each zone keeps what the step that it was lent to put there. Assumes nothing.
-use mathlib.Core.Path.{_≡_, refl, sym, ap, _∙_, subst}
+use mathlib.Core.Path.{_≡_, sym, ap, _∙_, subst}
 use mathlib.Core.List.{List}
 use lib.IntN.{ℤ}
 use Prim.Native.Nat.{ℕ, _+_, _*_, _≤_, _<_, _^_}
@@ -9,10 +9,10 @@ use borrow.Author.Needs.{needs}
 use Rattle.rules.specs.Pass.{startGains}
 use Rattle.tables.specs.declared.zones.Zones.{Zones}
 use Rattle.tables.specs.Zones.{countsAt, extentOf, stateOf, Counts}
-use Rattle.tables.specs.Building.{viewsOf}
+use Rattle.tables.specs.Building.{readOf}
 use Rattle.tables.specs.LayingOut.{Prepared}
 use Rattle.tables.proofs.Sides.{zones-are}
-use Rattle.tables.proofs.LentParts.{Begins, second-in, third-in, OneZone, TwoZones, ThreeZones, threeZones, locks-room, cells-room, counts-room, zones-long, zones-fit, zones-beyond, zones-locks, zones-starts, zones-cells, zones-room, zones-counts}
+use Rattle.tables.proofs.LentParts.{Begins, second-in, third-in, OneZone, TwoZones, ThreeZones, threeZones, locks-room, cells-room, counts-room, zones-long, zones-fit, zones-beyond, zones-locks, zones-starts, zones-spare, zones-cells, zones-room, zones-counts}
 use Rattle.tables.proofs.start.prepare.Statement.{statement}
 use Rattle.tables.proofs.start.prepare.Tie as tie
 
@@ -89,12 +89,13 @@ module _ (c : Whole) where
   three-zones = record { before = two-zones built; third = c .fill-counts .kept .0 }
 
   prepared : (gains : List ℤ)
-      → gains ≡ startGains (viewsOf (args .args .bounds .now) (args .args .pins .now)) (C z) (stateOf (args .args .sides .now) (args .args .marks .now))
+      → gains ≡ startGains (readOf (args .args .marks .now) (args .args .bounds .now) (args .args .pins .now)) (C z) (stateOf (args .args .sides .now) (args .args .marks .now))
       → Prepared (args .args .bounds .now) (args .args .pins .now) (args .args .sides .now) (args .args .marks .now) (args .args .scratch .now) scratch gains (N z)
   prepared gains e = record {
     locks = zones-locks three-zones ∙ copied built .copy .ensures;
-    starts = zones-starts three-zones (args .pre .0) (built .build-cells .ensures);
-    cells = zones-cells three-zones (args .pre .0) (built .build-cells .ensures);
+    starts = zones-starts (args .args .marks .now) three-zones (args .pre .0) (built .build-cells .ensures);
+    cells = zones-cells (args .args .marks .now) three-zones (args .pre .0) (built .build-cells .ensures);
+    spare = zones-spare (args .args .marks .now) three-zones (args .pre .0) (built .build-cells .ensures);
     room = zones-room three-zones;
     counts = zones-counts three-zones (c .fill-counts .ensures);
     long = zones-long three-zones;
@@ -178,8 +179,8 @@ start-gains-requires c κs =
           (
             pre .1 .1 .1,
             (
-              zones-cells (three-zones f) (pre .0) (built f .build-cells .ensures),
-              subst (λ (i : ℕ). Counts (viewsOf (args f .args .bounds .now) (args f .args .pins .now)) (stateOf (args f .args .sides .now) (args f .args .marks .now)) (countsAt (C (z f)) (P (z f))) i (scratch f)) n (zones-counts (three-zones f) (f .fill-counts .ensures)),
+              zones-cells (args f .args .marks .now) (three-zones f) (pre .0) (built f .build-cells .ensures),
+              subst (λ (i : ℕ). Counts (readOf (args f .args .marks .now) (args f .args .bounds .now) (args f .args .pins .now)) (stateOf (args f .args .sides .now) (args f .args .marks .now)) (countsAt (C (z f)) (P (z f))) i (scratch f)) n (zones-counts (three-zones f) (f .fill-counts .ensures)),
             ),
           ),
         ),

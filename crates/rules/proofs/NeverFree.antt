@@ -1,0 +1,141 @@
+-- An unread file is never free, so that scans may walk whole recipes. Assumes nothing.
+use mathlib.Core.Path.{_≡_, refl, sym, ap, _∙_}
+use mathlib.Core.Logic.{_≢_}
+use Prim.Native.Nat.{ℕ, zero, suc, _+_, _≤_}
+use native.Mathlib.Nat.{add-zero, zero-add, suc-add, add-suc}
+use native.Mathlib.Omega.{arith}
+use mathlib.Core.Bool.{Bool, true, false, cond, _&&_}
+use mathlib.Core.List.{List, [], _∷_, _++_, map}
+use lib.Dec.{leb, eqb}
+use lib.IntN.{ℤ, pos, _+ℤ_}
+use lib.ListN.{length, getD, set}
+use borrow.Author.Tests.{eqb-true, ne-eqb}
+use Rattle.rules.specs.Lists.{total, count, those}
+use Rattle.rules.specs.Job.{Job, views, isRead, readIn, recipes}
+use Rattle.rules.specs.Split.{onSide, other, times, holds, sizeOf, weighs}
+use Rattle.rules.specs.Move.{stepsBy, State, start, lockOf, free, moved, after, Scan, kindsIn, kindsOf, scansFrom, scansOf, reaches, change, scanPins, scanAll}
+use Rattle.rules.proofs.Tests.{clash, not-no}
+
+-- the readable files are no more than the files
+those-short : (p : ℕ → Bool) (r : List ℕ) → length (those p r) ≤ length r
+unfolding those
+those-short p [] = omega arith
+those-short p (y ∷ r) = go (p y) (those-short p r)
+  where
+    go : (b : Bool) → length (those p r) ≤ length r → length (cond b (y ∷ those p r) (those p r)) ≤ length (y ∷ r)
+    go true h = omega (arith, h)
+    go false h = omega (arith, h)
+
+pub read-short : (job : Job) (r : List ℕ) → length (readIn job r) ≤ length r
+unfolding readIn
+read-short job r = go (leb 2 (length (those (isRead job) r)))
+  where
+    go : (b : Bool) → length (cond b (those (isRead job) r) []) ≤ length r
+    go true = those-short (isRead job) r
+    go false = omega arith
+
+-- a recipe that still holds a file has all its readable files
+read-held : (job : Job) (f : ℕ) (r : List ℕ) → holds (readIn job r) f ≡ true → readIn job r ≡ those (isRead job) r
+unfolding readIn
+read-held job f r = go (leb 2 (length (those (isRead job) r)))
+  where
+    go : (b : Bool) → holds (cond b (those (isRead job) r) []) f ≡ true → cond b (those (isRead job) r) [] ≡ those (isRead job) r
+    go true h = refl
+    go false h = clash (sym (unfold times count total in h))
+
+-- ---- locks
+
+lock-lasts : (locks : List ℕ) (f x : ℕ) → 1 ≤ getD locks x 0 → 1 ≤ getD (set locks f 1) x 0
+lock-lasts [] f x h = h
+lock-lasts (y ∷ l) zero zero h = omega arith
+lock-lasts (y ∷ l) zero (suc x) h = h
+lock-lasts (y ∷ l) (suc f) zero h = h
+lock-lasts (y ∷ l) (suc f) (suc x) h = lock-lasts l f x h
+
+-- a locked file stays locked
+lock-kept : (st : State) (ms : List ℕ) (x : ℕ) → 1 ≤ lockOf st x → 1 ≤ lockOf (after st ms) x
+unfolding stepsBy moved
+lock-kept st [] x h = h
+lock-kept st (m ∷ ms) x h = lock-kept (moved st m) ms x (lock-lasts (st .locks) m x h)
+
+module _ (job : Job) (sides ms : List ℕ) (x : ℕ) where
+  -- an unread file is never free
+  pub unread-locked : isRead job x ≡ false → free (after (start job sides) ms) x ≡ false
+  unread-locked e =
+      let m : getD (job .marks) x 0 ≡ 2 = eqb-true (getD (job .marks) x 0) 2 (not-no (eqb (getD (job .marks) x 0) 2) e) in
+      let l = lock-kept (start job sides) ms x (omega arith) in
+      ne-eqb (lockOf (after (start job sides) ms) x) 0 (λ z. omega arith)
+
+  -- so a free file weighs its size
+  pub free-weighs : lockOf (after (start job sides) ms) x ≡ 0 → weighs job x ≡ sizeOf job x
+  free-weighs e =
+      let m : getD (job .marks) x 0 ≢ 2 = λ z. omega (arith, lock-kept (start job sides) ms x (omega arith)) in
+      rw (ne-eqb (getD (job .marks) x 0) 2 m) (omega arith)
+
+-- ---- scans
+
+-- a scan changes nothing of a file that is not free
+scan-those : (st : State) (t k : ℕ) (p : ℕ → Bool) → ((x : ℕ) → p x ≡ false → free st x ≡ false) → (r : List ℕ) (g : List ℤ)
+    → scanPins st t k r g ≡ scanPins st t k (those p r) g
+unfolding scanPins those
+scan-those st t k p h [] g = refl
+scan-those st t k p h (x ∷ r) g = go (p x) refl (scan-those st t k p h r)
+  where
+    shifted : Bool → List ℤ
+    shifted b = cond (b && reaches (onSide (st .sides) t x) (onSide (st .sides) (other t) x) k) (set g x (getD g x (pos 0) +ℤ change k)) g
+
+    go : (b : Bool) → p x ≡ b → ((g : List ℤ) → scanPins st t k r g ≡ scanPins st t k (those p r) g)
+        → scanPins st t k r (shifted (free st x)) ≡ scanPins st t k (cond b (x ∷ those p r) (those p r)) g
+    go true e ih = ih (shifted (free st x))
+    go false e ih = ap (λ (b : Bool). scanPins st t k r (shifted b)) (h x e) ∙ ih g
+
+-- recipes rs and ws of which scans make the same, where they hold f
+module _ (rs ws : List (List ℕ)) (now : State) (t : ℕ) (st : State) (f : ℕ)
+    (same : (j : ℕ) → holds (getD rs j []) f ≡ true → (k : ℕ) (g : List ℤ) → scanPins now t k (getD ws j []) g ≡ scanPins now t k (getD rs j []) g) where
+  recipe-same : (j : ℕ) → holds (getD rs j []) f ≡ true → (ks : List ℕ) (cs : List Scan) → ((g : List ℤ) → scanAll ws now t cs g ≡ scanAll rs now t cs g) → (g : List ℤ)
+      → scanAll ws now t (map (λ k. record { recipe = j; kind = k }) ks ++ cs) g ≡ scanAll rs now t (map (λ k. record { recipe = j; kind = k }) ks ++ cs) g
+  unfolding scanAll
+  recipe-same j h [] cs ih g = ih g
+  recipe-same j h (k ∷ ks) cs ih g =
+      ap (scanAll ws now t (map (λ k. record { recipe = j; kind = k }) ks ++ cs)) (same j h k g) ∙ recipe-same j h ks cs ih _
+
+  scans-from : (rest : List (List ℕ)) (j : ℕ) → ((i : ℕ) → getD rs (j + i) [] ≡ getD rest i []) → (g : List ℤ)
+      → scanAll ws now t (scansFrom st f j rest) g ≡ scanAll rs now t (scansFrom st f j rest) g
+  unfolding scansFrom kindsOf
+  scans-from [] j e g = unfold scanAll in refl
+  scans-from (r ∷ rest) j e g =
+      go (holds r f) (ap (λ q. holds q f) this) (scans-from rest (suc j) (λ i. ap (λ k. getD rs k []) (suc-add j i ∙ sym (add-suc j i)) ∙ e (suc i)))
+    where
+      this : getD rs j [] ≡ r
+      this = ap (λ k. getD rs k []) (sym (add-zero j)) ∙ e 0
+
+      go : (b : Bool) → holds (getD rs j []) f ≡ b → ((g : List ℤ) → scanAll ws now t (scansFrom st f (suc j) rest) g ≡ scanAll rs now t (scansFrom st f (suc j) rest) g)
+          → scanAll ws now t (map (λ k. record { recipe = j; kind = k }) (cond b (kindsIn st f r) []) ++ scansFrom st f (suc j) rest) g
+          ≡ scanAll rs now t (map (λ k. record { recipe = j; kind = k }) (cond b (kindsIn st f r) []) ++ scansFrom st f (suc j) rest) g
+      go true h ih = recipe-same j h (kindsIn st f r) (scansFrom st f (suc j) rest) ih g
+      go false h ih = ih g
+
+  scans-same : (g : List ℤ) → scanAll ws now t (scansOf rs st f) g ≡ scanAll rs now t (scansOf rs st f) g
+  scans-same g = scans-from rs 0 (λ i. ap (λ k. getD rs k []) (zero-add i)) g
+
+-- so a scan may walk the whole of a recipe
+scan-whole : (job : Job) (st : State) → ((x : ℕ) → isRead job x ≡ false → free st x ≡ false) → (f : ℕ) (r : List ℕ) → holds (readIn job r) f ≡ true
+    → (t k : ℕ) (g : List ℤ) → scanPins st t k r g ≡ scanPins st t k (readIn job r) g
+scan-whole job st h f r e t k g = scan-those st t k (isRead job) h r g ∙ ap (λ (q : List ℕ). scanPins st t k q g) (sym (read-held job f r e))
+
+read-at : (job : Job) (vs : List (List ℕ)) (j : ℕ) → getD (map (readIn job) vs) j [] ≡ readIn job (getD vs j [])
+read-at job [] j = unfold readIn those in refl
+read-at job (r ∷ vs) zero = refl
+read-at job (r ∷ vs) (suc j) = read-at job vs j
+
+-- so may all scans of a move
+pub scans-whole : (job : Job) (st now : State) → ((x : ℕ) → isRead job x ≡ false → free now x ≡ false) → (t f : ℕ) (g : List ℤ)
+    → scanAll (views job) now t (scansOf (recipes job) st f) g ≡ scanAll (recipes job) now t (scansOf (recipes job) st f) g
+unfolding recipes
+scans-whole job st now h t f g =
+    scans-same (map (readIn job) (views job)) (views job) now t st f
+    (λ j e k g.
+    let r : getD (map (readIn job) (views job)) j [] ≡ readIn job (getD (views job) j []) = read-at job (views job) j in
+    scan-whole job now h f (getD (views job) j []) (ap (λ (q : List ℕ). holds q f) (sym r) ∙ e) t k g
+    ∙ ap (λ (q : List ℕ). scanPins now t k q g) (sym r))
+    g
