@@ -1,4 +1,4 @@
-// A stored job on standard input, and on standard output the stored job with a balanced start; its four lines, or a refusal's line, go to standard error.
+// A stored job on standard input, and on standard output the stored job with a balanced start; its lines, or a refusal's line, go to standard error.
 use libc::STDERR_FILENO;
 use libc::STDOUT_FILENO;
 
