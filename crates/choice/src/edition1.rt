@@ -87,11 +87,14 @@ pub fn choose(
     if !fit {
         return best;
     }
-    let mut f = next_rival(best, scratch, gains, 0, files);
-    while f < files {
+    let mut f = 0;
+    loop {
+        f = next_rival(best, scratch, gains, f, files);
+        if files <= f {
+            return best;
+        }
         let after = size_after(size, sides[f], sizes[f]);
         best = challenge(window, best, f, gains[f], after, files);
-        f = next_rival(best, scratch, gains, f + 1, files);
+        f += 1;
     }
-    best
 }

@@ -1,5 +1,6 @@
 pub mod Search
 pub mod AddingUp
+pub mod Walking
 pub mod Held
 pub mod OwnRecipe
 pub mod Whole

@@ -8,6 +8,7 @@ use Rattle.rules.specs.declared.Verdict.{Verdict}
 use Rattle.rules.specs.declared.Measure.{Measure}
 use Rattle.job.specs.declared.Job.{Job}
 use Rattle.job.specs.declared.figures.Survey.{Survey}
+use Rattle.job.specs.declared.holds.Vaults.{Vaults}
 use Rattle.job.proofs.Job.new.Kinds as new-kinds
 use Rattle.job.proofs.Job.new.Reads as new
 use Rattle.job.proofs.view.Kinds as view-kinds
@@ -26,8 +27,8 @@ use Rattle.job.proofs.numbers.bit.Kinds as bit-kinds
 use Rattle.job.proofs.numbers.bit.Reads as bit
 use Rattle.job.proofs.figures.count_on.Kinds as count-on-kinds
 use Rattle.job.proofs.figures.count_on.Reads as count-on
-use Rattle.job.proofs.figures.read_on.Kinds as read-on-kinds
-use Rattle.job.proofs.figures.read_on.Reads as read-on
+use Rattle.job.proofs.holds.tally.Kinds as tally-kinds
+use Rattle.job.proofs.holds.tally.Reads as tally
 use Rattle.job.proofs.bounds.recipe_count.Kinds as recipe-count-kinds
 use Rattle.job.proofs.bounds.recipe_count.Reads as recipe-count
 use Rattle.job.proofs.verdict.refuse_if.Kinds as refuse-if-kinds
@@ -69,8 +70,8 @@ bit-settled κs a x y e f p q = both (p .0) (q .0)
 pub count-on-settled : Settles 2 count-on-kinds.ps count-on-kinds.r ℕ (λ κs n _. n) count-on.Post
 count-on-settled κs a x y e f p q = both p q
 
-pub read-on-settled : Settles 3 read-on-kinds.ps read-on-kinds.r ℕ (λ κs n _. n) read-on.Post
-read-on-settled κs a x y e f p q = both p q
+pub tally-settled : Settles 3 tally-kinds.ps tally-kinds.r Vaults (λ κs v _. v) tally.Post
+tally-settled κs a x y e f p q = both p q
 
 pub recipe-count-settled : Settles 1 recipe-count-kinds.ps recipe-count-kinds.r ℕ (λ κs n _. n) recipe-count.Post
 recipe-count-settled κs a x y e f p q = both p q

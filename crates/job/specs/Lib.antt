@@ -1,4 +1,5 @@
 pub mod Parts
+pub mod Holds
 pub mod Pins
 pub mod Totals
 pub mod Survey

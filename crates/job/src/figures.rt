@@ -1,6 +1,7 @@
 // The figures of a job: what its files add up to, balance, the cut, and the recipes that hold an unread file.
 use crate::Job;
 use crate::bounds::recipe_count;
+use crate::holds::tally;
 use crate::numbers::bit;
 use crate::numbers::entry_at;
 use crate::numbers::larger;
@@ -12,8 +13,7 @@ use rules::Verdict;
 ghost use mathlib.Core.Path.{_≡_};
 ghost use Prim.Native.Nat.{_*_, _≤_, _<_};
 ghost use lib.ListN.{length};
-ghost use Rattle.rules.specs.Lists.{those};
-ghost use Rattle.rules.specs.Job.{isRead, readIn, recipes};
+ghost use Rattle.rules.specs.Job.{readIn, recipes};
 ghost use Rattle.rules.specs.Split.{countOn, isCut, «cut», unreadRecipes};
 ghost use Rattle.job.specs.Parts.{ofFiles, ofMarks, ofMarked};
 ghost use Rattle.job.specs.Totals.{weightOf, withFile, Within, Added, reaches};
@@ -112,25 +112,12 @@ pub fn count_on(list: &[u16], table: &[u16], u: u16) -> usize
     n
 }
 
-// How many readable files of the recipe are on side u.
-pub fn read_on(recipe: &[u16], sides: &[u16], marks: &[u16], u: u16) -> usize
-    ensures { λ r. ⌜ r ≡ countOn (now (sides .entry)) u (those (isRead (ofMarks (now (marks .entry)))) (now (recipe .entry))) ⌝ }
-{
-    let mut n = 0;
-    let mut k = 0;
-    while k < recipe.len() {
-        let f = wide(recipe[k]);
-        n += bit((entry_at(marks, f) != 2) & (entry_at(sides, f) == u));
-        k += 1;
-    }
-    n
-}
-
 // Readable files in both vaults are two at least.
 fn is_cut(sides: &[u16], marks: &[u16], recipe: &[u16]) -> bool
     ensures { λ r. ⌜ r ≡ isCut (now (sides .entry)) (readIn (ofMarks (now (marks .entry))) (now (recipe .entry))) ⌝ }
 {
-    (0 < read_on(recipe, sides, marks, 0)) & (0 < read_on(recipe, sides, marks, 1))
+    let t = tally(recipe, sides, marks);
+    (0 < t.a.all) & (0 < t.b.all)
 }
 
 pub(crate) fn cut(sides: &[u16], marks: &[u16], bounds: &[u16], pins: &[u16]) -> usize
@@ -146,10 +133,14 @@ pub(crate) fn cut(sides: &[u16], marks: &[u16], bounds: &[u16], pins: &[u16]) ->
     x
 }
 
-// How many recipes hold an unread file.
-pub(crate) fn holding(marks: &[u16], bounds: &[u16], pins: &[u16]) -> usize
+// How many recipes hold an unread file: none where there is none, and no recipe is walked.
+pub(crate) fn holding(unread: usize, marks: &[u16], bounds: &[u16], pins: &[u16]) -> usize
+    requires { ⌜ (unread ≡ 0 → unreadRecipes (ofMarked (now marks) (now bounds) (now pins)) ≡ 0) ⌝ }
     ensures { λ r. ⌜ r ≡ unreadRecipes (ofMarked (now (marks .entry)) (now (bounds .entry)) (now (pins .entry))) ⌝ }
 {
+    if unread == 0 {
+        return 0;
+    }
     let n = recipe_count(bounds);
     let mut x = 0;
     let mut j = 0;

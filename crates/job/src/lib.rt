@@ -2,6 +2,7 @@
 mod bounds;
 mod figures;
 mod files;
+mod holds;
 mod numbers;
 mod pins;
 mod verdict;
@@ -11,8 +12,10 @@ pub use figures::Survey;
 pub use figures::count_on;
 use figures::cut;
 use figures::holding;
-pub use figures::read_on;
 use figures::totals_of;
+pub use holds::Held;
+pub use holds::Vaults;
+pub use holds::tally;
 pub use numbers::bit;
 pub use numbers::entry_at;
 pub use numbers::wide;
@@ -117,7 +120,7 @@ pub fn measure(
         cut: cut(sides, marks, bounds, pins),
         size: t.size,
         unread: t.unread,
-        holding: holding(marks, bounds, pins),
+        holding: holding(t.unread, marks, bounds, pins),
     }
 }
 
@@ -166,6 +169,6 @@ pub fn survey(
         size: t.size,
         cut: cut(sides, marks, bounds, pins),
         unread: t.unread,
-        holding: holding(marks, bounds, pins),
+        holding: holding(t.unread, marks, bounds, pins),
     }
 }

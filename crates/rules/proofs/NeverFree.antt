@@ -15,16 +15,7 @@ use Rattle.rules.specs.Job.{Job, views, isRead, readIn, recipes}
 use Rattle.rules.specs.Split.{onSide, other, times, holds, sizeOf, weighs}
 use Rattle.rules.specs.Move.{stepsBy, State, start, lockOf, free, moved, after, Scan, kindsIn, kindsOf, scansFrom, scansOf, reaches, change, scanPins, scanAll}
 use Rattle.rules.proofs.Tests.{clash, not-no}
-
--- the readable files are no more than the files
-those-short : (p : ℕ → Bool) (r : List ℕ) → length (those p r) ≤ length r
-unfolding those
-those-short p [] = omega arith
-those-short p (y ∷ r) = go (p y) (those-short p r)
-  where
-    go : (b : Bool) → length (those p r) ≤ length r → length (cond b (y ∷ those p r) (those p r)) ≤ length (y ∷ r)
-    go true h = omega (arith, h)
-    go false h = omega (arith, h)
+use Rattle.rules.proofs.Readable.{those-short}
 
 pub read-short : (job : Job) (r : List ℕ) → length (readIn job r) ≤ length r
 unfolding readIn

@@ -14,6 +14,7 @@ use Rattle.rules.specs.Split.{countOn, isCut, times, unreadRecipes}
 use Rattle.rules.specs.Theorems.{Distinct}
 use Rattle.rules.proofs.Count.{total-same}
 
+-- the readable files are no more than the files
 pub those-short : (p : ℕ → Bool) (r : List ℕ) → length (those p r) ≤ length r
 unfolding those
 those-short p [] = omega arith

@@ -132,7 +132,7 @@ balancesVerdict most input = readVerdict most input (allRoom most) orElse balanc
 pub record BalanceProgram (most : Limits) (input : List ℕ) : Type 0 where
   -- refused, nothing goes to standard output
   pub refused : balancesVerdict most input .number ≢ 0 → balances most input ≡ record { output = []; errors = refusal (balancesVerdict most input) }
-  -- else the stored job with the balanced sides, and four lines to standard error
+  -- else the stored job with the balanced sides, and what is told of it to standard error
   pub made : balancesVerdict most input .number ≡ 0
       → balances most input
       ≡ record {
@@ -154,7 +154,7 @@ pub record BalanceProgram (most : Limits) (input : List ℕ) : Type 0 where
 abbrev pub chain6 : List ℕ → Job
 chain6 sides = small sides (0 ∷ 2 ∷ 4 ∷ 6 ∷ 8 ∷ 10 ∷ []) (0 ∷ 1 ∷ 1 ∷ 2 ∷ 2 ∷ 3 ∷ 3 ∷ 4 ∷ 4 ∷ 5 ∷ [])
 
-pub record Worked : Type 0 where
+pub record BalanceWorked : Type 0 where
   -- all in B: file 0 has gain -1, as file 5, and the lower number; then file 1 has gain 0 and file 5 still -1. With 2 in A it stops
   pub fromB : balanceMoves (chain6 (1 ∷ 1 ∷ 1 ∷ 1 ∷ 1 ∷ 1 ∷ [])) ≡ 0 ∷ 1 ∷ []
   pub told : balanceFigures (chain6 (1 ∷ 1 ∷ 1 ∷ 1 ∷ 1 ∷ 1 ∷ [])) done ≡ record { verdict = done; moves = 2; cut = 1; size = 2; unread = 0; holding = 0 }

@@ -84,12 +84,16 @@ valuesIn h b =
 
 -- ---- a block's verdict: its check, then its layout
 
+-- a file's second value, side + 2·mark, over 5
+abbrev pub overSecond : ℕ → Bool
+overSecond v = ltb 5 v
+
 -- bytes 0 and 1 the number, byte 2 the kind, byte 3 the count n, unused values zero, a file's second value not over 5
 unfoldable pub laidOut : List ℕ → ℕ → ℕ → ℕ → Bool
 laidOut block b kind n =
     eqb (word block 0) b && eqb (getD block 2 0) kind && eqb (getD block 3 0) n
     && not (someBelow (λ v. leb n v && not (eqb (valueIn block v) 0)) 253)
-    && not (eqb kind 2 && someBelow (λ f. ltb (2 * f) n && ltb 5 (valueIn block (2 * f + 1))) 126)
+    && not (eqb kind 2 && someBelow (λ f. ltb (2 * f) n && overSecond (valueIn block (2 * f + 1))) 126)
 
 -- bytes 510 and 511 are not the check
 abbrev pub badCheck : List ℕ → Bool

@@ -1,18 +1,33 @@
 -- Document 02, order 5: files that could not be read. What it leaves as it was, and a job worked by hand. Assumes nothing.
 use mathlib.Core.Path.{_≡_}
-use Prim.Native.Nat.{ℕ, _*_, _≤_}
+use mathlib.Core.Logic.{_≢_}
+use Prim.Native.Nat.{ℕ, _*_, _/_}
+use mathlib.Core.Bool.{_||_}
 use mathlib.Core.List.{List, [], _∷_, _++_}
 use lib.ListN.{getD}
+use lib.Dec.{ltb, eqb}
 use Rattle.rules.specs.Lists.{bit, total}
-use Rattle.rules.specs.Job.{Job, asJob, files, views, recipes}
+use Rattle.rules.specs.Job.{Job, asJob, Limits, files, views, recipes}
 use Rattle.rules.specs.Split.{sideOf, onSide, sizeOf, weighs, unreadFiles, unreadRecipes, weight, smax, sizeOn, cut}
+use Rattle.rules.specs.Check.{badFile}
 use Rattle.rules.specs.Move.{start, scans, visits}
+use Rattle.rules.specs.Stored.{overSecond}
+use Rattle.rules.specs.Theorems.{Sound}
 use Rattle.rules.specs.Report.{text, line, firstLines, letter, letterOf}
 
--- ---- with no mark 2 everything is what it was (Unread `as-before`, of a sound job with marks 0 and 1): the definitions that order 5 changed are those of document 01
+-- ---- with no mark 2 everything is what it was (Unread `as-before`, of any job without one): the definitions that order 5 changed are those of document 01
 
-pub record AsBefore (job : Job) : Type 0 where
-  pub recipes : recipes job ≡ views job
+-- no mark is 2
+abbrev pub NoneUnread : Job → Type 0
+NoneUnread job = (f : ℕ) → getD (job .marks) f 0 ≢ 2
+
+pub record AsBefore (most : Limits) (job : Job) : Type 0 where
+  -- 6 is given for size 0, side over 1 or mark over 1
+  pub file : (f : ℕ) → badFile job f ≡ (eqb (sizeOf job f) 0 || ltb 1 (getD (job .sides) f 0) || ltb 1 (getD (job .marks) f 0))
+  -- and 22 for a file's second value over 3, where none is 4 or 5, which would be a mark 2
+  pub second : (v : ℕ) → v / 2 ≢ 2 → overSecond v ≡ ltb 3 v
+  -- cut, gains and scans go by whole recipes, in a job that passes 1 to 6
+  pub recipes : Sound most job → recipes job ≡ views job
   pub weighs : (f : ℕ) → weighs job f ≡ sizeOf job f
   pub weight : weight job ≡ total (sizeOf job) (files job)
   pub size : (u : ℕ) (sides : List ℕ) → sizeOn job u sides ≡ total (λ f. bit (onSide sides u f) * sizeOf job f) (files job)
@@ -20,10 +35,6 @@ pub record AsBefore (job : Job) : Type 0 where
   pub holding : unreadRecipes job ≡ 0
   pub first : firstLines (unreadFiles job) (unreadRecipes job) ≡ line "done" []
   pub letter : (sides : List ℕ) (f : ℕ) → letterOf job sides f ≡ letter (sideOf sides f)
-
--- all marks are 0 or 1
-abbrev pub NoneUnread : Job → Type 0
-NoneUnread job = (f : ℕ) → getD (job .marks) f 0 ≤ 1
 
 -- ---- a job worked by hand (Unread `worked`)
 
@@ -33,7 +44,7 @@ torn =
     asJob (1 ∷ 1 ∷ 9 ∷ 1 ∷ []) (0 ∷ 0 ∷ 0 ∷ 1 ∷ []) (0 ∷ 0 ∷ 2 ∷ 0 ∷ []) (0 ∷ 3 ∷ 5 ∷ 8 ∷ []) (0 ∷ 1 ∷ 2 ∷ 2 ∷ 3 ∷ 0 ∷ 1 ∷ 3 ∷ [])
     1 2 0
 
-pub record Worked : Type 0 where
+pub record UnreadWorked : Type 0 where
   -- each recipe's readable files, in place; none where they are fewer than two
   pub read : recipes torn ≡ (0 ∷ 1 ∷ []) ∷ [] ∷ (0 ∷ 1 ∷ 3 ∷ []) ∷ []
   -- W is 3 and smax 1; file 2 counts in neither vault

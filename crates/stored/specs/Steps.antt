@@ -10,7 +10,7 @@ use Rattle.rules.specs.declared.Header.{Header}
 use Rattle.rules.specs.declared.ReadFigures.{ReadFigures}
 use Rattle.rules.specs.Job.{Job, Limits, asJob}
 use Rattle.rules.specs.Check.{isDone, refuseIf, _orElse_, check1Of, check2Of}
-use Rattle.rules.specs.Stored.{Room, word, valueIn, value, headerOf, blockCheck, laidOut, blockCount, blockVerdict, jobOf, roomy, noHeader}
+use Rattle.rules.specs.Stored.{Room, word, valueIn, value, headerOf, blockCheck, overSecond, laidOut, blockCount, blockVerdict, jobOf, roomy, noHeader}
 
 -- value v is beyond the n that the block has, and is not zero
 abbrev pub leftOver : List ℕ → ℕ → ℕ → Bool
@@ -18,7 +18,7 @@ leftOver block n v = leb n v && not (eqb (valueIn block v) 0)
 
 -- the second value of file f of a block of n values is over 5
 abbrev pub badSecond : List ℕ → ℕ → ℕ → Bool
-badSecond block n f = ltb (2 * f) n && ltb 5 (valueIn block (2 * f + 1))
+badSecond block n f = ltb (2 * f) n && overSecond (valueIn block (2 * f + 1))
 
 -- the check of a block, then its layout
 abbrev pub verdictOf : List ℕ → ℕ → ℕ → ℕ → Verdict

@@ -1,54 +1,30 @@
 // The counts of each recipe's files, and the gains that a pass starts with, worked out from them.
 ghost use mathlib.Core.Path.{_≡_};
 ghost use Prim.Native.Nat.{_+_, _*_, _-_, _≤_, _<_, _^_};
-ghost use lib.ListN.{length};
+ghost use lib.ListN.{length, set};
 ghost use Rattle.rules.specs.Pass.{startGains};
 ghost use Rattle.rules.specs.Theorems.{Binary};
-ghost use Rattle.rules.specs.Move.{lockedOn};
 ghost use Rattle.tables.specs.Zones.{countsAt, extentOf, stateOf, Cells, Counts};
 ghost use Rattle.tables.specs.Building.{readOf, readable, Buildable};
-ghost use Rattle.tables.specs.Counting.{countedSide, counted, gainBy, startGain};
+ghost use Rattle.tables.specs.Counting.{counted, gainBy, startGain};
 use super::scanned::scanned;
 use super::zones::Extent;
 use super::zones::side_at;
 use super::zones::zones_of;
+use job::Held;
 use job::bit;
-use job::count_on;
 use job::entry_at;
-use job::read_on;
+use job::tally;
 use job::view;
 use job::wide;
 
-// How many readable files of the recipe are on side u and locked.
-fn locked_on(recipe: &[u16], sides: &[u16], locks: &[u16], u: u16) -> usize
-    ensures { λ r. ⌜ r ≡ lockedOn (stateOf (now (sides .entry)) (now (locks .entry))) u (readable (now (locks .entry)) (now (recipe .entry))) ⌝ }
+// The counts of a side, at this place and 2n further.
+fn count_side(zone: &mut [u16], held: Held, at: usize, n: usize)
+    requires { ⌜ (held .all < 65536) × (held .locked < 65536) × (n < 65536) × (at + 2 * n < length (now zone)) ⌝ }
+    ensures { λ _. ⌜ now (zone .exit) ≡ set (set (now (zone .entry)) at (held .all)) (at + 2 * n) (held .locked) ⌝ }
 {
-    let mut n = 0;
-    let mut k = 0;
-    while k < recipe.len() {
-        let f = wide(recipe[k]);
-        let lock = entry_at(locks, f);
-        n += bit((lock != 2) & ((entry_at(sides, f) == u) & (lock != 0)));
-        k += 1;
-    }
-    n
-}
-
-// The counts of side u, at this place and 2n further.
-fn count_side(
-    zone: &mut [u16],
-    sides: &[u16],
-    locks: &[u16],
-    recipe: &[u16],
-    u: u16,
-    at: usize,
-    n: usize,
-)
-    requires { ⌜ (length (now recipe) < 65536) × (n < 65536) × (at + 2 * n < length (now zone)) ⌝ }
-    ensures { λ _. ⌜ now (zone .exit) ≡ countedSide (stateOf (now (sides .entry)) (now (locks .entry))) n u at (readable (now (locks .entry)) (now (recipe .entry))) (now (zone .entry)) ⌝ }
-{
-    zone[at] = read_on(recipe, sides, locks, u) as u16;
-    zone[at + 2 * n] = locked_on(recipe, sides, locks, u) as u16;
+    zone[at] = held.all as u16;
+    zone[at + 2 * n] = held.locked as u16;
 }
 
 // The counts of recipe j, for each side.
@@ -56,8 +32,9 @@ fn count_recipe(zone: &mut [u16], sides: &[u16], locks: &[u16], recipe: &[u16], 
     requires { ⌜ (length (now recipe) < 65536) × (j < n) × (n < 65536) × (length (now zone) ≡ 4 * n) ⌝ }
     ensures { λ _. ⌜ now (zone .exit) ≡ counted (stateOf (now (sides .entry)) (now (locks .entry))) n j (readable (now (locks .entry)) (now (recipe .entry))) (now (zone .entry)) ⌝ }
 {
-    count_side(zone, sides, locks, recipe, 0, j, n);
-    count_side(zone, sides, locks, recipe, 1, n + j, n);
+    let t = tally(recipe, sides, locks);
+    count_side(zone, t.a, j, n);
+    count_side(zone, t.b, n + j, n);
 }
 
 // The zone is 4N counts of readable files: on A, on B, locked on A, locked on B.
@@ -86,8 +63,15 @@ fn gain_by(list: &[u16], own: &[u16], other: &[u16]) -> i32
     requires { ⌜ length (now list) < 65536 ⌝ }
     ensures { λ r. ⌜ r ≡ gainBy (now (own .entry)) (now (other .entry)) (now (list .entry)) ⌝ }
 {
-    let up = count_on(list, own, 1);
-    let down = count_on(list, other, 0);
+    let mut up = 0;
+    let mut down = 0;
+    let mut k = 0;
+    while k < list.len() {
+        let j = wide(list[k]);
+        up += bit(entry_at(own, j) == 1);
+        down += bit(entry_at(other, j) == 0);
+        k += 1;
+    }
     (up as i32) - (down as i32)
 }
 

@@ -1,8 +1,11 @@
-use mathlib.Core.Path.{_∙_}
+use mathlib.Core.Path.{sym, ap, _∙_}
+use native.Mathlib.Omega.{arith}
 use Rattle.rules.specs.Job.{views, readIn, recipes}
 use Rattle.rules.specs.Split.{unreadRecipes}
 use Rattle.rules.proofs.Verdicts.{zero-of}
 use Rattle.rules.proofs.SoundJob.{sound}
+use Rattle.rules.proofs.Unread.{none-holding}
+use Rattle.job.specs.declared.figures.Totals.{Totals}
 use Rattle.job.specs.Totals.{totalsOf}
 use Rattle.job.proofs.Whole.{lists-only, measure-refused, measure-done}
 use borrow.Author.Needs.{needs}
@@ -24,7 +27,11 @@ cut-requires : tie.Need-cut-requires
 cut-requires c κs = search needs
 
 holding-requires : tie.Need-holding-requires
-holding-requires c κs = search needs
+unfolding totalsOf
+holding-requires c κs e =
+    let t = c .before in
+    let s = sound _ _ _ (zero-of (t .before .before .before .check1to6 .ensures) (t .before .if1 .left)) in
+    none-holding _ _ (omega (arith, s .marksLong)) (sym (ap (λ (y : Totals). y .unread) (t .totals-of .ensures .is)) ∙ e)
 
 returns-2 : tie.Need-returns-2
 unfolding totalsOf recipes readIn views unreadRecipes

@@ -1,9 +1,11 @@
-use mathlib.Core.Path.{refl, _∙_}
+use mathlib.Core.Path.{refl, sym, ap, _∙_}
 use native.Mathlib.Omega.{arith}
 use Rattle.rules.specs.Job.{views, readIn, recipes}
 use Rattle.rules.specs.Split.{unreadRecipes}
 use Rattle.rules.proofs.Verdicts.{chain-stop, chain-go, zero-of}
 use Rattle.rules.proofs.SoundJob.{sound}
+use Rattle.rules.proofs.Unread.{none-holding}
+use Rattle.job.specs.declared.figures.Totals.{Totals}
 use Rattle.job.specs.Totals.{totalsOf}
 use Rattle.job.proofs.AddingUp.{within-more}
 use Rattle.job.proofs.Whole.{lists-only, survey-refused, survey-done}
@@ -41,7 +43,11 @@ cut-requires : tie.Need-cut-requires
 cut-requires c κs = search needs
 
 holding-requires : tie.Need-holding-requires
-holding-requires c κs = search needs
+unfolding totalsOf
+holding-requires c κs e =
+    let t = c .before .before .before .before in
+    let s = sound _ _ _ (zero-of (t .before .before .before .check1to6 .ensures) (t .before .if1 .left)) in
+    none-holding _ _ (omega (arith, s .marksLong)) (sym (ap (λ (y : Totals). y .unread) (t .totals-of .ensures .is)) ∙ e)
 
 returns-3 : tie.Need-returns-3
 unfolding totalsOf recipes readIn views unreadRecipes

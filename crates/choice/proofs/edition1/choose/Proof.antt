@@ -1,4 +1,4 @@
--- The best so far is the best of the files passed, and the file looked at is its next rival. Assumes nothing.
+-- The best so far is the best of the files passed. Assumes nothing.
 use mathlib.Core.Path.{_≡_, sym, ap, ap₂, _∙_}
 use mathlib.Core.Bool.{Bool, true, _&&_}
 use mathlib.Core.List.{List}
@@ -15,12 +15,12 @@ use borrow.Author.Tests.{not-true, not-false}
 use Rattle.rules.proofs.Tests.{and-yes}
 use Rattle.choice.specs.Best.{noLess, rivalIn, challenged}
 use Rattle.choice.proofs.Fitting.{size-fits, all-lengths}
-use Rattle.choice.proofs.FilesPassed.{AtRival, nextBest, next-rival, files-none, files-more, at-rival, files-all, choice-unfit, choice-fit}
+use Rattle.choice.proofs.FilesPassed.{FilesPassed, AtRival, nextBest, next-rival, files-none, files-more, at-rival, files-all, choice-unfit, choice-fit}
 use Rattle.choice.proofs.edition1.choose.Statement.{statement}
 use Rattle.choice.proofs.edition1.choose.Tie as tie
 
 abbrev Inv-loop : tie.InvT-loop
-Inv-loop window size sizes sides scratch gains files best₀ fit f₀ best f = AtRival window size sizes sides (take (length sizes) scratch) gains f best
+Inv-loop window size sizes sides scratch gains files best₀ fit f₀ best f = FilesPassed window size sizes sides (take (length sizes) scratch) gains f best
 
 abbrev μ-loop : tie.MeasureT-loop
 μ-loop window size sizes sides scratch gains files best₀ fit f₀ best f = length sizes - f
@@ -29,7 +29,7 @@ abbrev At : Type 0
 At = tie.At-loop Inv-loop μ-loop
 
 abbrev entry : At → tie.Start Inv-loop μ-loop
-entry c = c .before .before .before .before .before .before .before
+entry c = c .before .before .before .before .before .before
 
 abbrev locksOf : tie.Start Inv-loop μ-loop → List ℕ
 locksOf s = take (length (s .args .sizes .now)) (s .args .scratch .now)
@@ -51,17 +51,30 @@ fits c =
     all-lengths
     (ap (λ (t : Bool). eqb (length (a .sides .now)) (length (a .sizes .now)) && t) (sym (c .before .fit-files .ensures)) ∙ not-false _ (c .if1 .left))
 
-next-rival-requires : tie.Need-next-rival-requires Inv-loop μ-loop
-next-rival-requires c κs = let t = fits c in (t .1, t .2, omega arith)
-
 loop-holds : tie.Need-loop-holds Inv-loop μ-loop
-loop-holds c = at-rival files-none (c .next-rival .ensures)
+loop-holds c = files-none
+
+next-rival-requires : tie.Need-next-rival-requires Inv-loop μ-loop
+next-rival-requires c κs = let t = fits (c .before) in (t .1, t .2, c .loop .inv .few)
+
+-- the file walked to is the next rival of the best so far
+walked : (c : tie.After-next-rival Inv-loop μ-loop)
+    → let s = entry (c .before) in AtRival (s .args .window) (s .args .size) (s .args .sizes .now) (s .args .sides .now) (locksOf s) (s .args .gains .now) (c .next-rival .result) (c .before .loop .best)
+walked c = at-rival (c .before .loop .inv) (c .next-rival .ensures)
+
+returns-2 : tie.Need-returns-2 Inv-loop μ-loop
+returns-2 c =
+    let w = c .before in
+    let a = entry (w .before) .args in
+    let t = fits (w .before .before) in
+    files-all (c .if2 .taken) (walked w .passed)
+    ∙ sym (choice-fit (a .window) (a .size) (a .sizes .now) (a .sides .now) (a .scratch .now) (a .gains .now) (t .0) (t .1) (t .2))
 
 mul-size-after : tie.Need-mul-size-after Inv-loop μ-loop
 mul-size-after c = search needs
 
 shared-slice-read-size-after : tie.Need-shared-slice-read-size-after Inv-loop μ-loop
-shared-slice-read-size-after c = omega (arith, fits (c .before .before .before .before), c .before .loop-test .taken)
+shared-slice-read-size-after c = omega (arith, fits (c .before .before .before .before), c .before .if2 .left)
 
 mul-size-after-2 : tie.Need-mul-size-after-2 Inv-loop μ-loop
 mul-size-after-2 c = search needs
@@ -76,66 +89,60 @@ mul-challenge : tie.Need-mul-challenge Inv-loop μ-loop
 mul-challenge c = search needs
 
 shared-slice-copy-out-challenge : tie.Need-shared-slice-copy-out-challenge Inv-loop μ-loop
-shared-slice-copy-out-challenge c = omega (arith, fits (c .before .before .before .before .before .before), c .before .before .before .loop-test .taken)
+shared-slice-copy-out-challenge c = omega (arith, fits (c .before .before .before .before .before .before), c .before .before .before .if2 .left)
 
-abbrev looked : tie.After-challenge-arg Inv-loop μ-loop → At
+-- where the rival was found
+abbrev looked : tie.After-challenge-arg Inv-loop μ-loop → tie.After-next-rival Inv-loop μ-loop
 looked c = c .before .before .before .before .before
+
+abbrev begun : tie.After-challenge-arg Inv-loop μ-loop → tie.Start Inv-loop μ-loop
+begun c = entry (looked c .before)
+
+abbrev file : tie.After-challenge-arg Inv-loop μ-loop → ℕ
+file c = looked c .next-rival .result
 
 -- the gain that is handed on is the file's
 handed : (c : tie.After-challenge-arg Inv-loop μ-loop)
-    → let gain = getD (entry (looked c) .args .gains .now) (looked c .loop .f) (pos 0) in toZ w32 (ofZ w32 gain) ≡ gain
+    → let gain = getD (begun c .args .gains .now) (file c) (pos 0) in toZ w32 (ofZ w32 gain) ≡ gain
 handed c = toZ-ofZ (sfits-of (c .challenge-arg .given))
 
 -- the file is a rival
 rival : (c : tie.After-challenge-arg Inv-loop μ-loop)
-    → let s = entry (looked c) in rivalIn (looked c .loop .best) (locksOf s) (s .args .gains .now) (length (s .args .sizes .now)) (looked c .loop .f) ≡ true
-rival c = looked c .loop .inv .rival (c .before .before .before .before .loop-test .taken)
+    → let s = begun c in rivalIn (looked c .before .loop .best) (locksOf s) (s .args .gains .now) (length (s .args .sizes .now)) (file c) ≡ true
+rival c = walked (looked c) .rival (c .before .before .before .before .if2 .left)
 
 challenge-requires : tie.Need-challenge-requires Inv-loop μ-loop
 challenge-requires c κs =
-    let s = entry (looked c) in
-    let f = looked c .loop .f in
+    let s = begun c in
+    let f = file c in
     let own = getD (s .args .sizes .now) f 0 in
     let gain = getD (s .args .gains .now) f (pos 0) in (
-      rw (handed c) (and-yes (eqb (getD (locksOf s) f 0) 0) (noLess gain (looked c .loop .best) (length (s .args .sizes .now))) (rival c) .1),
+      rw (handed c) (and-yes (eqb (getD (locksOf s) f 0) 0) (noLess gain (looked c .before .loop .best) (length (s .args .sizes .now))) (rival c) .1),
       rw (c .before .size-after .ensures) (size-fits (s .args .size) (getD (s .args .sides .now) f 0) own (omega arith) (omega (arith, c .before .before .shared-slice-known5 .given f))),
     )
 
-add-next-rival : tie.Need-add-next-rival Inv-loop μ-loop
-add-next-rival c = search needs
-
-next-rival-requires-2 : tie.Need-next-rival-requires-2 Inv-loop μ-loop
-next-rival-requires-2 c κs =
-    let t = fits (looked (c .before) .before .before) in
-    (t .1, t .2, omega (arith, c .before .before .before .before .before .loop-test .taken))
+add-f : tie.Need-add-f Inv-loop μ-loop
+add-f c = search needs
 
 -- what is kept is the best so far against the file
 kept : (c : tie.After-challenge Inv-loop μ-loop)
-    → let s = entry (looked (c .before)) in
-    let l = looked (c .before) .loop in
-    c .challenge .result ≡ nextBest (s .args .window) (s .args .size) (s .args .sizes .now) (s .args .sides .now) (locksOf s) (s .args .gains .now) (l .best) (l .f)
+    → let s = begun (c .before) in
+    c .challenge .result
+    ≡ nextBest (s .args .window) (s .args .size) (s .args .sizes .now) (s .args .sides .now) (locksOf s) (s .args .gains .now) (looked (c .before) .before .loop .best) (file (c .before))
 kept c =
-    let s = entry (looked (c .before)) in
-    let l = looked (c .before) .loop in
+    let s = begun (c .before) in
+    let best = looked (c .before) .before .loop .best in
+    let f = file (c .before) in
     c .challenge .ensures
-    ∙ ap₂ (λ (gain : ℤ) (after : ℕ). challenged (s .args .window) (l .best) (l .f) gain 0 after (length (s .args .sizes .now))) (handed (c .before)) (c .before .before .size-after .ensures)
-    ∙ next-rival (s .args .window) (s .args .size) (s .args .sizes .now) (s .args .sides .now) (locksOf s) (s .args .gains .now) (l .best) (l .f) (rival (c .before))
+    ∙ ap₂ (λ (gain : ℤ) (after : ℕ). challenged (s .args .window) best f gain 0 after (length (s .args .sizes .now))) (handed (c .before)) (c .before .before .size-after .ensures)
+    ∙ next-rival (s .args .window) (s .args .size) (s .args .sizes .now) (s .args .sides .now) (locksOf s) (s .args .gains .now) best f (rival (c .before))
 
 loop-less : tie.Need-loop-less Inv-loop μ-loop
-loop-less c = omega (arith, c .next-rival2 .ensures .outdone .least, c .before .before .before .before .before .before .loop-test .taken)
+loop-less c = omega (arith, looked (c .before) .next-rival .ensures .outdone .least, c .before .before .before .before .before .if2 .left)
 
 loop-again : tie.Need-loop-again Inv-loop μ-loop
 loop-again c =
-    at-rival
-    (rw (kept (c .before)) (files-more (c .before .before .before .before .before .before .loop-test .taken) (looked (c .before .before) .loop .inv .passed)))
-    (c .next-rival2 .ensures)
-
-returns-2 : tie.Need-returns-2 Inv-loop μ-loop
-returns-2 c =
-    let a = entry (c .before) .args in
-    let t = fits (c .before .before .before) in
-    files-all (c .loop-test .left) (c .before .loop .inv .passed)
-    ∙ sym (choice-fit (a .window) (a .size) (a .sizes .now) (a .sides .now) (a .scratch .now) (a .gains .now) (t .0) (t .1) (t .2))
+    rw (kept c) (files-more (c .before .before .before .before .before .if2 .left) (walked (looked (c .before)) .passed))
 
 pub choose-spec : {M : Type 1} → statement M
 choose-spec =
@@ -145,8 +152,9 @@ choose-spec =
     μ-loop
     fit-files-requires
     returns
-    next-rival-requires
     loop-holds
+    next-rival-requires
+    returns-2
     mul-size-after
     shared-slice-read-size-after
     mul-size-after-2
@@ -155,8 +163,6 @@ choose-spec =
     mul-challenge
     shared-slice-copy-out-challenge
     challenge-requires
-    add-next-rival
-    next-rival-requires-2
+    add-f
     loop-less
-    loop-again
-    returns-2)
+    loop-again)

@@ -1,4 +1,4 @@
-use mathlib.Core.Path.{ap, _∙_}
+use mathlib.Core.Path.{ap, sym, _∙_}
 use Prim.Native.Nat.{ℕ, _-_}
 use mathlib.Core.Bool.{Bool}
 use mathlib.Core.List.{List}
@@ -15,10 +15,13 @@ use Rattle.job.proofs.figures.holding.Statement.{statement}
 use Rattle.job.proofs.figures.holding.Tie as tie
 
 abbrev Inv-loop : tie.InvT-loop
-Inv-loop marks bounds pins n x₀ j₀ x j = Summed (λ k. bit (ltb 0 (countOn marks 2 (viewOf bounds pins k)))) 1 n j x
+Inv-loop unread marks bounds pins n x₀ j₀ x j = Summed (λ k. bit (ltb 0 (countOn marks 2 (viewOf bounds pins k)))) 1 n j x
 
 abbrev μ-loop : tie.MeasureT-loop
-μ-loop marks bounds pins n x₀ j₀ x j = n - j
+μ-loop unread marks bounds pins n x₀ j₀ x j = n - j
+
+returns : tie.Need-returns Inv-loop μ-loop
+returns c = sym (c .before .before .before .before .pre (c .if1 .taken))
 
 recipe-count-requires : tie.Need-recipe-count-requires Inv-loop μ-loop
 recipe-count-requires c κs = search needs
@@ -47,16 +50,16 @@ loop-less c = search needs
 loop-again : tie.Need-loop-again Inv-loop μ-loop
 loop-again c =
     let l = c .before .before .before .before in
-    let a = l .before .before .before .before .before .args in
+    let a = l .before .before .before .before .before .before .args in
     let holds : List ℕ → Bool = λ r. ltb 0 (countOn (a .marks .now) 2 r) in
     summed-bit (λ k. holds (viewOf (a .bounds .now) (a .pins .now) k)) (l .loop .inv) (omega arith)
     (c .bit .ensures .0 ∙ ap (λ (n : ℕ). bit (ltb 0 n)) (c .before .count-on .ensures) ∙ ap (λ (r : List ℕ). bit (holds r)) (c .before .before .view .ensures))
 
-returns : tie.Need-returns Inv-loop μ-loop
+returns-2 : tie.Need-returns-2 Inv-loop μ-loop
 unfolding views count
-returns c =
+returns-2 c =
     let n = c .before .before in
-    let a = n .before .before .before .before .args in
+    let a = n .before .before .before .before .before .args in
     rw (unread-recipes (ofMarked (a .marks .now) (a .bounds .now) (a .pins .now)), ← n .recipe-count .ensures)
     (summed-end (c .before .loop .inv) (omega arith)
     ∙ count-mapped (λ r. ltb 0 (countOn (a .marks .now) 2 r)) (viewOf (a .bounds .now) (a .pins .now)) (n .recipe-count .result))
@@ -67,6 +70,7 @@ holding-spec =
     (tie.spec
     Inv-loop
     μ-loop
+    returns
     recipe-count-requires
     loop-holds
     view-requires
@@ -76,4 +80,4 @@ holding-spec =
     add-j
     loop-less
     loop-again
-    returns)
+    returns-2)
