@@ -1,9 +1,9 @@
 """Calls of the balancing, of which the program `job_cases` prints the answers.
 
 tests/job_cases.py writes them behind its own cases. A case is a heading with its name, and
-then the frames of a call: the letter `b`, the figures num, den, cap, the lists sizes, sides,
-marks, bounds, pins, and the scratch as it is before the call. It is lent these lists, each
-exactly as long as its frame says. Four lines are printed of it:
+then the frames of a call: the letter `b`, the figures num, den, cap, k, the lists sizes,
+sides, marks, bounds, pins, and the scratch as it is before the call. It is lent these lists,
+each exactly as long as its frame says. Four lines are printed of it:
 
     1  the name
     2  number, place, moves, cut, |A|, unread files and recipes that hold one, as the call
@@ -167,6 +167,37 @@ def unread_randoms():
         yield Call(f"unread random {k}", job, lent(job))
 
 
+def any_k():
+    """The chain in A at every k; 3 stands before a k that is refused."""
+    for k in samples.ANY_K:
+        yield from off(f"k is {k}", IN_A.changed(k=k), 0)
+    yield from off("k is 5", IN_A.changed(k=5), -1, 1)
+    # Balanced at 2, and too small at 1.
+    yield from off("chain in B, k is 2", IN_B.changed(k=2), -1, 0, 1)
+
+
+def wrong_k_and_a_fault():
+    for number in BALANCE_FAULTS:
+        job = faulty(number).changed(k=5)
+        yield Call(f"k is 5 and fault {number}", job, scratch_of(job))
+
+
+def of_wider_samples():
+    for name, (_, _, job) in samples.wider_starts().items():
+        yield Call(f"wider {name}", job, lent(job))
+
+
+def wider_randoms():
+    """Few files, most of them not balanced, at each k; some of them unread."""
+    rng = random.Random(SEED + 6)
+    kinds = itertools.product(samples.WIDER, (A, B, None), (0, 0.3))
+    for i, (k, side, part) in enumerate(kinds):
+        job = samples.unbalanced_job(rng, rng.randint(4, 14), rng.randint(1, 14), side)
+        unread = [file for file in range(job.files) if rng.random() < part]
+        job = samples.with_unread(job.changed(k=k), *unread)
+        yield Call(f"wider random {i}", job, lent(job))
+
+
 # ---- The cases
 
 CASES = (
@@ -188,6 +219,11 @@ CASES = (
     *called("", *short(*UNREAD_FILES)),
     *largest_unread(),
     *unread_randoms(),
+    *any_k(),
+    *wrong_k_and_a_fault(),
+    *of_wider_samples(),
+    *off("large, k is 4", large(4, sides=[A] * 1024, k=4), -1, 0),
+    *wider_randoms(),
 )
 
 

@@ -4,9 +4,10 @@
     python3 tests/job_cases.py --write    writes both, and those of `balance`
 
 A case is a heading, a job, or a view; behind them stand the calls of the balancing that
-tests/balance_cases.py has. The answers are the reference's. Of a job one line is printed:
-number and place of its check; number, place, cut, |A|, unread files and recipes that hold
-one, of its measure.
+tests/balance_cases.py has. A job is the letter `j`, the figures num, den, cap, k, and the
+lists sizes, sides, marks, bounds, pins. The answers are the reference's. Of a job one line
+is printed: number and place of its check; number, place, cut, |A|, unread files and recipes
+that hold one, of its measure.
 """
 
 import sys
@@ -395,6 +396,33 @@ UNREAD_FILES = (
     samples.partial_chain(marks=[2, 2, 2, 2], num=0, sides=[0] * 4),
 )
 
+# Order 6.
+WIDER_WINDOWS = (
+    "any k",
+    *samples.at_each(samples.ANY_K, CHAIN),
+    "the window at each k",
+    *(
+        job
+        for kinds in (samples.edges, samples.fine_edges)
+        for _, job in samples.at_each_wider(kinds).values()
+    ),
+    *(job for _, job in samples.wider_jobs().values()),
+    # 1,023 of 1,024 files of 65,535 in A: the least num for that, and one less.
+    *(
+        job.changed(k=k)
+        for k, num in ((2, 998), (3, 997), (4, 996))
+        for job in lopsided((65535, num, 1000), (65535, num - 1, 1000))
+    ),
+    "k and a fault",
+    # 7 stands after 6, and before 8 and 9.
+    *(faulty(number, k=5) for number in FAULTS),
+    # The same with a k that may be: 9 is none at 2.
+    *(faulty(number, k=2) for number in (6, 7, 8, 9)),
+    faulty(7, 8, 9, k=0),
+    samples.partial_chain(k=65535),
+    LARGE.changed(k=0),
+)
+
 VIEWS = (
     "views",
     # Every recipe, and then none.
@@ -428,7 +456,15 @@ VIEWS = (
     *views(LONG.bounds, LONG.pins, 3, 4),
 )
 
-CASES = UP_TO_6 + FROM_7_ON + SEVERAL_FAULTS + LARGEST + VIEWS + UNREAD_FILES
+CASES = (
+    UP_TO_6
+    + FROM_7_ON
+    + SEVERAL_FAULTS
+    + LARGEST
+    + VIEWS
+    + UNREAD_FILES
+    + WIDER_WINDOWS
+)
 
 
 # ---- What the program reads, and what it must write
@@ -446,7 +482,7 @@ def framed(case):
 
 def figures_and_lists(job, *more):
     """Six frames of a job: its figures, with any more behind them, and its lists."""
-    figures = (job.num, job.den, job.cap, *more)
+    figures = (job.num, job.den, job.cap, job.k, *more)
     lists = (figures, job.sizes, job.sides, job.marks, job.bounds, job.pins)
     return b"".join(map(numbers, lists))
 

@@ -474,6 +474,90 @@ def unread():
     yield from large_unread()
 
 
+def of_header(*header):
+    """The chain under a header of these values."""
+    chain = samples.chain()
+    return write_values(header, planner.file_values(chain), chain.bounds, chain.pins)
+
+
+def header_bytes():
+    """Headers of five values up to eight, every seventh value, and values beyond."""
+    six = planner.header_values(samples.chain())
+    yield "no_22_header_of_5", of_header(*six[:5])
+    for k in samples.ANY_K:
+        if k not in samples.WIDER:
+            yield f"no_22_seventh_is_{k}", of_header(*six, k)
+    yield "no_22_header_of_8", of_header(*six, 2, 0)
+    yield "no_22_header_of_8_with_an_eighth", of_header(*six, 2, 2)
+    # A value that stands behind those that are counted.
+    for name, k, at in (
+        ("seventh_of_six", 1, 6),
+        ("eighth_of_seven", 2, 7),
+        ("last_of_seven", 4, 252),
+    ):
+        blocks = faults.Blocks(samples.chain().changed(k=k))
+        blocks.set_value(0, at, 2)
+        yield f"no_22_{name}", blocks.stored()
+
+
+def wider_faults():
+    """Faults of the chain with seven values, beside a wrong k and beside a right one."""
+    for fault in (faults.IN_ORDER[at] for at in (0, 2, 3, 4, 5)):
+        name = f"seventh_is_5_and_{fault_name(fault)}"
+        yield name, faults.stored_chain([fault, faults.WRONG_SEVENTH], k=2)
+    for fault in (faults.IN_ORDER[at] for at in (4, 6, 11, 14, 15)):
+        yield f"wider_{fault_name(fault)}", faults.stored_chain([fault], k=3)
+
+
+@functools.cache
+def wider_starts():
+    """Starts to be balanced at each k over 1, by name."""
+    stored = ("impossible_from_above_by_1", "just_possible_from_below_by_1", "beside")
+    return {
+        f"wider_start_{name}": job
+        for name, (_, _, job) in samples.wider_starts().items()
+        if name.startswith(stored)
+    }
+
+
+def random_wider_jobs():
+    """Sound jobs at each k that start near its edge, some with unread files."""
+    rng = random.Random(SEED + 6)
+    for i, k in enumerate(2 * samples.WIDER):
+        job = samples.wider_job(
+            rng,
+            files=rng.randint(12, 60),
+            recipes=rng.randint(12, 80),
+            k=k,
+            top_size=rng.choice([1, 9, 65535]),
+            pinned=rng.choice([0, 0.1, 0.3]),
+            cap=rng.choice([0, 0, 2]),
+        )
+        yield f"wider_random_{i}", write_job(job)
+
+
+def large_wider_jobs():
+    """The largest job at the edge of its window, and with sizes that differ."""
+    # |A| is 516 of 1,024.
+    sides = [A] * 8 + [A, B] * 508
+    yield "large_wider_even", write_job(large(4, sides=sides, k=4, cap=1))
+    yield "large_wider_rising", write_job(rising(k=3))
+    yield "mill_at_k_2", write_job(mill().changed(k=2))
+
+
+def wider_windows():
+    """Order 6: a wider window when asked."""
+    named = {**samples.at_each_wider(samples.edges), **samples.wider_jobs()}
+    for name, (_, job) in named.items():
+        yield f"wider_{name}", write_job(job)
+    yield from header_bytes()
+    yield from wider_faults()
+    yield from stored_starts(wider_starts())
+    yield from then_run(wider_starts())
+    yield from random_wider_jobs()
+    yield from large_wider_jobs()
+
+
 EXAMPLES = ("chain", "mill", "mill_at_53")
 
 
@@ -495,6 +579,7 @@ GROUPS = (
     unbalanced_jobs,
     balanced_jobs,
     unread,
+    wider_windows,
 )
 
 

@@ -13,6 +13,7 @@ from typing import NamedTuple
 
 from job_cases import (
     CHAIN,
+    FAULTS,
     LARGE,
     LARGEST,
     LONG,
@@ -30,6 +31,7 @@ from program_files import frame, heading, keep
 
 import planner
 from planner import FREE, PINNED, UNREAD
+from samples import ANY_K, at_each
 
 # What every byte of an output list is before the call.
 FILLED = b"\xa5"
@@ -164,6 +166,24 @@ CASES = (
     *called(*(wide(files, marks=[UNREAD] * files) for files in (126, 127))),
     "output lists of jobs with unread files",
     *off(CHAIN.changed(marks=[2, 2, 1, 0]), -512, -1, 0, 1, 512),
+    # Order 6.
+    "any k",
+    *called(*at_each(ANY_K, CHAIN)),
+    "any ratio and k",
+    *called(*at_each((2, 5), CHAIN.changed(num=0, den=0))),
+    *called(*at_each((4, 0), CHAIN.changed(num=65535, den=65535, cap=65535))),
+    "k and a fault",
+    # 1 to 6 before it; it is given where a run gives 8 or 9, and for no ratio.
+    *called(*(faulty(number, k=5) for number in FAULTS)),
+    *called(*(faulty(number, k=3) for number in range(6, 10))),
+    "k and other sides and marks",
+    *called(*at_each((1, 2), CHAIN.changed(sides=[1, 0, 0, 1], marks=[2, 1, 0, 2]))),
+    "the largest and k",
+    *called(UNEVEN.changed(k=3), UNEVEN.changed(k=0)),
+    "output lists and k",
+    *off(CHAIN.changed(k=2), -512, -1, 1, 2, 512),
+    *off(CHAIN.changed(k=5), -512, -1, 1, 512),
+    *off(TWO_FILE_BLOCKS.changed(k=4), -512, 0, 512),
 )
 
 

@@ -70,9 +70,13 @@ IN_ORDER = (
 )
 
 
-def stored_chain(faults):
-    """The chain's bytes with these faults of IN_ORDER planted one after the other."""
-    blocks = Blocks(samples.chain())
+# Order 6: a header with seven values that holds no k, which is 22 of block 0.
+WRONG_SEVENTH = ((22, 0), lambda blocks: blocks.set_value(0, 6, 5))
+
+
+def stored_chain(faults, k=1):
+    """The chain's bytes at k with these faults planted one after the other."""
+    blocks = Blocks(samples.chain().changed(k=k))
     for _, plant in faults:
         plant(blocks)
     return blocks.stored()

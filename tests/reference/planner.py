@@ -16,6 +16,8 @@ MOST_FILES = 1024
 MOST_RECIPES = 1024
 MOST_PINS = 4096
 MOST_DEN = 1000
+# "A whole number k, 1 to 4."
+MOST_K = 4
 
 A, B = 0, 1
 FREE, PINNED, UNREAD = 0, 1, 2
@@ -36,6 +38,7 @@ class Job:
     num: int
     den: int
     cap: int
+    k: int = 1
 
     def __post_init__(self):
         # Tuples, so that no later change of a caller's list reaches a job.
@@ -73,6 +76,11 @@ class Job:
         """smax, "over files with mark 0"; "refusal 8 still stands before 9, so there
         is always a smax"."""
         return max(size for size, mark in zip(self.sizes, self.marks) if mark == FREE)
+
+    @property
+    def tolerance(self):
+        """What "the balance test uses": "k·smax on both sides"."""
+        return self.k * self.largest
 
     @cached_property
     def whole_recipes(self):
@@ -185,7 +193,14 @@ def find_6(job, lent_ok):
 
 
 def find_7(job, lent_ok):
-    return place_if(job.num == 0 or job.num >= job.den or job.den > MOST_DEN)
+    """The ratio, and "after the ratio" k."""
+    ratio = job.num == 0 or job.num >= job.den or job.den > MOST_DEN
+    return place_if(ratio or wrong_k(job))
+
+
+def wrong_k(job):
+    """ "Any other k" than "1 to 4"."""
+    return not 1 <= job.k <= MOST_K
 
 
 def find_8(job, lent_ok):
@@ -276,15 +291,15 @@ def size_of_a(job, sides):
 
 
 def too_small(job, size_a):
-    return job.den * size_a + job.den * job.largest < job.num * job.total
+    return job.den * size_a + job.den * job.tolerance < job.num * job.total
 
 
 def too_large(job, size_a):
-    return job.den * size_a > job.num * job.total + job.den * job.largest
+    return job.den * size_a > job.num * job.total + job.den * job.tolerance
 
 
 def balanced(job, size_a):
-    """Both tests in whole numbers, as document 01 writes them."""
+    """Both tests in whole numbers, as document 01 writes them, but for k."""
     return not too_small(job, size_a) and not too_large(job, size_a)
 
 
@@ -526,7 +541,8 @@ def no_start_is_balanced(job):
     """ "No assignment of the free files is balanced."
 
     A stays too large without any of them, or too small with all. Between these
-    two no step is wider than smax, and the window is twice as wide.
+    two no step is wider than smax, and at every k the window is twice as wide at
+    least.
     """
     return too_large(job, size_with_free_files(job, B)) or too_small(
         job, size_with_free_files(job, A)
@@ -581,7 +597,10 @@ CHECKED = 510  # the bytes that a block's check covers
 VALUES = 253
 FILES_TO_A_BLOCK = 126
 HEADER, FILES, BOUNDS, PINS = 1, 2, 3, 4
-HEADER_VALUES = 6
+# "A header with six values means k = 1. One with seven carries k."
+HEADER_COUNTS = (6, 7)
+# "The reader answers k as a seventh figure."
+HEADER_FIGURES = 7
 # Side plus 4, the second value of an unread file in B.
 MOST_SECOND = 5
 
@@ -612,14 +631,14 @@ def make_block(number, kind, values):
     return checked + two_bytes(block_check(checked))
 
 
-def value_counts(files, recipes, pins):
+def value_counts(files, recipes, pins, header=HEADER_COUNTS[0]):
     """Kind and count of values of each block, in order, as the header makes them.
 
     "Only the last block of a kind may be short; a kind with no values has no
     block." A file takes two values.
     """
     return (
-        [(HEADER, HEADER_VALUES)]
+        [(HEADER, header)]
         + [(FILES, 2 * count) for count in split(files, FILES_TO_A_BLOCK)]
         + [(BOUNDS, count) for count in split(recipes + 1, VALUES)]
         + [(PINS, count) for count in split(pins, VALUES)]
@@ -644,7 +663,7 @@ def file_values(job):
 def write_values(header, files, bounds, pins):
     """The blocks of these values, cut as their own lengths say, faults and all."""
     values = list(header) + list(files) + list(bounds) + list(pins)
-    counts = value_counts(len(files) // 2, len(bounds) - 1, len(pins))
+    counts = value_counts(len(files) // 2, len(bounds) - 1, len(pins), len(header))
     blocks = []
     for number, (kind, count) in enumerate(counts):
         blocks.append(make_block(number, kind, values[:count]))
@@ -652,10 +671,15 @@ def write_values(header, files, bounds, pins):
     return b"".join(blocks)
 
 
+def header_values(job):
+    """Six values where k is 1, and else k as a seventh."""
+    values = (job.files, job.recipes, len(job.pins), job.num, job.den, job.cap)
+    return values if job.k == 1 else (*values, job.k)
+
+
 def write_job(job):
     """The stored form of a job."""
-    header = (job.files, job.recipes, len(job.pins), job.num, job.den, job.cap)
-    return write_values(header, file_values(job), job.bounds, job.pins)
+    return write_values(header_values(job), file_values(job), job.bounds, job.pins)
 
 
 def stored_length(job):
@@ -667,9 +691,12 @@ def write(job, output):
     """The writer: number, place, and the bytes of the output list afterwards.
 
     "A job that passes checks 1 to 6 becomes the blocks of document 01"; "an
-    output list not exactly as long as the blocks is refused as 3".
+    output list not exactly as long as the blocks is refused as 3". For another k
+    "the writer gives 7 for it too, last, and still carries any ratio".
     """
     number, place = refusal(job, len(output) == stored_length(job), 6)
+    if number == 0 and wrong_k(job):
+        number = 7
     return number, place, output if number else write_job(job)
 
 
@@ -690,34 +717,49 @@ def block_refusal(data, number, kind, count):
     unused = block[4 + 2 * count : CHECKED]
     if block[:4] != head or any(unused):
         return 22
+    values = block_values(block, count)
+    if kind == HEADER and wrong_seventh(values):
+        return 22
     # "22 a file's second value over 5."
-    seconds = block_values(block, count)[1::2]
-    if kind == FILES and any(second > MOST_SECOND for second in seconds):
+    if kind == FILES and any(second > MOST_SECOND for second in values[1::2]):
         return 22
     return 0
 
 
+def wrong_seventh(header):
+    """A header with seven values "must hold 2, 3 or 4, else 22"."""
+    return any(not 2 <= k <= MOST_K for k in header[6:])
+
+
+def header_count(data):
+    """How many values block 0 is to hold: what it says, if a header can have so many,
+    and else six, which its head then is not."""
+    return data[3] if data[3] in HEADER_COUNTS else HEADER_COUNTS[0]
+
+
 def refused_reading(number, place):
     """ "All other numbers of a refused answer are 0." """
-    return number, place, (0,) * HEADER_VALUES, None
+    return number, place, (0,) * HEADER_FIGURES, None
 
 
 def read_job(data, room=None):
-    """Number, place, the header's six figures and the job (None when refused).
+    """Number, place, the header's seven figures and the job (None when refused).
 
     The order of the refusals is that of "The stored job", and reading "stops
     after check 6".
     """
     if len(data) < BLOCK:
         return refused_reading(20, 0)
-    number = block_refusal(data, 0, HEADER, HEADER_VALUES)
+    count = header_count(data)
+    number = block_refusal(data, 0, HEADER, count)
     if number:
         return refused_reading(number, 0)
-    header = tuple(block_values(block_at(data, 0), HEADER_VALUES))
+    # "A header with six values means k = 1."
+    header = (*block_values(block_at(data, 0), count), 1)[:HEADER_FIGURES]
     number = header_refusal(header, room or ROOM_FOR_THE_LARGEST)
     if number:
         return refused_reading(number, 0)
-    counts = value_counts(*header[:3])
+    counts = value_counts(*header[:3], count)
     if len(data) != BLOCK * len(counts):
         return refused_reading(20, 0)
     for block, (kind, count) in enumerate(counts[1:], start=1):
@@ -759,6 +801,7 @@ def job_of_blocks(data, header, counts):
         num=header[3],
         den=header[4],
         cap=header[5],
+        k=header[6],
     )
 
 

@@ -1,5 +1,5 @@
 """Jobs for tests: those that the documents give, those at the edges of the window,
-those with unread files, and random ones."""
+those with unread files, those with a wider window, and random ones."""
 
 from planner import A, B, FREE, PINNED, UNREAD, Job, balance, size_of_a
 
@@ -378,6 +378,149 @@ def unread_starts():
     }
 
 
+# ---- Order 6: a wider window
+
+# What a seventh value carries.
+WIDER = (2, 3, 4)
+# "Each k from 0 to 6 and 65,535", and one whose low byte alone would be allowed.
+ANY_K = (*range(7), 258, 65535)
+WRONG_K = tuple(k for k in ANY_K if not 1 <= k <= 4)
+
+
+def at_each(ks, job):
+    """The job with each of these k."""
+    return [job.changed(k=k) for k in ks]
+
+
+def all_at(k, found):
+    """The same at k, where the last that stands behind each name is a job."""
+    return {name: (*told, job.changed(k=k)) for name, (*told, job) in found.items()}
+
+
+def at_each_wider(*kinds):
+    """What each of these makes of each k over 1."""
+    return {
+        f"{name}_at_{k}": told
+        for k in WIDER
+        for kind in kinds
+        for name, told in kind(k).items()
+    }
+
+
+def of_20(side, in_a):
+    """A pinned file of size 4 on this side and sixteen free ones of 1: so much in A."""
+    free = in_a - 4 if side == A else in_a
+    return in_a_row([(4, side)], [(1, A)] * free + [(1, B)] * (16 - free))
+
+
+def of_1501(pinned, side):
+    """A pinned file of this size on a side, and on the other free ones of 100 and a
+    rest: 1,501 in all. A's share is a thousandth off a half, to the free ones' side."""
+    hundreds, rest = divmod(1501 - pinned, 100)
+    free = all_on(1 - side, [100] * hundreds + [rest])
+    return in_a_row([(pinned, side)], free, 501 if side == A else 499, 1000)
+
+
+def edges(k):
+    """The edges of the window at k, by name, each with the number of its refusal, or 0.
+
+    W is 20 and smax 1: |A| from 10 - k up to 10 + k, and both are met exactly.
+    """
+    found = {
+        "low_edge_hit": (0, of_20(B, 10 - k)),
+        "low_edge_missed": (9, of_20(B, 9 - k)),
+        "high_edge_hit": (0, of_20(A, 10 + k)),
+        "high_edge_missed": (9, of_20(A, 11 + k)),
+    }
+    return all_at(k, found)
+
+
+def fine_edges(k):
+    """The same by 1 of den·|A|.
+
+    W is 1,501 and smax 100. Of 501·W, 752,001, a |A| of 752 - 100k lacks 1; of
+    499·W, 748,999, one of 749 + 100k is 1 too much.
+    """
+    off = 752 - 100 * k
+    found = {
+        "low_edge_missed_by_1": (9, of_1501(off, A)),
+        "low_edge_kept": (0, of_1501(off + 1, A)),
+        "high_edge_missed_by_1": (9, of_1501(off, B)),
+        "high_edge_kept": (0, of_1501(off + 1, B)),
+    }
+    return all_at(k, found)
+
+
+def wider_jobs():
+    """By name, with the number that a run refuses each as, or 0."""
+    in_a, in_b = (chain().changed(sides=[side] * 4) for side in (A, B))
+    # Of 1,000 readable ones 700 lie in A, and smax is 100.
+    beside = [(60000, A)] + [(100, A)] * 7 + [(100, B)] * 3
+    beside_unread = with_unread(in_a_row([], beside), 0)
+    # 0.984·W is 60,024, and |A| is 276 more.
+    beside_pinned = in_a_row(beside[:1], beside[5:] + [(100, B)] * 4, 984, 1000)
+    # W is 18 without the unread file, and smax 3: |A| is 16, and may be 15 at k = 2.
+    mixed = every_mark(PINNED, UNREAD, FREE, FREE, PINNED, FREE)
+    mixed = mixed.changed(sizes=[8, 50, 3, 3, 2, 2], sides=[A, B, A, A, B, A])
+    return {
+        # 0 and 4 are not balanced at k = 1: now the chain may end in one vault.
+        **{f"chain_at_{job.k}": (0, job) for job in at_each(WIDER, chain())},
+        "chain_in_a_at_2": (0, in_a.changed(k=2)),
+        "chain_in_b_at_2": (0, in_b.changed(k=2)),
+        # Twice 10 is 7 more than 13, and 2k is 4, 6 and 8.
+        "archive_at_2": (9, archive().changed(k=2)),
+        "archive_at_3": (9, archive().changed(k=3)),
+        "archive_at_4": (0, archive().changed(k=4)),
+        "beside_unread_at_1": (9, beside_unread),
+        "beside_unread_at_2": (0, beside_unread.changed(k=2)),
+        "beside_pinned_at_2": (9, beside_pinned.changed(k=2)),
+        "beside_pinned_at_3": (0, beside_pinned.changed(k=3)),
+        "every_mark_at_2": (9, mixed.changed(k=2)),
+        "every_mark_at_3": (0, mixed.changed(k=3)),
+        "every_mark_capped_at_3": (0, mixed.changed(k=3, cap=1)),
+    }
+
+
+def starts(k):
+    """Starts to be balanced at k, by name: the number that balancing refuses each as,
+    or 0, its moves, and the job."""
+    # W is 14 and smax 1: |A| from 7 - k up to 7 + k.
+    light, heavy = 7 - k, 7 + k
+    # As in fine_edges: A may hold 748 + 100k, and so may B under the other ratio.
+    most, hundreds = 748 + 100 * k, [100] * light
+    found = {}
+    for side, end, num in ((A, "above", 499), (B, "below", 501)):
+        impossible = [(heavy + 1, side)], all_on(1 - side, [1] * (light - 1))
+        possible = [(heavy, side)], all_on(side, [1] * light)
+        missed = [(most + 1, side)], all_on(1 - side, hundreds + [52]), num, 1000
+        met = [(most, side)], all_on(side, hundreds + [53]), num, 1000
+        found |= {
+            f"all_{end}": (0, light, in_a_row([], all_on(side, [1] * 14))),
+            f"impossible_from_{end}": (9, 0, in_a_row(*impossible)),
+            f"just_possible_from_{end}": (0, light, in_a_row(*possible)),
+            f"impossible_from_{end}_by_1": (9, 0, in_a_row(*missed)),
+            f"just_possible_from_{end}_by_1": (0, light + 1, in_a_row(*met)),
+        }
+    return all_at(k, found)
+
+
+def starts_beside_archives():
+    """The same beside an archive of 60,000 in A, which is unread or pinned."""
+    free = all_on(A, [100] * 10)
+    # W is 1,000 without it, so |A| at most 500 + 100k.
+    unread = with_unread(in_a_row([], [(60000, A)] + free), 0)
+    # |A| at most 60,024 + 100k.
+    pinned = in_a_row([(60000, A)], free, 984, 1000)
+    return {
+        "beside_unread_at_2": (0, 3, unread.changed(k=2)),
+        "beside_pinned_at_4": (0, 6, pinned.changed(k=4)),
+    }
+
+
+def wider_starts():
+    return {**at_each_wider(starts), **starts_beside_archives()}
+
+
 # ---- Random jobs
 
 
@@ -472,4 +615,13 @@ def unread_job(rng, files, recipes, part, **more):
     marks = [UNREAD if rng.random() < part else mark for mark in job.marks]
     marks[rng.randrange(files)] = FREE
     job = job.changed(marks=marks)
+    return job.changed(sides=balance(job).sides)
+
+
+def wider_job(rng, files, recipes, k, **more):
+    """A random job whose sides are just within the window at k, where they can be: few
+    are balanced at 1. Some have unread files."""
+    job = unread_job(rng, files, recipes, rng.choice([0, 0, 0.2]), **more)
+    sides = [rng.choice((A, B)) for _ in range(files)]
+    job = job.changed(sides=sides, num=rng.randint(1, job.den - 1), k=k)
     return job.changed(sides=balance(job).sides)

@@ -64,6 +64,27 @@ def unread_of_seed(seed):
     )
 
 
+@functools.cache
+def wider_jobs():
+    """Random sound jobs at each k over 1, most of which are not balanced at 1."""
+    jobs = map(wider_of_seed, itertools.count())
+    sound = (job for job in jobs if planner.check(job) == (0, 0))
+    return list(itertools.islice(sound, RANDOM_JOBS))
+
+
+def wider_of_seed(seed):
+    rng = random.Random(seed)
+    return samples.wider_job(
+        rng,
+        files=rng.randint(4, 20),
+        recipes=rng.randint(1, 24),
+        k=samples.WIDER[seed % 3],
+        top_size=rng.choice([1, 3, 9, 65535]),
+        pinned=rng.choice([0, 0.1, 0.4]),
+        cap=rng.choice([0, 0, 1, 2]),
+    )
+
+
 def moves_of(answer):
     return answer.move_files[: answer.tried]
 
@@ -161,7 +182,7 @@ def off_goal(job, sides):
     total = sum(job.sizes[i] for i in readable)
     in_a = sum(job.sizes[i] for i in readable if sides[i] == A)
     free_sizes = [size for size, mark in zip(job.sizes, job.marks) if mark == FREE]
-    return job.den * in_a - job.num * total, job.den * max(free_sizes)
+    return job.den * in_a - job.num * total, job.den * job.k * max(free_sizes)
 
 
 def in_window(job, sides):
@@ -594,7 +615,7 @@ class Stored(unittest.TestCase):
     def answer(self, data, room=None):
         number, place, header, job = planner.read_job(data, room)
         if number:
-            self.assertEqual((header, job), ((0,) * 6, None))
+            self.assertEqual((header, job), ((0,) * 7, None))
         return number, place
 
     def rechecked(self, block, at, byte):
@@ -623,7 +644,8 @@ class Stored(unittest.TestCase):
     def test_what_was_written_is_read(self):
         for job in small_jobs():
             data = planner.write_job(job)
-            header = (job.files, job.recipes, len(job.pins), job.num, job.den, job.cap)
+            counts = job.files, job.recipes, len(job.pins)
+            header = (*counts, job.num, job.den, job.cap, 1)
             self.assertEqual(planner.read_job(data), (0, 0, header, job))
 
     def test_block_counts(self):
@@ -1127,6 +1149,7 @@ def taken_out(job):
         num=job.num,
         den=job.den,
         cap=job.cap,
+        k=job.k,
     )
     return rest, files, list(lists)
 
@@ -1410,6 +1433,317 @@ class Unread(unittest.TestCase):
                 self.assertEqual(told, (22, 1) if UNREAD in job.marks else (0, 0))
 
 
+# ---- Order 6: a wider window
+
+ALL_K = (1, *samples.WIDER)
+
+
+def of_header(*header):
+    """The chain's bytes under another header."""
+    job = samples.chain()
+    return planner.write_values(header, planner.file_values(job), job.bounds, job.pins)
+
+
+# The chain's own header.
+SIX = planner.header_values(samples.chain())
+
+
+def writable(job):
+    """Number and place of the writer's call, and what it leaves in the output list."""
+    return planner.write(job, bytes([165]) * planner.stored_length(job))
+
+
+def see_round_trip(job, start):
+    """Written and read, the job is the same; read and written, the bytes are."""
+    job = job.changed(sides=start)
+    number, place, data = writable(job)
+    assert (number, place) == (0, 0), "not written"
+    assert data[3] == (6 if job.k == 1 else 7), "another count of values"
+    number, place, header, read = planner.read_job(data)
+    assert (number, place, read) == (0, 0, job), "another job"
+    assert header[3:] == (job.num, job.den, job.cap, job.k), "other figures"
+    assert writable(read) == (0, 0, data), "other bytes"
+
+
+def bad_starts_at(k):
+    """Jobs of few files, most of them not balanced, at this k."""
+    return [job.changed(k=k) for job in (*bad_starts(), *unread_starts())]
+
+
+class Wider(unittest.TestCase):
+    """Order 6: "a wider window when asked"."""
+
+    def test_the_window_of_the_archive(self):
+        """Of 13 a half is 6.5, and smax is 1: "A may be 6 or 7" at k = 1."""
+        for k, low, high in ((1, 6, 7), (2, 5, 8), (3, 4, 9), (4, 3, 10)):
+            job = samples.archive().changed(k=k)
+            found = [size_a for size_a in range(14) if planner.balanced(job, size_a)]
+            self.assertEqual(found, list(range(low, high + 1)))
+
+    def test_m4_at_every_k(self):
+        for k, sizes in ((1, [1, 2, 3]), *((k, [0, 1, 2, 3, 4]) for k in (2, 3, 4))):
+            job = samples.chain().changed(k=k)
+            found = [size_a for size_a in range(5) if planner.balanced(job, size_a)]
+            self.assertEqual(found, sizes)
+
+    def test_edges(self):
+        """What is met at k is missed at k - 1, and what is missed is met at k + 1."""
+        for k in ALL_K:
+            found = {**samples.edges(k), **samples.fine_edges(k)}
+            self.assertEqual(len(found), 8)
+            for name, (number, job) in found.items():
+                self.assertEqual(planner.check(job), (number, 0), (name, k))
+                if number == 0 and k > 1:
+                    self.assertEqual(planner.check(job.changed(k=k - 1)), (9, 0))
+                if number and k < 4:
+                    self.assertEqual(planner.check(job.changed(k=k + 1)), (0, 0))
+
+    def test_edges_at_1_are_those_of_order_2(self):
+        older = samples.window_jobs()
+        for name, (number, job) in samples.fine_edges(1).items():
+            self.assertEqual(older[name], (number, job))
+
+    def test_wider_jobs(self):
+        for name, (number, job) in samples.wider_jobs().items():
+            self.assertEqual(planner.check(job), (number, 0), name)
+
+    def test_the_chain_in_one_vault(self):
+        """After file 1 file 3 may go to A too: both are kept, and B is empty."""
+        job = samples.chain().changed(k=2)
+        first = planner.one_pass(job, job.sides)
+        self.assertEqual(first.move_files, [1, 3, 0, 2])
+        self.assertEqual(first.move_gains, [2, 1, -1, -2])
+        self.assertEqual(first.move_cuts, [1, 0, 1, 3])
+        self.assertEqual((first.kept, first.scans, first.visits), (2, 9, 18))
+        second = planner.one_pass(job, first.sides)
+        self.assertEqual(second.move_files, [0, 1, 2, 3])
+        self.assertEqual((second.move_cuts, second.kept), ([1, 1, 1, 0], 0))
+        self.assertEqual(
+            planner.run_stored(planner.write_job(job)),
+            "done\ncut 3 0\nsize 4 0\npasses 2\nsettled yes\n"
+            "kept 2\nvisits 36\nsides AAAA\n",
+        )
+
+    def test_facts_of_every_pass(self):
+        at_1 = [planner.check(job.changed(k=1))[0] for job in wider_jobs()]
+        self.assertGreater(at_1.count(9), 150)
+        for job in wider_jobs():
+            for see in (*ALL_SEEN, see_taken_out, see_round_trip):
+                see(job, job.sides)
+
+    def test_every_window_holds_the_one_before(self):
+        for job in (*small_jobs(), *unread_jobs()):
+            for wider in samples.at_each(samples.WIDER, job):
+                self.assertEqual(planner.check(wider), (0, 0))
+                see_moves(wider, wider.sides)
+
+    def test_any_other_k_is_7(self):
+        """Also where the ratio is wrong, where no file is free and where 9 would be."""
+        for fields in ({}, *(JOB_FAULTS[number] for number in (7, 8, 9))):
+            faulty = samples.chain().changed(**fields)
+            for job in samples.at_each(samples.WRONG_K, faulty):
+                self.assertEqual(planner.check(job), (7, 0))
+                self.assertEqual(planner.run(job), planner.RunAnswer(7, 0))
+                answer = planner.balance(job)
+                self.assertEqual((answer.number, answer.place, answer.moves), (7, 0, 0))
+        for job in samples.at_each(ALL_K, samples.chain()):
+            self.assertEqual(planner.check(job), (0, 0))
+            self.assertEqual(planner.check(job.changed(num=2)), (7, 0))
+            self.assertEqual(planner.check(job.changed(marks=[PINNED] * 4)), (8, 0))
+
+    def test_7_stands_after_6(self):
+        for number in range(1, 7):
+            job = samples.chain().changed(**JOB_FAULTS[number])
+            for wrong in samples.at_each(samples.WRONG_K, job):
+                self.assertEqual(planner.check(wrong), planner.check(job))
+                self.assertEqual(planner.balance(wrong).number, number)
+                self.assertEqual(writable(wrong)[:2], planner.check(job))
+
+    def test_measure_does_not_look_at_it(self):
+        for job in (samples.chain(), samples.archive(), samples.partial_chain()):
+            for other in samples.at_each(samples.ANY_K, job):
+                self.assertEqual(planner.measure(other), planner.measure(job))
+
+    def test_the_bytes_themselves(self):
+        """Seven values, k low byte first, and all other blocks as at k = 1."""
+        six, data = (planner.write_job(samples.chain().changed(k=k)) for k in (1, 3))
+        head = bytes([0, 0, 1, 7, 4, 0, 3, 0, 6, 0, 1, 0, 2, 0, 0, 0, 3, 0])
+        self.assertEqual(data[:510], head.ljust(510, b"\0"))
+        total = 21845 + sum((i + 1) * byte for i, byte in enumerate(head))
+        self.assertEqual(data[510:512], bytes([total % 256, total // 256 % 256]))
+        self.assertEqual((data[512:], six[3]), (six[512:], 6))
+
+    def test_the_seventh_value(self):
+        """ "2, 3 or 4, else 22"; whatever the high byte."""
+        for k in (*range(256), *range(256, 65536, 253), 65535):
+            data = planner.make_block(0, 1, (*SIX, k))
+            # A header by itself is too short.
+            told = (20, 0) if k in samples.WIDER else (22, 0)
+            self.assertEqual(planner.read_job(data)[:2], told)
+
+    def test_the_count_of_values(self):
+        """Every count over a seventh value of 2, and over none."""
+        for seventh, count in itertools.product((2, 0), range(256)):
+            blocks = faults.Blocks(samples.chain())
+            blocks.set_value(0, 6, seventh)
+            blocks.set_byte(0, 3, count)
+            right = (count, seventh) in ((6, 0), (7, 2))
+            told = planner.read_job(blocks.stored())[:2]
+            self.assertEqual(told, (0, 0) if right else (22, 0))
+
+    def test_headers_of_five_to_eight(self):
+        for header, told in (
+            (SIX[:5], (22, 0)),
+            (SIX, (0, 0)),
+            ((*SIX, 2), (0, 0)),
+            ((*SIX, 2, 0), (22, 0)),
+            ((*SIX, 2, 2), (22, 0)),
+            ((*SIX, 0), (22, 0)),
+            ((*SIX, 1), (22, 0)),
+        ):
+            self.assertEqual(planner.read_job(of_header(*header))[:2], told, header)
+
+    def test_unused_values(self):
+        """Both bytes of each value behind the last one."""
+        for k, used in ((1, 6), (2, 7)):
+            for at in range(4 + 2 * used, planner.CHECKED):
+                blocks = faults.Blocks(samples.chain().changed(k=k))
+                blocks.set_byte(0, at, 2)
+                self.assertEqual(planner.read_job(blocks.stored())[:2], (22, 0))
+
+    def test_the_seventh_figure(self):
+        """1 for six values, and zeros when refused."""
+        for job in samples.at_each(ALL_K, samples.chain()):
+            number, _, header, read = planner.read_job(planner.write_job(job))
+            self.assertEqual((number, header, read), (0, (*SIX, job.k), job))
+        for k in (0, 1, 5):
+            told = planner.read_job(of_header(*SIX, k))
+            self.assertEqual(told, (22, 0, (0,) * 7, None))
+
+    def test_22_stands_in_block_0(self):
+        """After its check, and before all that follows it."""
+        for fault in faults.IN_ORDER:
+            wrong = faults.stored_chain([fault, faults.WRONG_SEVENTH], k=2)
+            number = 21 if fault[0] == (21, 0) else 22
+            self.assertEqual(planner.run_stored(wrong), f"refused {number} 0\n")
+        short = of_header(*SIX, 5)
+        self.assertEqual(planner.read_job(short[:511])[:2], (20, 0))
+        self.assertEqual(planner.read_job(short, (0,) * 5)[:2], (22, 0))
+
+    def test_faults_of_a_seven_value_job(self):
+        """Each as in one of six; but all in A is balanced."""
+        *before_9, _ = faults.IN_ORDER
+        for k, fault in itertools.product(samples.WIDER, before_9):
+            (number, place), _ = fault
+            data = faults.stored_chain([fault], k)
+            refused = f"refused {number} {place}\n"
+            self.assertEqual(planner.run_stored(data), refused)
+            self.assertEqual(planner.trace(data), refused)
+            self.assertEqual(planner.resettle(data), (b"", refused))
+            self.assertEqual(planner.balance_stored(data), (b"", refused))
+        data = faults.stored_chain(faults.IN_ORDER[-1:], 2)
+        self.assertTrue(planner.run_stored(data).startswith("done\n"))
+
+    def test_no_stored_job_gives_7_for_k(self):
+        for k in samples.ANY_K:
+            told = planner.run_stored(of_header(*SIX, k))
+            first = "done" if k in samples.WIDER else "refused 22 0"
+            self.assertEqual(told.splitlines()[0], first)
+
+    def test_the_writer(self):
+        """7 "last", and "it still carries any ratio"."""
+        for job in samples.at_each(samples.ANY_K, samples.chain()):
+            for fields in ({}, dict(num=0, den=0), JOB_FAULTS[8], JOB_FAULTS[9]):
+                changed = job.changed(**fields)
+                if job.k in samples.WRONG_K:
+                    kept = bytes([165]) * 2048
+                    self.assertEqual(writable(changed), (7, 0, kept))
+                else:
+                    see_round_trip(changed, changed.sides)
+            for length in (0, 2047, 2049, 2560):
+                self.assertEqual(planner.write(job, bytes(length))[:2], (3, 0))
+
+    def test_what_is_accepted_is_written_back(self):
+        """And no two files mean one job."""
+        seen = {}
+        mixed = samples.chain().changed(marks=[0, 1, 2, 0])
+        for one in samples.at_each(ALL_K, mixed):
+            for data in stored_variants(one):
+                number, _, _, job = planner.read_job(data)
+                if number == 0:
+                    self.assertEqual(planner.write(job, bytes(len(data))), (0, 0, data))
+                    self.assertEqual(seen.setdefault(job, data), data)
+        self.assertEqual({job.k for job in seen}, set(ALL_K))
+        self.assertGreater(len(seen), 200)
+
+    def test_round_trips(self):
+        for job in (*small_jobs(), *unread_jobs(), *bad_starts()):
+            for other in samples.at_each(ALL_K, job):
+                see_round_trip(other, other.sides)
+
+    def test_the_old_reader(self):
+        """It took six values, and so it answers 22 on seven."""
+        jobs = [*small_jobs(), *wider_jobs()]
+        with mock.patch.object(planner, "HEADER_COUNTS", (6,)):
+            for job in jobs:
+                told = planner.read_job(planner.write_job(job))[:2]
+                self.assertEqual(told, (0, 0) if job.k == 1 else (22, 0))
+
+    def test_9_exactly_if_no_assignment_is_balanced(self):
+        for k in ALL_K:
+            refused = 0
+            for job in bad_starts_at(k):
+                see_9(job, job.sides)
+                refused += planner.balance(job).number == 9
+            self.assertGreater(refused, 10)
+
+    def test_starts(self):
+        for k in ALL_K:
+            for name, (number, moves, job) in samples.starts(k).items():
+                self.see_start(name, number, moves, job)
+        for name, (number, moves, job) in samples.wider_starts().items():
+            self.see_start(name, number, moves, job)
+
+    def see_start(self, name, number, moves, job):
+        answer = planner.balance(job)
+        self.assertEqual((answer.number, answer.moves), (number, moves), (name, job.k))
+        if number == 0:
+            see_balance(job, job.sides)
+            self.assertEqual(planner.check(job.changed(sides=answer.sides)), (0, 0))
+        elif job.k < 4:
+            # Impossible by one: not so at the next k.
+            self.assertEqual(planner.balance(job.changed(k=job.k + 1)).number, 0)
+
+    def test_moves_of_the_balancing(self):
+        for k in samples.WIDER:
+            moved = 0
+            for job in bad_starts_at(k):
+                answer = planner.balance(job)
+                if answer.number == 0:
+                    see_balance(job, job.sides)
+                    moved += answer.moves > 1
+            self.assertGreater(moved, 20)
+
+    def test_balance_and_resettle_write_k_back(self):
+        for job in wider_jobs():
+            data, said = planner.resettle(planner.write_job(job))
+            after = job.changed(sides=planner.run(job).last.sides)
+            self.assertEqual((planner.read_job(data)[3], said), (after, ""))
+            one_side = job.changed(sides=[A] * job.files)
+            data, _ = planner.balance_stored(planner.write_job(one_side))
+            sides = planner.balance(one_side).sides
+            if data:
+                self.assertEqual(planner.read_job(data)[3], job.changed(sides=sides))
+
+    def test_a_start_that_is_9_at_1(self):
+        """One move at k = 1, none at 2: |A| may be 4."""
+        job = samples.chain().changed(sides=[A] * 4)
+        self.assertEqual((planner.check(job), planner.balance(job).moves), ((9, 0), 1))
+        data = planner.write_job(job.changed(k=2))
+        told = "done\nmoves 0\ncut 0\nsize 4 0\n"
+        self.assertEqual(planner.balance_stored(data), (data, told))
+
+
 class Mill(unittest.TestCase):
     def test_it_is_balanced_and_then_runs(self):
         data, said = planner.balance_stored(planner.write_job(mill()))
@@ -1427,6 +1761,12 @@ class Mill(unittest.TestCase):
         answer = planner.run(job)
         self.assertTrue(answer.settled)
         self.assertLess(answer.cut_after * 2, answer.cut_before)
+
+    def test_it_is_sound_as_it_came_where_k_is_2(self):
+        """Of 21,892.2 |A| lacks 820.2, and smax is 600."""
+        job = mill()
+        self.assertEqual((planner.size_of_a(job, job.sides), job.largest), (21072, 600))
+        self.assertEqual(planner.check(job.changed(k=2)), (0, 0))
 
 
 # ---- Errors to catch
@@ -1563,12 +1903,15 @@ class CanFail(unittest.TestCase):
         wrong = ("no_start_is_balanced", start_is_not)
         self.assertTrue(self.seen(see_9, *wrong, bad_starts()))
 
-    def unread_seen(self, see, name, wrong):
-        """The same with one of a job's own lists worked out wrongly."""
+    def job_seen(self, see, name, wrong, jobs):
+        """The same with one of a job's own lists or figures worked out wrongly."""
         # Copies, which have worked out nothing yet.
-        jobs = [job.changed() for job in unread_jobs()]
+        copies = [job.changed() for job in jobs]
         with mock.patch.object(planner.Job, name, property(wrong)):
-            return fails(see, jobs)
+            return fails(see, copies)
+
+    def unread_seen(self, see, name, wrong):
+        return self.job_seen(see, name, wrong, unread_jobs())
 
     def test_right_lists_pass(self):
         def weights(job):
@@ -1615,6 +1958,53 @@ class CanFail(unittest.TestCase):
             return job.marks.count(UNREAD), sum(0 < len(p) < len(w) for w, p in kept)
 
         self.assertTrue(self.unread_seen(see_taken_out, "unread", planned))
+
+    def wider_seen(self, see, name, wrong):
+        return self.seen(see, name, wrong, wider_jobs())
+
+    def test_k_that_is_not_looked_at(self):
+        def at_1(job):
+            return job.largest
+
+        for see, jobs in ((see_moves, wider_jobs()), (see_9, bad_starts_at(2))):
+            self.assertTrue(self.job_seen(see, "tolerance", at_1, jobs))
+
+    def test_k_on_one_side(self):
+        for name in ("too_small", "too_large"):
+            right = getattr(planner, name)
+
+            def at_1(job, size_a, right=right):
+                return right(job.changed(k=1), size_a)
+
+            self.assertTrue(self.wider_seen(see_moves, name, at_1))
+            self.assertTrue(self.seen(see_9, name, at_1, bad_starts_at(2)))
+
+    def test_9_of_the_narrow_window(self):
+        right = planner.no_start_is_balanced
+
+        def at_1(job):
+            return right(job.changed(k=1))
+
+        for k in samples.WIDER:
+            wrong = ("no_start_is_balanced", at_1)
+            self.assertTrue(self.seen(see_9, *wrong, bad_starts_at(k)))
+
+    def test_k_that_is_not_written(self):
+        right = planner.header_values
+
+        def six(job):
+            return right(job.changed(k=1))
+
+        self.assertTrue(self.wider_seen(see_round_trip, "header_values", six))
+
+    def test_k_that_is_always_written(self):
+        right = planner.header_values
+
+        def seven(job):
+            return (*right(job.changed(k=1)), job.k)
+
+        self.assertTrue(self.seen(see_round_trip, "header_values", seven))
+        self.assertFalse(self.wider_seen(see_round_trip, "header_values", seven))
 
     def test_gain_list_of_the_end(self):
         def not_kept(job, sides, move_files, move_gains):

@@ -9,14 +9,14 @@ use Rattle.rules.specs.declared.Verdict.{Verdict}
 use Rattle.rules.specs.declared.ReadFigures.{ReadFigures}
 use Rattle.rules.specs.declared.BalanceFigures.{BalanceFigures}
 use Rattle.rules.specs.Job.{Job, Limits, files}
-use Rattle.rules.specs.Check.{check1to6, check7to9, check}
+use Rattle.rules.specs.Check.{check}
 use Rattle.rules.specs.Split.{sizeOn}
 use Rattle.rules.specs.Stored.{Room, blockCount, jobOf, reading, readVerdict}
 use Rattle.rules.specs.Report.{refusal, sizeLine, intoRoom, allRoom, allLent}
 use Rattle.rules.specs.Writing.{headerFor, blocksOf, withSides, HandedOut, Handing, handInto}
 use Rattle.rules.specs.Balance.{balanceVerdict, Balancing, balancingOf, balancing, balanceLines, balanceReporting, allBalancing, balances}
 use Rattle.rules.proofs.Verdicts.{passes-both}
-use Rattle.rules.proofs.Proved.{accepted}
+use Rattle.rules.proofs.Proved.{accepted, check-writes}
 use Rattle.rules.proofs.Writes.{handed-refused, handed-done}
 use Rattle.rules.proofs.Balancing.{balance-told, balance-answers, answer-verdict, balances-no}
 use Rattle.stored.specs.Steps.{firstOf}
@@ -57,10 +57,9 @@ module _ (most : Limits) (job : Job) (a : BalanceFigures) (sides own scratch : L
         ∙ ap (λ (l : List ℕ). intoRoom l room) (sym (lines-sides job a sides))
 
     pub after-made : (n : ℕ) → n ≡ 512 * blockCount (headerFor job) → Made most a (withSides job sides) n
-    unfolding check
     after-made n l = record {
       told = told;
-      passes = passes-both (check1to6 most (withSides job sides) true) (check7to9 most (withSides job sides)) accepts .0;
+      passes = check-writes most (withSides job sides) true accepts;
       blocks = l;
       sidesLong = accepted most (withSides job sides) true accepts .sound .sidesLong;
       marksLong = accepted most (withSides job sides) true accepts .sound .marksLong;

@@ -6,10 +6,9 @@ use mathlib.Core.List.{List}
 use lib.ListN.{length}
 use Rattle.rules.specs.declared.BalanceFigures.{BalanceFigures}
 use Rattle.rules.specs.Job.{Job, Limits}
-use Rattle.rules.specs.Check.{check1to6}
 use Rattle.rules.specs.Stored.{blockCount}
 use Rattle.rules.specs.Report.{intoRoom}
-use Rattle.rules.specs.Writing.{headerFor, blocksOf, withSides, HandedOut, handsOut}
+use Rattle.rules.specs.Writing.{headerFor, blocksOf, checkWritten, withSides, HandedOut, handsOut}
 use Rattle.rules.specs.Balance.{Balancing, balanceLines, balanceReporting, allBalancing}
 
 -- of an answer that is not refused and the job with the sides after it: its blocks, and its lines
@@ -24,10 +23,10 @@ answerOut job e = handsOut (e .answer .verdict) (withSides job (e .sides)) (bala
 abbrev pub jobOut : Limits → Job → HandedOut
 jobOut most job = answerOut job (allBalancing most job)
 
--- what handing out a balanced job needs to know: its lines are refused only for want of room; it passes 1 to 6 with its new sides; and its blocks are n bytes
+-- what handing out a balanced job needs to know: its lines are refused only for want of room; it can be written with its new sides; and its blocks are n bytes
 pub record Made (most : Limits) (answer : BalanceFigures) (job : Job) (n : ℕ) : Type 0 where
   pub told : (room : List ℕ) → balanceReporting most (job .sizes) (job .marks) answer (job .sides) room ≡ intoRoom (balanceLines job answer (job .sides)) room
-  pub passes : check1to6 most job true .number ≡ 0
+  pub passes : checkWritten most job true .number ≡ 0
   pub blocks : n ≡ 512 * blockCount (headerFor job)
   pub sidesLong : length (job .sides) ≡ length (job .sizes)
   pub marksLong : length (job .marks) ≡ length (job .sizes)

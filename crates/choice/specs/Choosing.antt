@@ -23,7 +23,7 @@ sizeBy size side own = cond (eqb side 0) (size - own) (size + own)
 abbrev pub distIn : Window → ℕ → List ℕ → List ℕ → ℕ → ℕ
 distIn w size sizes sides f = distance (w .den * sizeBy size (sideOf sides f) (getD sizes f 0)) (w .aim)
 
--- f is free, and the distance after its move is within den·smax
+-- f is free, and the distance after its move is within den times the tolerance
 abbrev pub legalIn : Window → ℕ → List ℕ → List ℕ → List ℕ → ℕ → Bool
 legalIn w size sizes sides locks f = eqb (getD locks f 0) 0 && leb (distIn w size sizes sides f) (w .span)
 
@@ -36,6 +36,6 @@ unfoldable pub chosenIn : Window → ℕ → List ℕ → List ℕ → List ℕ 
 chosenIn w size sizes sides locks gains n =
     firstBelow (legalIn w size sizes sides locks) (better (λ f. getD gains f (pos 0)) (distIn w size sizes sides)) n
 
--- den, and num·W and den·smax
+-- den, and num·W and den times the tolerance
 abbrev pub windowOf : Job → ℕ → ℕ → Window
-windowOf job weight largest = record { den = job .den; aim = job .num * weight; span = job .den * largest }
+windowOf job weight tolerance = record { den = job .den; aim = job .num * weight; span = job .den * tolerance }

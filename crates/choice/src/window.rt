@@ -3,7 +3,7 @@ ghost use mathlib.Core.Path.{_≡_};
 ghost use Rattle.rules.specs.Move.{distance};
 ghost use Rattle.choice.specs.Choosing.{sizeBy, fitFiles};
 
-// The balance window: den, and num·W and den·smax, within which den·|A| must stay.
+// The balance window: den, and num·W and den times the tolerance, within which den·|A| must stay.
 pub struct Window {
     pub den: u16,
     pub aim: u64,

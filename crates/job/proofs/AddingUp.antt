@@ -3,7 +3,7 @@ use mathlib.Core.Path.{_≡_, refl, sym, ap, _∙_}
 use Prim.Native.Nat.{ℕ, suc, _+_, _*_, _≤_, _<_}
 use mathlib.Core.Bool.{Bool, not, _&&_, _||_}
 use native.Mathlib.Omega.{arith}
-use native.Mathlib.Nat.{max-le}
+use native.Mathlib.Nat.{max-le, mul-le-mul}
 use native.Mathlib.Numerals.{add-one}
 use lib.Dec.{eqb}
 use lib.ListN.{getD}
@@ -14,6 +14,10 @@ use Rattle.rules.proofs.Count.{bit-most, total-upTo, largest-upTo}
 use Rattle.rules.proofs.Readable.{not-not}
 use Rattle.job.specs.declared.figures.Totals.{Totals}
 use Rattle.job.specs.Totals.{totalsOf, withFile, Within, Added}
+
+-- a two-byte number times a total
+pub product : {b : ℕ} (x y : ℕ) → x ≤ 65535 → y ≤ b → x * y ≤ 65535 * b
+product x y h l = mul-le-mul h l
 
 same-totals : (t u : Totals) → t .weight ≡ u .weight → t .largest ≡ u .largest → t .size ≡ u .size → t .least ≡ u .least → t .most ≡ u .most → t .free ≡ u .free → t .unread ≡ u .unread → t ≡ u
 same-totals t u p q r l m s n = λ i. record { weight = p i; largest = q i; size = r i; least = l i; most = m i; free = s i; unread = n i }

@@ -1,6 +1,7 @@
 -- The promise of each public call settles what it returns: any two results that meet it, of the same arguments, are equal.
 -- The promises cited are those that the check reads from the contracts in src/. Assumes nothing.
 use mathlib.Core.List.{List}
+use mathlib.Core.Bool.{Bool}
 use Prim.Native.Nat.{ℕ}
 use denote.Ref.{now}
 use Rattle.rules.proofs.Settling.{Settles, both}
@@ -35,6 +36,8 @@ use Rattle.job.proofs.verdict.refuse_if.Kinds as refuse-if-kinds
 use Rattle.job.proofs.verdict.refuse_if.Reads as refuse-if
 use Rattle.job.proofs.verdict.or_else.Kinds as or-else-kinds
 use Rattle.job.proofs.verdict.or_else.Reads as or-else
+use Rattle.job.proofs.verdict.bad_k.Kinds as bad-k-kinds
+use Rattle.job.proofs.verdict.bad_k.Reads as bad-k
 use Rattle.job.proofs.verdict.check1.Kinds as check1-kinds
 use Rattle.job.proofs.verdict.check1.Reads as check1
 use Rattle.job.proofs.verdict.check2.Kinds as check2-kinds
@@ -56,7 +59,7 @@ pub view-settled : Settles 2 view-kinds.ps view-kinds.r (List ℕ) (λ κs s _. 
 view-settled κs a x y e f p q = both p q
 
 pub new-settled : Settles 0 new-kinds.ps new-kinds.r Job (λ κs j _. j) new.Post
-new-settled κs a x y e f p q = λ i. record { num = both (p .0) (q .0) i; den = both (p .1) (q .1) i; cap = both (p .2) (q .2) i }
+new-settled κs a x y e f p q = λ i. record { num = both (p .0) (q .0) i; den = both (p .1) (q .1) i; cap = both (p .2) (q .2) i; k = both (p .3) (q .3) i }
 
 pub wide-settled : Settles 0 wide-kinds.ps wide-kinds.r ℕ (λ κs x _. x) wide.Post
 wide-settled κs a x y e f p q = both p q
@@ -81,6 +84,9 @@ refuse-if-settled κs a x y e f p q = both p q
 
 pub or-else-settled : Settles 0 or-else-kinds.ps or-else-kinds.r Verdict (λ κs v _. v) or-else.Post
 or-else-settled κs a x y e f p q = both p q
+
+pub bad-k-settled : Settles 0 bad-k-kinds.ps bad-k-kinds.r Bool (λ κs b _. b) bad-k.Post
+bad-k-settled κs a x y e f p q = both p q
 
 pub check1-settled : Settles 0 check1-kinds.ps check1-kinds.r Verdict (λ κs v _. v) check1.Post
 check1-settled κs a x y e f p q = both p q

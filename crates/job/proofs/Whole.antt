@@ -1,12 +1,12 @@
 -- What the steps found, put together into the answers of the public calls. Assumes nothing.
 use mathlib.Core.Path.{_≡_, refl, sym, ap, _∙_}
-use Prim.Native.Nat.{ℕ}
+use Prim.Native.Nat.{ℕ, _*_}
 use mathlib.Core.Bool.{Bool, true, false, not, _&&_, _||_}
 use lib.Dec.{eqb}
 use borrow.Author.Tests.{eq-eqb, ne-eqb}
 use Rattle.rules.specs.declared.Verdict.{Verdict}
 use Rattle.rules.specs.Job.{Job, Limits, recipes, files, fileCount}
-use Rattle.rules.specs.Split.{cut, unreadFiles, unreadRecipes, weight, smax, sizeOn, sizeA, largeEnough, smallEnough, balanced}
+use Rattle.rules.specs.Split.{cut, unreadFiles, unreadRecipes, weight, smax, sizeOn, sizeA, tolerance, largeEnough, smallEnough, balanced}
 use Rattle.rules.specs.Check.{isDone, refuseIf, _orElse_, check1, check2, check3, check4, badPin, check5, check6, check7, check8, check9, check4to6, check1to6, check7to9, check, measure}
 use Rattle.rules.specs.Balance.{tooLarge, tooSmall, leastA, mostA, noneBalanced, check1to8, balanceCheck}
 use Rattle.rules.proofs.Verdicts.{zero-of, or-three}
@@ -52,7 +52,7 @@ unfolding totalsOf unreadFiles files
 unread-is job t p = ap (λ (u : Totals). u .unread) p
 
 abbrev figuresOf : Job → Figures
-figuresOf job = record { num = job .num; den = job .den; cap = job .cap }
+figuresOf job = record { num = job .num; den = job .den; cap = job .cap; k = job .k }
 
 module _ {job : Job} {figures : Figures} {t : Totals} (has : Has job figures t) where
   pub ratio-is : (most : Limits) → check7 most (ofFigures figures) ≡ check7 most job
@@ -78,7 +78,7 @@ module _ {job : Job} {figures : Figures} {t : Totals} (has : Has job figures t) 
   possible-is =
       ap (λ (b : Bool). refuseIf b 9 0)
       (ap not (reaches-is (λ u. u .least) (λ u. u .most))
-      ∙ not-both (largeEnough (job .num) (job .den) (weight job) (smax job) (mostA job)) (smallEnough (job .num) (job .den) (weight job) (smax job) (leastA job)))
+      ∙ not-both (largeEnough (job .num) (job .den) (weight job) (tolerance job) (mostA job)) (smallEnough (job .num) (job .den) (weight job) (tolerance job) (leastA job)))
 
 -- ---- the measure and the survey
 
@@ -97,11 +97,11 @@ module _ (most : Limits) (job : Job) {v : Verdict} where
     told : v ≡ checkFor balancing most job lent
     told = e ∙ sym (nine-last balancing most job lent)
 
-    pub survey-refused : (v .number ≡ 0 → ⊥) → record { verdict = v; weight = 0; largest = 0; size = 0; cut = 0; unread = 0; holding = 0 } ≡ surveyOf balancing most job lent
+    pub survey-refused : (v .number ≡ 0 → ⊥) → record { verdict = v; weight = 0; tolerance = 0; size = 0; cut = 0; unread = 0; holding = 0 } ≡ surveyOf balancing most job lent
     unfolding surveyOf
     survey-refused h = rw (told, refused told h, surveyOf)
 
-    pub survey-done : (x h : ℕ) (t : Totals) → v .number ≡ 0 → x ≡ cut (job .sides) (recipes job) → h ≡ unreadRecipes job → t ≡ totalsOf job (fileCount job)
-        → record { verdict = v; weight = t .weight; largest = t .largest; size = t .size; cut = x; unread = t .unread; holding = h } ≡ surveyOf balancing most job lent
+    pub survey-done : (m x h : ℕ) (t : Totals) → v .number ≡ 0 → m ≡ job .k * t .largest → x ≡ cut (job .sides) (recipes job) → h ≡ unreadRecipes job → t ≡ totalsOf job (fileCount job)
+        → record { verdict = v; weight = t .weight; tolerance = m; size = t .size; cut = x; unread = t .unread; holding = h } ≡ surveyOf balancing most job lent
     unfolding surveyOf totalsOf weight smax sizeOn unreadFiles files
-    survey-done x h t z p r q = rw (told, p, r, q, passes-done told z, surveyOf)
+    survey-done m x h t z s p r q = rw (told, s, p, r, q, passes-done told z, surveyOf)

@@ -3,7 +3,7 @@ use mathlib.Core.Bool.{Bool, true, false, cond}
 use Rattle.job.specs.declared.figures.Survey.{Survey}
 use Rattle.rules.specs.declared.Verdict.{Verdict}
 use Rattle.rules.specs.Job.{Job, Limits, recipes}
-use Rattle.rules.specs.Split.{cut, unreadFiles, unreadRecipes, weight, smax, sizeA}
+use Rattle.rules.specs.Split.{cut, unreadFiles, unreadRecipes, weight, tolerance, sizeA}
 use Rattle.rules.specs.Check.{isDone, check}
 use Rattle.rules.specs.Balance.{balanceCheck}
 
@@ -19,11 +19,11 @@ surveyOf balancing most job lent =
       | true ↦ record {
         verdict = v;
         weight = weight job;
-        largest = smax job;
+        tolerance = tolerance job;
         size = sizeA job (job .sides);
         cut = cut (job .sides) (recipes job);
         unread = unreadFiles job;
         holding = unreadRecipes job;
       }
-      | false ↦ record { verdict = v; weight = 0; largest = 0; size = 0; cut = 0; unread = 0; holding = 0 }
+      | false ↦ record { verdict = v; weight = 0; tolerance = 0; size = 0; cut = 0; unread = 0; holding = 0 }
     ]

@@ -61,10 +61,15 @@ pub record Has (job : Job) (figures : Figures) (t : Totals) : Type 0 where
   pub job-is : job ≡ wholeJob figures (job .sizes) (job .sides) (job .marks) (job .bounds) (job .pins)
   pub totals : t ≡ totalsOf job (fileCount job)
 
+-- the tolerance that these figures and totals make
+abbrev pub toleranceBy : Figures → Totals → ℕ
+toleranceBy figures t = figures .k * t .largest
+
 -- the most that |A| can be is large enough, and the least small enough
 abbrev pub reaches : Figures → Totals → ℕ → ℕ → Bool
 reaches figures t least most =
-    largeEnough (figures .num) (figures .den) (t .weight) (t .largest) most && smallEnough (figures .num) (figures .den) (t .weight) (t .largest) least
+    let m = toleranceBy figures t in
+    largeEnough (figures .num) (figures .den) (t .weight) m most && smallEnough (figures .num) (figures .den) (t .weight) m least
 
 -- the 9 of the balancing, or that of a pass
 abbrev pub nineFor : Bool → Job → Verdict

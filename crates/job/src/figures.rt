@@ -16,7 +16,7 @@ ghost use lib.ListN.{length};
 ghost use Rattle.rules.specs.Job.{readIn, recipes};
 ghost use Rattle.rules.specs.Split.{countOn, isCut, «cut», unreadRecipes};
 ghost use Rattle.job.specs.Parts.{ofFiles, ofMarks, ofMarked};
-ghost use Rattle.job.specs.Totals.{weightOf, withFile, Within, Added, reaches};
+ghost use Rattle.job.specs.Totals.{weightOf, withFile, Within, Added, toleranceBy, reaches};
 
 // W, smax, |A|, the least and the most that it can be, and the numbers of free and of unread files.
 pub(crate) struct Totals {
@@ -29,11 +29,11 @@ pub(crate) struct Totals {
     pub unread: usize,
 }
 
-// The answer of a survey, where the verdict is done: W, smax, |A|, the cut, and the numbers of unread files and of recipes that hold one.
+// The answer of a survey, where the verdict is done: W, the tolerance, |A|, the cut, and the numbers of unread files and of recipes that hold one.
 pub struct Survey {
     pub verdict: Verdict,
     pub weight: u64,
-    pub largest: u64,
+    pub tolerance: u64,
     pub size: u64,
     pub cut: usize,
     pub unread: usize,
@@ -87,6 +87,14 @@ pub(crate) fn totals_of(sizes: &[u16], sides: &[u16], marks: &[u16]) -> Totals
     t
 }
 
+// k times smax.
+pub(crate) fn tolerance(job: Job, t: Totals) -> u64
+    requires { do ⌜ Within t ((← ⟦Job::MOST_FILES⟧) * 65535) ⌝ }
+    ensures { λ r. do ⌜ (r ≡ toleranceBy job t) × (r ≤ 65535 * ((← ⟦Job::MOST_FILES⟧ .entry) * 65535)) ⌝ }
+{
+    long(job.k) * t.largest
+}
+
 // Whether the most that |A| can be is large enough, and the least small enough: for a pass both are |A| itself.
 pub(crate) fn is_balanced(job: Job, t: Totals, least: u64, most: u64) -> bool
     requires { do ⌜ Within t ((← ⟦Job::MOST_FILES⟧) * 65535) × (least ≤ (← ⟦Job::MOST_FILES⟧) * 65535) × (most ≤ (← ⟦Job::MOST_FILES⟧) * 65535) ⌝ }
@@ -95,7 +103,7 @@ pub(crate) fn is_balanced(job: Job, t: Totals, least: u64, most: u64) -> bool
     let num = long(job.num);
     let den = long(job.den);
     let w = num * t.weight;
-    let m = den * t.largest;
+    let m = den * tolerance(job, t);
     (w <= den * most + m) & (den * least <= w + m)
 }
 

@@ -12,6 +12,7 @@ pub use figures::Survey;
 pub use figures::count_on;
 use figures::cut;
 use figures::holding;
+use figures::tolerance;
 use figures::totals_of;
 pub use holds::Held;
 pub use holds::Vaults;
@@ -21,6 +22,7 @@ pub use numbers::entry_at;
 pub use numbers::wide;
 use rules::Measure;
 use rules::Verdict;
+pub use verdict::bad_k;
 pub use verdict::check1;
 pub use verdict::check1to6;
 pub use verdict::check2;
@@ -34,11 +36,12 @@ ghost use Rattle.job.specs.Parts.{wholeJob};
 ghost use Rattle.rules.specs.Check.{checkJob, «measure»};
 ghost use Rattle.job.specs.Survey.{surveyOf};
 
-// What a job has besides its lists: the ratio num/den for A, and the cap.
+// What a job has besides its lists: the ratio num/den for A, the cap, and k of the tolerance.
 pub struct Job {
     pub num: u16,
     pub den: u16,
     pub cap: u16,
+    pub k: u16,
 }
 
 impl Job {
@@ -50,10 +53,12 @@ impl Job {
 
     pub const MOST_DEN: u16 = 1000;
 
-    pub fn new(num: u16, den: u16, cap: u16) -> Self
-        ensures { λ r. ⌜ (r .num ≡ num) × (r .den ≡ den) × (r .cap ≡ cap) ⌝ }
+    pub const MOST_K: u16 = 4;
+
+    pub fn new(num: u16, den: u16, cap: u16, k: u16) -> Self
+        ensures { λ r. ⌜ (r .num ≡ num) × (r .den ≡ den) × (r .cap ≡ cap) × (r .k ≡ k) ⌝ }
     {
-        Self { num, den, cap }
+        Self { num, den, cap, k }
     }
 }
 
@@ -142,7 +147,7 @@ pub fn survey(
         return Survey {
             verdict: v,
             weight: 0,
-            largest: 0,
+            tolerance: 0,
             size: 0,
             cut: 0,
             unread: 0,
@@ -155,7 +160,7 @@ pub fn survey(
         return Survey {
             verdict,
             weight: 0,
-            largest: 0,
+            tolerance: 0,
             size: 0,
             cut: 0,
             unread: 0,
@@ -165,7 +170,7 @@ pub fn survey(
     Survey {
         verdict,
         weight: t.weight,
-        largest: t.largest,
+        tolerance: tolerance(job, t),
         size: t.size,
         cut: cut(sides, marks, bounds, pins),
         unread: t.unread,

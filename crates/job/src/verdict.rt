@@ -12,7 +12,7 @@ ghost use mathlib.Core.Path.{_≡_};
 ghost use Prim.Native.Nat.{_*_, _≤_, _<_};
 ghost use lib.ListN.{length};
 ghost use Rattle.rules.specs.Job.{limitsOf};
-ghost use Rattle.rules.specs.Check.{refuseIf, _orElse_, check1Of, check2Of, «check3», «check4», «check5», «check6», «check7», «check4to6», «check1to6»};
+ghost use Rattle.rules.specs.Check.{refuseIf, _orElse_, badK, check1Of, check2Of, «check3», «check4», «check5», «check6», «check7», «check4to6», «check1to6»};
 ghost use Rattle.job.specs.Parts.{ofFiles, ofRecipes, ofPins, ofLists, ofFigures};
 ghost use Rattle.job.specs.Totals.{Within, Gives9, Gives7to9};
 
@@ -99,14 +99,22 @@ fn check6(sizes: &[u16], sides: &[u16], marks: &[u16]) -> Verdict
     refuse_if(f < sizes.len(), 6, f)
 }
 
+// Whether k is 0 or over its most; the writer and the reader ask it too.
+pub fn bad_k(k: u16) -> bool
+    ensures { λ r. ⌜ r ≡ badK k ⌝ }
+{
+    (k == 0) | (Job::MOST_K < k)
+}
+
 fn check7(job: Job) -> Verdict
     ensures { λ r. do ⌜ r ≡ «check7» (limitsOf (← ⟦Job::MOST_FILES⟧ .entry) (← ⟦Job::MOST_RECIPES⟧ .entry) (← ⟦Job::MOST_PINS⟧ .entry) (← ⟦Job::MOST_DEN⟧ .entry)) (ofFigures job) ⌝ }
 {
-    refuse_if(
+    let ratio = refuse_if(
         (job.num == 0) | (job.den <= job.num) | (Job::MOST_DEN < job.den),
         7,
         0,
-    )
+    );
+    or_else(ratio, refuse_if(bad_k(job.k), 7, 0))
 }
 
 fn check4to6(sizes: &[u16], sides: &[u16], marks: &[u16], bounds: &[u16], pins: &[u16]) -> Verdict

@@ -18,6 +18,8 @@ use Rattle.layout.proofs.kinds.kind_of.Kinds as kind-of-kinds
 use Rattle.layout.proofs.kinds.kind_of.Reads as kind-of
 use Rattle.layout.proofs.kinds.held_in.Kinds as held-in-kinds
 use Rattle.layout.proofs.kinds.held_in.Reads as held-in
+use Rattle.layout.proofs.kinds.header_values.Kinds as header-values-kinds
+use Rattle.layout.proofs.kinds.header_values.Reads as header-values
 use Rattle.layout.proofs.kinds.values_in.Kinds as values-in-kinds
 use Rattle.layout.proofs.kinds.values_in.Reads as values-in
 
@@ -44,6 +46,9 @@ kind-of-settled κs a x y e f p q = both p q
 
 pub held-in-settled : Settles 0 held-in-kinds.ps held-in-kinds.r ℕ (λ κs x _. x) held-in.Post
 held-in-settled κs a x y e f p q = both p q
+
+pub header-values-settled : Settles 0 header-values-kinds.ps header-values-kinds.r ℕ (λ κs x _. x) header-values.Post
+header-values-settled κs a x y e f p q = both p q
 
 pub values-in-settled : Settles 0 values-in-kinds.ps values-in-kinds.r ℕ (λ κs x _. x) values-in.Post
 values-in-settled κs a x y e f p q = both p q

@@ -1,7 +1,7 @@
 // Which blocks there are, by the header: document 01, "Kinds in order". A block's number is a two-byte number, its kind and its count of values are bytes.
 ghost use mathlib.Core.Path.{_≡_};
 ghost use Prim.Native.Nat.{_<_, _≤_};
-ghost use Rattle.rules.specs.Stored.{blocksFor, boundsAt, pinsAt, blockCount, kindOf, heldIn, valuesIn};
+ghost use Rattle.rules.specs.Stored.{blocksFor, boundsAt, pinsAt, blockCount, kindOf, heldIn, headerValues, valuesIn};
 use crate::block::byte;
 use job::wide;
 use rules::Header;
@@ -61,11 +61,21 @@ pub fn held_in(m: u8, x: usize, k: u16) -> u8
     m
 }
 
+// A header with six values means that k is 1: document 02, order 6.
+pub fn header_values(k: u16) -> u8
+    ensures { λ r. ⌜ r ≡ headerValues k ⌝ }
+{
+    if k == 1 {
+        return 6;
+    }
+    7
+}
+
 pub fn values_in(h: Header, b: u16) -> u8
     ensures { λ r. ⌜ r ≡ valuesIn h b ⌝ }
 {
     if b == 0 {
-        return 6;
+        return header_values(h.k);
     }
     let bounds = bounds_at(h);
     if b < bounds {

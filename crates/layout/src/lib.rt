@@ -7,6 +7,7 @@ pub use block::value_in;
 pub use block::word_at;
 pub use kinds::block_count;
 pub use kinds::bounds_at;
+pub use kinds::header_values;
 pub use kinds::held_in;
 pub use kinds::kind_of;
 pub use kinds::pins_at;

@@ -13,10 +13,10 @@ use Rattle.rules.specs.declared.Printed.{Printed}
 use Rattle.rules.specs.declared.Handed.{Handed}
 use Rattle.rules.specs.Lists.{onto}
 use Rattle.rules.specs.Job.{Job, Limits}
-use Rattle.rules.specs.Check.{done, refuseIf, check1to6}
+use Rattle.rules.specs.Check.{done, refuseIf}
 use Rattle.rules.specs.Stored.{blockCount}
 use Rattle.rules.specs.Report.{Printing, printed, printing, intoRoom}
-use Rattle.rules.specs.Writing.{headerFor, blocksOf, Writing, writingOf, writing, HandedOut, Handing, handingOf, handing, handInto}
+use Rattle.rules.specs.Writing.{headerFor, blocksOf, checkWritten, Writing, writingOf, writing, HandedOut, Handing, handingOf, handing, handInto}
 use Rattle.rules.proofs.Entries.{onto-least}
 use Rattle.rules.proofs.RoundTrip.{blocks-length}
 use Rattle.rules.proofs.Writes.{write-holds}
@@ -79,7 +79,7 @@ both-lendable h room room' a e = go (leb (length (h .output ++ h .errors)) (leng
 -- ---- the blocks of a job, n bytes
 
 -- a part just as long as they are is written
-pub blocks-written : (most : Limits) (job : Job) (part : List ℕ) → check1to6 most job true .number ≡ 0 → length part ≡ 512 * blockCount (headerFor job)
+pub blocks-written : (most : Limits) (job : Job) (part : List ℕ) → checkWritten most job true .number ≡ 0 → length part ≡ 512 * blockCount (headerFor job)
     → writing most job part ≡ writingOf done (blocksOf job)
 blocks-written most job part passes long = let w = write-holds most job part in w .writes (ap (λ (x : Verdict). x .number) (w .all long) ∙ passes)
 
@@ -91,7 +91,7 @@ module _ (job : Job) (room : List ℕ) (n : ℕ) (l : n ≡ 512 * blockCount (he
       hand-text false (blocksOf job) room room (record { verdict = record { number = 3; place = 0 }; bytes = 0 }) (rw few refl)
 
   -- written to the first n bytes of the room
-  pub blocks-handed : (most : Limits) → check1to6 most job true .number ≡ 0 → n ≤ length room → (v : Verdict) (part : List ℕ) → writingOf v part ≡ writing most job (take n room)
+  pub blocks-handed : (most : Limits) → checkWritten most job true .number ≡ 0 → n ≤ length room → (v : Verdict) (part : List ℕ) → writingOf v part ≡ writing most job (take n room)
       → (handingOf (record { verdict = v; output = n; errors = 0 }) (part ++ drop n room) ≡ handInto (blocksOut job) room) × (v .number ≡ 0)
   unfolding printing onto
   blocks-handed most passes fits v part e =

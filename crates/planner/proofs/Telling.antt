@@ -17,17 +17,16 @@ use Rattle.rules.specs.declared.RunFigures.{RunFigures}
 use Rattle.rules.specs.declared.ReadFigures.{ReadFigures}
 use Rattle.rules.specs.declared.Printed.{Printed}
 use Rattle.rules.specs.Job.{Job, Limits, fileCount, files, Lent, fits}
-use Rattle.rules.specs.Check.{check1to6, check7to9, check}
+use Rattle.rules.specs.Check.{check}
 use Rattle.rules.specs.Split.{sizeOn}
 use Rattle.rules.specs.Run.{Ended, endedOf, noRunFigures, passEnds, runEnds}
 use Rattle.rules.specs.Stored.{Room, blockCount, jobOf, reading, readVerdict}
 use Rattle.rules.specs.Report.{refusal, sizeLine, sidesLine, figureLines, report, Printing, printed, intoRoom, reporting, prints, allRoom, ownLent, allLent, allRun}
 use Rattle.rules.specs.Trace.{listing, holdsPass, tracing, traces}
-use Rattle.rules.specs.Writing.{headerFor, withSides, HandedOut, Handing, handingOf, handInto, handsOut, resettles}
+use Rattle.rules.specs.Writing.{headerFor, checkWritten, withSides, HandedOut, Handing, handingOf, handInto, handsOut, resettles}
 use Rattle.rules.specs.RoundTrip.{lastPass, resettled}
 use Rattle.rules.proofs.Entries.{take-replicate}
-use Rattle.rules.proofs.Verdicts.{passes-both}
-use Rattle.rules.proofs.Proved.{answers}
+use Rattle.rules.proofs.Proved.{check-writes, answers}
 use Rattle.rules.proofs.CutOff.{prints-no, traces-no, resettles-no}
 use Rattle.rules.proofs.Resettling.{resettled-holds}
 use Rattle.rules.proofs.Reports.{into-number, into-bytes, reporting-refusal, run-told, pass-held, pass-long, pass-traced}
@@ -64,20 +63,19 @@ module _ (most : Limits) (job : Job) (r : RunFigures) (sides : List ℕ) (own le
       ∙ ap (λ (x : Ended RunFigures). intoRoom (report job (x .answer) (x .sides)) room) (sym ran)
       ∙ ap (λ (b : List ℕ). intoRoom b room) (sym (report-sides job r sides))
 
-  next-passes : check most job (fits job (allLent most job)) .number ≡ 0 → check1to6 most (resettled job) true .number ≡ 0
-  unfolding check
+  next-passes : check most job (fits job (allLent most job)) .number ≡ 0 → checkWritten most (resettled job) true .number ≡ 0
   next-passes ok =
       let l : Lent = allLent most job in
       let plain : check most job true .number ≡ 0 = ap (λ (b : Bool). check most job b .number) (sym (answers most job l .fitting ok)) ∙ ok in
-      passes-both (check1to6 most (resettled job) true) (check7to9 most (resettled job)) (ap (λ (v : Verdict). v .number) (resettled-holds most job plain .accepted)) .0
+      check-writes most (resettled job) true (ap (λ (v : Verdict). v .number) (resettled-holds most job plain .accepted))
 
-  passes : r .figures .verdict .number ≡ 0 → check1to6 most (withSides job sides) true .number ≡ 0
+  passes : r .figures .verdict .number ≡ 0 → checkWritten most (withSides job sides) true .number ≡ 0
   passes z =
       let l : Lent = allLent most job in
       elim (ℕ-discrete (check most job (fits job l) .number) 0) [
         | yes ok ↦
             let same : sides ≡ lastPass job .sidesAfter = ap (λ (x : Ended RunFigures). x .sides) (ran ∙ answers most job l .runDone ok) in
-            ap (λ (s : List ℕ). check1to6 most (withSides job s) true .number) same ∙ next-passes ok
+            ap (λ (s : List ℕ). checkWritten most (withSides job s) true .number) same ∙ next-passes ok
         | no n ↦ absurd (n (sym (ap (λ (x : Ended RunFigures). x .answer .figures .verdict .number) (ran ∙ answers most job l .runRefused n)) ∙ z))
       ]
 

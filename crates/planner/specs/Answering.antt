@@ -12,16 +12,15 @@ use Rattle.rules.specs.declared.Handed.{Handed}
 use Rattle.rules.specs.declared.Header.{Header}
 use Rattle.job.specs.declared.Job.{Job as Figures}
 use Rattle.rules.specs.Job.{Job, Limits}
-use Rattle.rules.specs.Check.{check1to6}
 use Rattle.rules.specs.Run.{passEnds}
 use Rattle.rules.specs.Stored.{blockCount}
 use Rattle.rules.specs.Report.{report, reporting, intoRoom, allLent, allRun, prints}
 use Rattle.rules.specs.Trace.{listing, trace, traces}
-use Rattle.rules.specs.Writing.{headerFor, blocksOf, withSides, HandedOut, handsOut, resettles}
+use Rattle.rules.specs.Writing.{headerFor, blocksOf, checkWritten, withSides, HandedOut, handsOut, resettles}
 
 -- the figures that a stored job's header has
 abbrev pub figuresIn : Header → Figures
-figuresIn h = record { num = h .num; den = h .den; cap = h .cap }
+figuresIn h = record { num = h .num; den = h .den; cap = h .cap; k = h .k }
 
 -- with the planner's own lists: the report of a run, and the trace of a pass
 abbrev pub runReport : Limits → Job → List ℕ
@@ -58,10 +57,10 @@ inputOut what most input = cond (eqb what 1) (textOut false (traces most input))
 abbrev pub roomFor : ℕ → ℕ → ℕ → ℕ → ℕ
 roomFor what report trace stored = cond (eqb what 1) trace (cond (eqb what 2) stored report)
 
--- what telling of a run needs to know: the report is refused only for want of room; run, the job passes 1 to 6 with its new sides; and its blocks are n bytes
+-- what telling of a run needs to know: the report is refused only for want of room; run, the job can be written with its new sides; and its blocks are n bytes
 pub record AfterRun (most : Limits) (answer : RunFigures) (job : Job) (n : ℕ) : Type 0 where
   pub told : (room : List ℕ) → reporting most (job .sizes) (job .marks) answer (job .sides) room ≡ intoRoom (report job answer (job .sides)) room
-  pub passes : answer .figures .verdict .number ≡ 0 → check1to6 most job true .number ≡ 0
+  pub passes : answer .figures .verdict .number ≡ 0 → checkWritten most job true .number ≡ 0
   pub blocks : n ≡ 512 * blockCount (headerFor job)
   pub sidesLong : length (job .sides) ≡ length (job .sizes)
   pub marksLong : length (job .marks) ≡ length (job .sizes)

@@ -14,10 +14,9 @@ ghost use lib.Dec.{eqb};
 ghost use Rattle.rules.specs.Job.{limitsOf, lentOf};
 ghost use Rattle.job.specs.Parts.{wholeJob};
 ghost use Rattle.rules.specs.Report.{refusal, «printed», intoRoom, allLent, prints};
-ghost use Rattle.rules.specs.Check.{check1to6};
 ghost use Rattle.rules.specs.Stored.{blockCount};
 ghost use Rattle.rules.specs.Trace.{traces};
-ghost use Rattle.rules.specs.Writing.{headerFor, resettles, handingOf, handInto};
+ghost use Rattle.rules.specs.Writing.{headerFor, checkWritten, resettles, handingOf, handInto};
 ghost use Rattle.rules.specs.Theorems.{mostBytes};
 ghost use Rattle.stored.specs.Room.{roomOf};
 ghost use Rattle.stored.specs.Steps.{firstOf};
@@ -102,7 +101,7 @@ fn hand_blocks(
     out: &mut [u8],
     bytes: usize,
 ) -> Handed
-    requires { do ⌜ check1to6 (limitsOf (← ⟦Job::MOST_FILES⟧) (← ⟦Job::MOST_RECIPES⟧) (← ⟦Job::MOST_PINS⟧) (← ⟦Job::MOST_DEN⟧)) (wholeJob job (now sizes) (now sides) (now marks) (now bounds) (now pins)) true .number ≡ 0 ⌝ }
+    requires { do ⌜ checkWritten (limitsOf (← ⟦Job::MOST_FILES⟧) (← ⟦Job::MOST_RECIPES⟧) (← ⟦Job::MOST_PINS⟧) (← ⟦Job::MOST_DEN⟧)) (wholeJob job (now sizes) (now sides) (now marks) (now bounds) (now pins)) true .number ≡ 0 ⌝ }
     requires { ⌜ bytes ≡ 512 * blockCount (headerFor (wholeJob job (now sizes) (now sides) (now marks) (now bounds) (now pins))) ⌝ }
     ensures { λ r. ⌜ handingOf r (now (out .exit)) ≡ handInto (blocksOut (wholeJob job (now (sizes .entry)) (now (sides .entry)) (now (marks .entry)) (now (bounds .entry)) (now (pins .entry)))) (now (out .entry)) ⌝ }
     ensures { λ r. ⌜ Answered bytes (r .verdict) (now (out .entry)) ⌝ }
@@ -244,7 +243,7 @@ fn print_with(
 pub fn figures_of(h: Header) -> Job
     ensures { λ r. ⌜ r ≡ figuresIn h ⌝ }
 {
-    Job::new(h.num, h.den, h.cap)
+    Job::new(h.num, h.den, h.cap, h.k)
 }
 
 // The same of the job in the first entries of the lists that were read into, with lists of the planner's own for the gains, moves, scans and scratch.

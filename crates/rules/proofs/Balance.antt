@@ -6,7 +6,7 @@ use mathlib.Core.Bool.{Bool, true, false, not, cond, _&&_, _||_}
 use mathlib.Core.List.{List}
 use mathlib.Core.Option.{Option, none, some}
 use native.Mathlib.Decide.{ℕ-discrete, decLt}
-use native.Mathlib.Nat.{mul-add, mul-le-mul-left}
+use native.Mathlib.Nat.{one-mul, mul-add, mul-le-mul-left, mul-le-mul-right}
 use native.Mathlib.Omega.{arith}
 use lib.Dec.{eqb}
 use lib.IntN.{ℤ, pos}
@@ -15,7 +15,7 @@ use lib.Signed.{ltZ}
 use borrow.Author.Tests.{not-true, leb-true, leb-false, eqb-true, eqb-false, eq-eqb}
 use Rattle.rules.specs.Lists.{bit}
 use Rattle.rules.specs.Job.{isRead, Job, fileCount, files, recipes}
-use Rattle.rules.specs.Split.{sideOf, onSide, gain, sizeOf, isFree, weighs, weight, smax, sizeOn, sizeA, largeEnough, smallEnough, balanced}
+use Rattle.rules.specs.Split.{sideOf, onSide, gain, sizeOf, isFree, weighs, weight, smax, sizeOn, sizeA, tolerance, largeEnough, smallEnough, balanced}
 use Rattle.rules.specs.Move.{State, lockOf, free, moved, greater, firstBelow}
 use Rattle.rules.specs.Balance.{tooLarge, tooSmall, heavy, freeOn, greatestOn, balanceChoice, leastA, mostA, noneBalanced}
 use Rattle.rules.specs.Theorems.{Binary}
@@ -32,21 +32,21 @@ use Rattle.rules.proofs.MovesEnd.{StateLong, moved-long, Picks}
 -- ---- too large and too small, as numbers
 
 module _ (job : Job) where
-  large-yes : (a : ℕ) → tooLarge job a ≡ true → job .num * weight job + job .den * smax job < job .den * a
+  large-yes : (a : ℕ) → tooLarge job a ≡ true → job .num * weight job + job .den * tolerance job < job .den * a
   unfolding tooLarge
-  large-yes a h = leb-false (job .den * a) (job .num * weight job + job .den * smax job) (not-true _ h)
+  large-yes a h = leb-false (job .den * a) (job .num * weight job + job .den * tolerance job) (not-true _ h)
 
-  large-no : (a : ℕ) → tooLarge job a ≡ false → job .den * a ≤ job .num * weight job + job .den * smax job
+  large-no : (a : ℕ) → tooLarge job a ≡ false → job .den * a ≤ job .num * weight job + job .den * tolerance job
   unfolding tooLarge
-  large-no a h = leb-true (job .den * a) (job .num * weight job + job .den * smax job) (not-no _ h)
+  large-no a h = leb-true (job .den * a) (job .num * weight job + job .den * tolerance job) (not-no _ h)
 
-  small-yes : (a : ℕ) → tooSmall job a ≡ true → job .den * a + job .den * smax job < job .num * weight job
+  small-yes : (a : ℕ) → tooSmall job a ≡ true → job .den * a + job .den * tolerance job < job .num * weight job
   unfolding tooSmall
-  small-yes a h = leb-false (job .num * weight job) (job .den * a + job .den * smax job) (not-true _ h)
+  small-yes a h = leb-false (job .num * weight job) (job .den * a + job .den * tolerance job) (not-true _ h)
 
-  small-no : (a : ℕ) → tooSmall job a ≡ false → job .num * weight job ≤ job .den * a + job .den * smax job
+  small-no : (a : ℕ) → tooSmall job a ≡ false → job .num * weight job ≤ job .den * a + job .den * tolerance job
   unfolding tooSmall
-  small-no a h = leb-true (job .num * weight job) (job .den * a + job .den * smax job) (not-no _ h)
+  small-no a h = leb-true (job .num * weight job) (job .den * a + job .den * tolerance job) (not-no _ h)
 
   -- more is too large too, and less too small
   pub large-up : (a b : ℕ) → a ≤ b → tooLarge job a ≡ true → tooLarge job b ≡ true
@@ -55,16 +55,16 @@ module _ (job : Job) where
   pub small-down : (a b : ℕ) → a ≤ b → tooSmall job b ≡ true → tooSmall job a ≡ true
   small-down a b l h = contra' (tooSmall job a) (λ e. omega (arith, small-yes b h, small-no a e, mul-le-mul-left {m = a} {n = b} (job .den) l))
 
-  -- a file no larger than smax, taken from too large an A, leaves it not too small; and the other way round
-  less-not-small : (a b z : ℕ) → b + z ≡ a → z ≤ smax job → tooLarge job a ≡ true → tooSmall job b ≡ false
+  -- a file no larger than the tolerance, taken from too large an A, leaves it not too small; and the other way round
+  less-not-small : (a b z : ℕ) → b + z ≡ a → z ≤ tolerance job → tooLarge job a ≡ true → tooSmall job b ≡ false
   less-not-small a b z e l h =
       contra (tooSmall job b)
-      (λ t. omega (arith, large-yes a h, small-yes b t, ap (λ (n : ℕ). job .den * n) e, mul-add (job .den) b z, mul-le-mul-left {m = z} {n = smax job} (job .den) l))
+      (λ t. omega (arith, large-yes a h, small-yes b t, ap (λ (n : ℕ). job .den * n) e, mul-add (job .den) b z, mul-le-mul-left {m = z} {n = tolerance job} (job .den) l))
 
-  more-not-large : (a b z : ℕ) → a + z ≡ b → z ≤ smax job → tooSmall job a ≡ true → tooLarge job b ≡ false
+  more-not-large : (a b z : ℕ) → a + z ≡ b → z ≤ tolerance job → tooSmall job a ≡ true → tooLarge job b ≡ false
   more-not-large a b z e l h =
       contra (tooLarge job b)
-      (λ t. omega (arith, small-yes a h, large-yes b t, ap (λ (n : ℕ). job .den * n) e, mul-add (job .den) a z, mul-le-mul-left {m = z} {n = smax job} (job .den) l))
+      (λ t. omega (arith, small-yes a h, large-yes b t, ap (λ (n : ℕ). job .den * n) e, mul-add (job .den) a z, mul-le-mul-left {m = z} {n = tolerance job} (job .den) l))
 
   -- ---- which side
 
@@ -95,7 +95,7 @@ module _ (job : Job) where
 
   neither : (a : ℕ) → balanced job a ≡ (not (tooSmall job a) && not (tooLarge job a))
   unfolding balanced tooSmall tooLarge
-  neither a = go (largeEnough (job .num) (job .den) (weight job) (smax job) a) (smallEnough (job .num) (job .den) (weight job) (smax job) a)
+  neither a = go (largeEnough (job .num) (job .den) (weight job) (tolerance job) a) (smallEnough (job .num) (job .den) (weight job) (tolerance job) a)
     where
       go : (p q : Bool) → (p && q) ≡ (not (not p) && not (not q))
       go true true = refl
@@ -206,15 +206,19 @@ module _ (job : Job) (u : ℕ) where
       let one : bit (isFree job f) * sizeOf job f ≡ sizeOf job f = rw z (omega arith) in
       omega (arith, one, l)
 
+  -- nor than the tolerance, at every k over 0
+  size-within : 1 ≤ job .k → (f : ℕ) → f < fileCount job → isFree job f ≡ true → sizeOf job f ≤ tolerance job
+  size-within wide f h e = omega (arith, size-most f h e, one-mul (smax job), mul-le-mul-right {m = 1} {n = job .k} (smax job) wide)
+
   -- one move more keeps the way
-  pub toward-next : (st : State) (f : ℕ) → Toward job u st → balanceChoice job st ≡ some f → Toward job u (moved st f)
-  toward-next st f t e =
+  pub toward-next : 1 ≤ job .k → (st : State) (f : ℕ) → Toward job u st → balanceChoice job st ≡ some f → Toward job u (moved st f)
+  toward-next wide st f t e =
       let m : Made job u st f = made st f t e in
       let a : ℕ = sizeA job (st .sides) in
       let b : ℕ = sizeA job (moved st f .sides) in
       let z : ℕ = weighs job f in
       let s : b + bit (eqb u 0) * z ≡ a + bit (eqb (1 - u) 0) * z = rw (← m .greatest .there) (size-moved job (m .moves) (m .greatest .below) 0) in
-      let small : z ≤ smax job = omega (arith, bit-most (isRead job f) (sizeOf job f), size-most f (m .greatest .below) (m .greatest .free)) in
+      let small : z ≤ tolerance job = omega (arith, bit-most (isRead job f) (sizeOf job f), size-within wide f (m .greatest .below) (m .greatest .free)) in
       record {
         long = moved-long f (t .long);
         binary = stays-binary (m .moves);
@@ -229,7 +233,7 @@ module _ (job : Job) (u : ℕ) where
         way = λ v h. next a b z s small (heavy-some job a u (m .heavy)) v (heavy-some job b v h);
       }
     where
-      next : (a b z : ℕ) → b + bit (eqb u 0) * z ≡ a + bit (eqb (1 - u) 0) * z → z ≤ smax job
+      next : (a b z : ℕ) → b + bit (eqb u 0) * z ≡ a + bit (eqb (1 - u) 0) * z → z ≤ tolerance job
           → ((u ≡ 0) × (tooLarge job a ≡ true)) ⊎ ((u ≡ 1) × (tooSmall job a ≡ true)) → (v : ℕ)
           → ((v ≡ 0) × (tooLarge job b ≡ true)) ⊎ ((v ≡ 1) × (tooSmall job b ≡ true)) → v ≡ u
       next a b z s l p v q =

@@ -16,12 +16,12 @@ use Rattle.rules.specs.declared.BalanceFigures.{BalanceFigures}
 use Rattle.rules.specs.Lists.{count, listed}
 use Rattle.rules.specs.Job.{Job, Limits, fileCount, recipeCount, pinCount, files, recipes, scratchFor}
 use Rattle.rules.specs.Split.{sideOf, cut, gain, isFree, weight, smax, sizeOn, sizeA, balanced}
-use Rattle.rules.specs.Check.{done, refuseIf, _orElse_, check2Of, check2, check7, check8, check9, check1to6, check7to9, check}
+use Rattle.rules.specs.Check.{done, refuseIf, _orElse_, badRatio, badK, check2Of, check2, check7, check8, check9, check1to6, check7to9, check}
 use Rattle.rules.specs.Move.{stepsBy, State, start, moved, after, Frees, greater, movesBy}
 use Rattle.rules.specs.Stored.{jobOf, readVerdict}
 use Rattle.rules.specs.Report.{refusal, sizeLine, ofFiles, intoRoom, allRoom, allLent}
 use Rattle.rules.specs.Refusals.{rows1to6}
-use Rattle.rules.specs.Writing.{headerFor, blocksOf, withSides, HandedOut, handsOut}
+use Rattle.rules.specs.Writing.{headerFor, blocksOf, checkWritten, withSides, HandedOut, handsOut}
 use Rattle.rules.specs.Balance.{heavy, freeOn, greatestOn, balanceChoice, balanceMoves, balanceSides, noneBalanced, check1to8, balanceCheck, balanceVerdict, Balancing, balancingOf, balanceFigures, noBalanceFigures, balancing, balanceLines, balanceReport, balanceReporting, balances}
 use Rattle.rules.specs.Theorems.{Sound, Sides, stateAt}
 use Rattle.rules.specs.Balancing.{balancedTo, Assignment, BalanceHolds, lastRows, balanceRows, BalanceRows, NineExactly, BalanceAnswers, balancesVerdict, BalanceProgram}
@@ -31,9 +31,9 @@ use Rattle.rules.proofs.Count.{count-le}
 use Rattle.rules.proofs.Fits.{long-enough}
 use Rattle.rules.proofs.Entries.{listed-holds}
 use Rattle.rules.proofs.First.{first-none}
-use Rattle.rules.proofs.SoundJob.{sound}
+use Rattle.rules.proofs.SoundJob.{ok7, sound}
 use Rattle.rules.proofs.MovesEnd.{StateLong, moves-stop, moves-each, moves-keep, moves-same, moves-free, moves-end, locked-stays}
-use Rattle.rules.proofs.Proved.{moves-hold, given-sides, lent-six}
+use Rattle.rules.proofs.Proved.{moves-hold, given-sides, lent-six, check-writes}
 use Rattle.rules.proofs.Checking.{check-holds}
 use Rattle.rules.proofs.OtherSides.{sound-again}
 use Rattle.rules.proofs.Refusals.{answerOf, answer-append, lacks, first-given, never-given, or-done, rows-six}
@@ -50,9 +50,9 @@ abbrev sideIn : Option ℕ → ℕ
 sideIn none = 0
 sideIn (some u) = u
 
--- ---- the moves, of a sound job
+-- ---- the moves, of a sound job with a k over 0
 
-module _ (most : Limits) (job : Job) (s : Sound most job) where
+module _ (most : Limits) (job : Job) (s : Sound most job) (wide : 1 ≤ job .k) where
   abbrev begin : State
   begin = start job (job .sides)
 
@@ -73,7 +73,7 @@ module _ (most : Limits) (job : Job) (s : Sound most job) where
 
   pub toward-at : (i : ℕ) → Toward job way (after begin (take i (balanceMoves job)))
   unfolding balanceMoves
-  toward-at i = moves-keep (balanceChoice job) moved (Toward job way) (toward-next job way) (fileCount job) begin toward-begin i
+  toward-at i = moves-keep (balanceChoice job) moved (Toward job way) (toward-next job way wide) (fileCount job) begin toward-begin i
 
   pub toward-end : Toward job way (after begin (balanceMoves job))
   toward-end = rw (take-length (balanceMoves job)) at (toward-at (length (balanceMoves job)))
@@ -81,7 +81,7 @@ module _ (most : Limits) (job : Job) (s : Sound most job) where
   -- the moves are those of the choice by the locks
   pub by-locks : balanceMoves job ≡ movesBy (lockedChoice job) moved (fileCount job) begin
   unfolding balanceMoves
-  by-locks = moves-same (balanceChoice job) moved (Toward job way) (toward-next job way) (lockedChoice job) (locked-same job way) (fileCount job) begin toward-begin
+  by-locks = moves-same (balanceChoice job) moved (Toward job way) (toward-next job way wide) (lockedChoice job) (locked-same job way) (fileCount job) begin toward-begin
 
   balance-free : Frees begin (balanceMoves job)
   balance-free = rw by-locks (moves-free (locked-picks job) (fileCount job) begin begin-long)
@@ -143,7 +143,9 @@ module _ (most : Limits) (job : Job) (s : Sound most job) where
 
 last-rows : (most : Limits) (job : Job) → (check7 most job orElse check8 job orElse refuseIf (noneBalanced job) 9 0) ≡ answerOf (lastRows most job)
 unfolding check7 check8 answerOf
-last-rows most job = ap (λ (v : Verdict). check7 most job orElse check8 job orElse v) (or-done (noneBalanced job) 8 0)
+last-rows most job =
+    or-assoc (refuseIf (badRatio most job) 7 0) (refuseIf (badK (job .k)) 7 0) (check8 job orElse refuseIf (noneBalanced job) 9 0)
+    ∙ ap (λ (v : Verdict). refuseIf (badRatio most job) 7 0 orElse refuseIf (badK (job .k)) 7 0 orElse check8 job orElse v) (or-done (noneBalanced job) 8 0)
 
 pub balance-rows : (most : Limits) (job : Job) (lent : Bool) → BalanceRows most job lent
 unfolding balanceCheck check1to8 lacks
@@ -160,12 +162,19 @@ module _ (most : Limits) (job : Job) (lent : Bool) where
   unfolding check1to8 check7 check8
   eight-numbers =
       few-or (check1to6 most job lent) (check7 most job orElse check8 job) 8 (omega (arith, few-numbers most job lent))
-      (few-or (check7 most job) (check8 job) 8 (few-if (eqb (job .num) 0 || leb (job .den) (job .num) || ltb (most .den) (job .den)) 7 0 8 (omega arith))
+      (few-or (check7 most job) (check8 job) 8
+      (few-or (refuseIf (badRatio most job) 7 0) (refuseIf (badK (job .k)) 7 0) 8 (few-if (badRatio most job) 7 0 8 (omega arith)) (few-if (badK (job .k)) 7 0 8 (omega arith)))
       (few-if (eqb (count (isFree job) (files job)) 0) 8 0 8 (omega arith)))
 
   eight-sound : check1to8 most job lent .number ≡ 0 → Sound most job
   unfolding check1to8
   eight-sound z = sound most job lent (passes-both (check1to6 most job lent) (check7 most job orElse check8 job) z .0)
+
+  eight-wide : check1to8 most job lent .number ≡ 0 → 1 ≤ job .k
+  unfolding check1to8
+  eight-wide z =
+      let q = passes-both (check1to6 most job lent) (check7 most job orElse check8 job) z in
+      ok7 most job (passes-both (check7 most job) (check8 job) (q .1) .0) .1 .0
 
   -- after 1 to 8 it is the 9 of its own
   after-eight : check1to8 most job lent .number ≡ 0 → balanceCheck most job lent ≡ refuseIf (noneBalanced job) 9 0
@@ -179,7 +188,8 @@ module _ (most : Limits) (job : Job) (lent : Bool) where
   impossible : check1to8 most job lent .number ≡ 0 → ((sides : List ℕ) → Assignment job sides → balanced job (sizeA job sides) ≡ false) → noneBalanced job ≡ true
   impossible z f =
       let s = eight-sound z in
-      contra' (noneBalanced job) (λ b. clash (sym (balance-holds most job s .balances b) ∙ f (balanceSides job) (assigned most job s)))
+      let w = eight-wide z in
+      contra' (noneBalanced job) (λ b. clash (sym (balance-holds most job s w .balances b) ∙ f (balanceSides job) (assigned most job s w)))
 
   passed-nine : balanceCheck most job lent .number ≡ 0 → (check1to8 most job lent .number ≡ 0) × (noneBalanced job ≡ false)
   unfolding balanceCheck
@@ -200,7 +210,8 @@ module _ (most : Limits) (job : Job) (lent : Bool) where
     possible = λ z.
         let q = passed-nine z in
         let s = eight-sound (q .0) in
-        (assigned most job s, balance-holds most job s .balances (q .1));
+        let w = eight-wide (q .0) in
+        (assigned most job s w, balance-holds most job s w .balances (q .1));
     before = unfold check check7to9 check1to8 in sym (or-three (check1to6 most job lent) (check7 most job) (check8 job) (check9 job));
     numbers = eight-numbers;
     first = stops-before;
@@ -234,6 +245,9 @@ module _ (most : Limits) (job : Job) (scratch : List ℕ) where
     through : Sound most job
     through = eight-sound most job lent (passed-nine most job lent z .0)
 
+    wide : 1 ≤ job .k
+    wide = eight-wide most job lent (passed-nine most job lent z .0)
+
     long-scratch : scratchFor job ≤ length scratch
     unfolding check1to8
     long-scratch =
@@ -259,7 +273,7 @@ module _ (most : Limits) (job : Job) (scratch : List ℕ) where
     left-even = nine-exactly most job lent .possible z .1
 
     left-checked : check most (withSides job (balanceSides job)) true ≡ done
-    left-checked = resided-nine most job through (balanceSides job) (balance-holds most job through .sides) seven-eight left-even
+    left-checked = resided-nine most job through (balanceSides job) (balance-holds most job through wide .sides) seven-eight left-even
 
   refused-equal : balanceVerdict most job scratch .number ≢ 0
       → balancing most job scratch ≡ balancingOf (noBalanceFigures (balanceVerdict most job scratch)) (job .sides) scratch
@@ -295,7 +309,7 @@ unfolding balanceReporting balanceReport balanceFigures balanceLines sizeLine si
 balance-told most job scratch room z =
     let s : Sound most job = through most job scratch z in
     let bytes = balanceLines (ofFiles (job .sizes) (job .marks)) (balanceFigures job done) (balanceSides job) in
-    rw (made-equal most job scratch z) (telling-made most job (balanceSides job) done true bytes room refl (s .fewFiles) (s .marksLong) (balance-holds most job s .sides) refl)
+    rw (made-equal most job scratch z) (telling-made most job (balanceSides job) done true bytes room refl (s .fewFiles) (s .marksLong) (balance-holds most job s (wide most job scratch z) .sides) refl)
 
 -- ---- the program
 
@@ -350,18 +364,17 @@ module _ (most : Limits) (input : List ℕ) where
     read-sound : Sound most read
     read-sound = read-holds most input (allRoom most) .sound (both-done .0)
 
-    even-six : check1to6 most (withSides read (balanceSides read)) true .number ≡ 0
-    even-six =
-        ap (λ (v : Verdict). v .number) (resided-six most read read-sound (balanceSides read) (balance-holds most read read-sound .sides))
+    even-writes : checkWritten most (withSides read (balanceSides read)) true .number ≡ 0
+    even-writes = check-writes most (withSides read (balanceSides read)) true (ap (λ (v : Verdict). v .number) (left-checked most read own (both-done .1)))
 
     even-read : readVerdict most (blocksOf (withSides read (balanceSides read))) (allRoom most) ≡ done
     even-read =
         let job : Job = withSides read (balanceSides read) in
         let few : check2Of most (fileCount read) (recipeCount read) (pinCount read) .number ≡ 0 = unfold check2 in few-of most read read-sound in
-        blocks-hold most job even-six .verdict (allRoom most) ∙ ap (λ (b : Bool). refuseIf (not b) 3 0) (lends-enough most input .room (headerFor job) few)
+        blocks-hold most job even-writes .verdict (allRoom most) ∙ ap (λ (b : Bool). refuseIf (not b) 3 0) (lends-enough most input .room (headerFor job) few)
 
     even-same : jobOf (blocksOf (withSides read (balanceSides read))) ≡ withSides read (balanceSides read)
-    even-same = blocks-hold most (withSides read (balanceSides read)) even-six .same
+    even-same = blocks-hold most (withSides read (balanceSides read)) even-writes .same
 
   -- the scratch that it lends is long enough for a job that was read
   never-three : readVerdict most input (allRoom most) .number ≡ 0 → balanceVerdict most read own .number ≢ 3

@@ -11,13 +11,13 @@ use Rattle.rules.specs.declared.Verdict.{Verdict}
 use Rattle.rules.specs.Lists.{count, someBelow, upTo}
 use Rattle.rules.specs.Job.{Job, Limits, fileCount, recipeCount, pinCount, bound, pin, files}
 use Rattle.rules.specs.Split.{sizeOf, sizeA, balanced}
-use Rattle.rules.specs.Check.{done, short, repeatsIn, badPin, badFile, check4to6, check7to9, check1to6, check}
+use Rattle.rules.specs.Check.{done, short, repeatsIn, badPin, badFile, badK, check4to6, check7to9, check1to6, check}
 use Rattle.rules.specs.Refusals.{row, rowAt}
 use Rattle.rules.specs.Theorems.{Sound, Accepted, CheckHolds}
 use Rattle.rules.proofs.Count.{count-here}
 use Rattle.rules.proofs.Searches.{some-none}
 use Rattle.rules.proofs.Verdicts.{first-three}
-use Rattle.rules.proofs.SoundJob.{sound}
+use Rattle.rules.proofs.SoundJob.{fine-k, sound}
 use Rattle.rules.proofs.Refusals.{answerOf, row-go, rows-four, rows-seven, six-rows, check-rows}
 use Rattle.rules.proofs.Proved.{accepted, lent-six, lent-fits}
 
@@ -75,6 +75,7 @@ module _ (most : Limits) (job : Job) where
         = rw (ne-eqb (job .num) 0 n, lt-leb (job .den) (job .num) (a .ratio .1), le-ltb (most .den) (job .den) (a .ratio .2)) refl in
         rows-seven job most
         ∙ row-go (row 7 (eqb (job .num) 0 || leb (job .den) (job .num) || ltb (most .den) (job .den)) 0) _ ratio
+        ∙ row-go (row 7 (badK (job .k)) 0) _ (fine-k (job .k) (a .wide))
         ∙ row-go (row 8 (eqb (count free (upTo (fileCount job))) 0) 0) _ (ne-eqb (count free (upTo (fileCount job))) 0 some)
         ∙ row-go (row 9 (not (balanced job (sizeA job (job .sides)))) 0) _ (ap not (a .balanced))
 

@@ -2,18 +2,18 @@
 use mathlib.Core.Path.{_≡_, refl, sym, ap, ap₂, _∙_}
 use mathlib.Core.Logic.{_≢_}
 use Prim.Native.Nat.{ℕ, _+_, _-_, _*_, _≤_, _<_}
-use mathlib.Core.Bool.{true, not}
+use mathlib.Core.Bool.{true, not, cond}
 use mathlib.Core.List.{List, []}
 use native.Mathlib.Decide.{decLt}
 use native.Mathlib.Omega.{arith}
 use lib.Dec.{ltb, eqb}
-use lib.ListN.{length, take, length-take}
+use lib.ListN.{length, getD, take, length-take}
 use lib.Seq.{take-all, take-take}
 use borrow.Author.Tests.{le-ltb, ne-eqb}
 use Rattle.rules.specs.declared.Verdict.{Verdict}
 use Rattle.rules.specs.declared.Header.{Header}
 use Rattle.rules.specs.Job.{Limits}
-use Rattle.rules.specs.Check.{refuseIf, _orElse_, check1Of, check2Of, check4to6}
+use Rattle.rules.specs.Check.{refuseIf, _orElse_, badK, check1Of, check2Of, check4to6}
 use Rattle.rules.specs.Stored.{blockCheck, word, blockAt, valueIn, headerOf, blocksFor, blockCount, kindOf, valuesIn, laidOut, blockVerdict, blocksVerdict, jobOf, Room, roomy, layoutVerdict, readVerdict}
 use Rattle.rules.specs.Report.{refusal, allRoom, allRun, prints}
 use Rattle.rules.specs.Trace.{traces}
@@ -45,6 +45,7 @@ module _ (most : Limits) (k : ℕ) (input : List ℕ) (more : mostBytes most < k
     num = valueIn b 3;
     den = valueIn b 4;
     cap = valueIn b 5;
+    k = cond (eqb (getD b 3 0) 7) (valueIn b 6) 1;
   }) first-block
 
   zeroth-same : (h : Header) → blockVerdict h cut-off 0 ≡ blockVerdict h input 0
@@ -72,6 +73,7 @@ module _ (most : Limits) (k : ℕ) (input : List ℕ) (more : mostBytes most < k
   layout-by h bytes room =
       refuseIf (ltb (length bytes) 512) 20 0
       orElse blockVerdict h bytes 0
+      orElse refuseIf (badK (h .k)) 22 0
       orElse check1Of (h .files) (h .recipes)
       orElse check2Of most (h .files) (h .recipes) (h .pins)
       orElse refuseIf (not (roomy h room)) 3 0
@@ -83,15 +85,17 @@ module _ (most : Limits) (k : ℕ) (input : List ℕ) (more : mostBytes most < k
 
   links : (h : Header) (room : Room) → layout-by h cut-off room ≡ layout-by h input room
   links h room =
+      let wide = refuseIf (badK (h .k)) 22 0 in
       let one = check1Of (h .files) (h .recipes) in
       let two = check2Of most (h .files) (h .recipes) (h .pins) in
       let three = refuseIf (not (roomy h room)) 3 0 in
       let last : List ℕ → Verdict = λ bytes. refuseIf (not (eqb (length bytes) (512 * blockCount h))) 20 0 orElse blocksVerdict h bytes 1 (blockCount h - 1) in
       let ends : two .number ≡ 0 → last cut-off ≡ last input
       = λ z. unlike h cut-off (blocksVerdict h cut-off 1 (blockCount h - 1)) (omega (arith, blocks-short h z, cut-length)) ∙ sym (unlike h input (blocksVerdict h input 1 (blockCount h - 1)) (omega (arith, blocks-short h z))) in
-      let figures : (one orElse two orElse three orElse last cut-off) ≡ (one orElse two orElse three orElse last input)
-      = chain-same one (two orElse three orElse last cut-off) (two orElse three orElse last input)
-      (λ _. chain-same two (three orElse last cut-off) (three orElse last input) (λ z. chain-same three (last cut-off) (last input) (λ _. ends z))) in
+      let figures : (wide orElse one orElse two orElse three orElse last cut-off) ≡ (wide orElse one orElse two orElse three orElse last input)
+      = chain-same wide (one orElse two orElse three orElse last cut-off) (one orElse two orElse three orElse last input)
+      (λ _. chain-same one (two orElse three orElse last cut-off) (two orElse three orElse last input)
+      (λ _. chain-same two (three orElse last cut-off) (three orElse last input) (λ z. chain-same three (last cut-off) (last input) (λ _. ends z)))) in
       ap₂ (λ (v w : Verdict). v orElse w) enough (ap₂ (λ (v w : Verdict). v orElse w) (zeroth-same h) figures)
 
   layout-same : (room : Room) → layoutVerdict most cut-off room ≡ layoutVerdict most input room
@@ -105,7 +109,8 @@ module _ (most : Limits) (k : ℕ) (input : List ℕ) (more : mostBytes most < k
       let h : Header = headerOf input in
       let b = passes-both (refuseIf (ltb (length input) 512) 20 0) _ ok in
       let c = passes-both (blockVerdict h input 0) _ (b .1) in
-      let d = passes-both (check1Of (h .files) (h .recipes)) _ (c .1) in
+      let w = passes-both (refuseIf (badK (h .k)) 22 0) _ (c .1) in
+      let d = passes-both (check1Of (h .files) (h .recipes)) _ (w .1) in
       let e = passes-both (check2Of most (h .files) (h .recipes) (h .pins)) _ (d .1) in
       let f = passes-both (refuseIf (not (roomy h room)) 3 0) _ (e .1) in
       let l = blocks-short h (e .0) in

@@ -14,7 +14,7 @@ use Rattle.rules.specs.declared.Header.{Header}
 use Rattle.rules.specs.declared.Figures.{Figures}
 use Rattle.rules.specs.declared.RunFigures.{RunFigures}
 use Rattle.rules.specs.Job.{Job, Limits, fileCount, recipeCount, pinCount, scratchFor, scratchNumbers, fits}
-use Rattle.rules.specs.Check.{done, refuseIf, check2Of, check}
+use Rattle.rules.specs.Check.{done, refuseIf, badK, check2Of, check}
 use Rattle.rules.specs.Stored.{headerOf, blockCount, jobOf, roomy, layoutVerdict, readVerdict}
 use Rattle.rules.specs.Refusals.{Row, row, rows1and2, rows4to6, rows7to9, blockRows, furtherRows}
 use Rattle.rules.specs.Pass.{pass, leaves}
@@ -65,7 +65,7 @@ module _ (most : Limits) where
     abbrev before : List Row
     before =
         let h = headerOf input in
-        (row 20 (ltb (length input) 512) 0 ∷ blockRows h input 0) ++ rows1and2 most (h .files) (h .recipes) (h .pins)
+        (row 20 (ltb (length input) 512) 0 ∷ blockRows h input 0) ++ (row 22 (badK (h .k)) 0 ∷ rows1and2 most (h .files) (h .recipes) (h .pins))
 
     abbrev own : Row
     own = row 3 (not (roomy (headerOf input) (allRoom most))) 0
@@ -88,7 +88,7 @@ module _ (most : Limits) where
     -- where 2 is not given there is room
     own-passed : answerOf before .number ≡ 0 → own .given ≡ false
     unfolding lacks
-    own-passed z = ap not (room-after (headerOf input) (ap (λ (b : Bool). refuseIf b 2 0 .number) (none-given before refl z 4)))
+    own-passed z = ap not (room-after (headerOf input) (ap (λ (b : Bool). refuseIf b 2 0 .number) (none-given before refl z 5)))
 
     read-never : readVerdict most input (allRoom most) .number ≢ 3
     read-never =

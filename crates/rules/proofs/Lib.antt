@@ -42,3 +42,4 @@ pub mod Balance
 pub mod Balancing
 pub mod Unread
 pub mod Worked
+pub mod Wider

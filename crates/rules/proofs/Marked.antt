@@ -33,14 +33,14 @@ chain-stored : jobOf chainBytes ≡ chain
 unfolding upTo padded contents valueBytes jobOf headerOf
 chain-stored = refl
 
-module _ (most : Limits) (f : 4 ≤ most .files) (r : 3 ≤ most .recipes) (p : 6 ≤ most .pins) where
+module _ (most : Limits) (f : 4 ≤ most .files) (r : 3 ≤ most .recipes) (p : 6 ≤ most .pins) (d : 2 ≤ most .den) where
   chain-read : readVerdict most chainBytes (allRoom most) ≡ done
   unfolding upTo lowest padded contents valueBytes weigh blockCheck headerOf laidOut blockVerdict blocksVerdict jobOf layoutVerdict readVerdict check1 check2 check3 check4 badPin check5 check6 check7 check8 check9 check4to6 check7to9 check1to6 check
   chain-read = read-same most (limitsOf 4 3 6 2) chainBytes (rw (le-ltb (most .files) 4 f, le-ltb (most .recipes) 3 r, le-ltb (most .pins) 6 p) refl) refl
 
-  chain-checked : 2 ≤ most .den → checkJob most chain ≡ done
+  chain-checked : checkJob most chain ≡ done
   unfolding total count largest upTo lowest bestUpTo diff viewOf files views readIn recipes those countOn isCut cut times alone together gain weight smax sizeOn balanced check1 check2 check3 check4 badPin check5 check6 check7 check8 check9 check4to6 check7to9 check1to6 check
-  chain-checked d = rw (le-ltb (most .files) 4 f, le-ltb (most .recipes) 3 r, le-ltb (most .pins) 6 p, le-ltb (most .den) 2 d) refl
+  chain-checked = rw (le-ltb (most .files) 4 f, le-ltb (most .recipes) 3 r, le-ltb (most .pins) 6 p, le-ltb (most .den) 2 d) refl
 
 -- ---- the pair
 
@@ -48,14 +48,14 @@ pair-stored : jobOf pairBytes ≡ pair
 unfolding upTo padded contents valueBytes jobOf headerOf
 pair-stored = refl
 
-module _ (most : Limits) (f : 2 ≤ most .files) (r : 1 ≤ most .recipes) (p : 2 ≤ most .pins) where
+module _ (most : Limits) (f : 2 ≤ most .files) (r : 1 ≤ most .recipes) (p : 2 ≤ most .pins) (d : 2 ≤ most .den) where
   pair-read : readVerdict most pairBytes (allRoom most) ≡ done
   unfolding upTo lowest padded contents valueBytes weigh blockCheck headerOf laidOut blockVerdict blocksVerdict jobOf layoutVerdict readVerdict check1 check2 check3 check4 badPin check5 check6 check7 check8 check9 check4to6 check7to9 check1to6 check
   pair-read = read-same most (limitsOf 2 1 2 2) pairBytes (rw (le-ltb (most .files) 2 f, le-ltb (most .recipes) 1 r, le-ltb (most .pins) 2 p) refl) refl
 
-  pair-checked : 2 ≤ most .den → checkJob most pair ≡ done
+  pair-checked : checkJob most pair ≡ done
   unfolding total count largest upTo lowest bestUpTo diff viewOf files views readIn recipes those countOn isCut cut times alone together gain weight smax sizeOn balanced check1 check2 check3 check4 badPin check5 check6 check7 check8 check9 check4to6 check7to9 check1to6 check
-  pair-checked d = rw (le-ltb (most .files) 2 f, le-ltb (most .recipes) 1 r, le-ltb (most .pins) 2 p, le-ltb (most .den) 2 d) refl
+  pair-checked = rw (le-ltb (most .files) 2 f, le-ltb (most .recipes) 1 r, le-ltb (most .pins) 2 p, le-ltb (most .den) 2 d) refl
 
 -- ---- the archive of order 2
 
@@ -70,15 +70,15 @@ marked = record {
   m1·passes = refl;
   m1·gains = refl;
   m1·stored = chain-stored;
-  m1·prints = λ m f r p d. prints-whole m chainBytes chain chain-stored (chain-read m f r p) (chain-checked m f r p d);
-  m1·traces = λ m f r p d. traces-whole m chainBytes chain chain-stored (chain-read m f r p) (chain-checked m f r p d);
+  m1·prints = λ m f r p d. prints-whole m chainBytes chain chain-stored (chain-read m f r p d) (chain-checked m f r p d);
+  m1·traces = λ m f r p d. traces-whole m chainBytes chain chain-stored (chain-read m f r p d) (chain-checked m f r p d);
   m2 = refl;
   m3 = refl;
   m4 = refl;
   m5·moves = refl;
   m5·stored = pair-stored;
-  m5·prints = λ m f r p d. prints-whole m pairBytes pair pair-stored (pair-read m f r p) (pair-checked m f r p d);
-  m5·traces = λ m f r p d. traces-whole m pairBytes pair pair-stored (pair-read m f r p) (pair-checked m f r p d);
+  m5·prints = λ m f r p d. prints-whole m pairBytes pair pair-stored (pair-read m f r p d) (pair-checked m f r p d);
+  m5·traces = λ m f r p d. traces-whole m pairBytes pair pair-stored (pair-read m f r p d) (pair-checked m f r p d);
   m6·kinds = refl;
   m6·visits = refl;
   m6·three = refl;

@@ -67,6 +67,7 @@ module _ (job : Job) (sides : List ℕ) where
         sound = sound-again (a .sound) w;
         distinct = a .distinct;
         ratio = a .ratio;
+        wide = a .wide;
         free = a .free;
         balanced = same-balance (sizeA next sides) ∙ ap (balanced job) (same-size 0 sides) ∙ b;
       })

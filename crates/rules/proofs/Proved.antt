@@ -15,19 +15,20 @@ use Rattle.rules.specs.declared.Verdict.{Verdict}
 use Rattle.rules.specs.Lists.{count, upTo, lowest, someBelow}
 use Rattle.rules.specs.Job.{Job, Limits, fileCount, recipeCount, files, views, recipes, Lent, scratchFor, fits}
 use Rattle.rules.specs.Split.{sideOf, cut, unreadFiles, unreadRecipes, sizeA, balanced}
-use Rattle.rules.specs.Check.{refuseIf, _orElse_, check1, check2, check3, check4, check5, badFile, check6, check7, check8, check9, check4to6, check1to6, check7to9, check, measure}
+use Rattle.rules.specs.Check.{refuseIf, _orElse_, badK, check1, check2, check3, check4, check5, badFile, check6, check7, check8, check9, check4to6, check1to6, check7to9, check, measure}
 use Rattle.rules.specs.Move.{stepsBy, State, start, free, moved, after, Frees, sizeAfter, legal, Scan, scans, endsFrom}
 use Rattle.rules.specs.Pass.{cutAt, keeps, gainsAfter, startGains, Pass, passOf, tries, pass, leaves}
 use Rattle.rules.specs.Run.{mostPasses, passes, run, lastOf, figuresOf, runFiguresOf, leftBy, passEnds, runEnds}
+use Rattle.rules.specs.Writing.{checkWritten}
 use Rattle.rules.specs.Theorems.{Sound, Accepted, Sides, stateAt, replayedTo, MovesHold, Left, scansTold, replayedBy, Replayed, Chosen, PassHolds, startSides, RunHolds, Answers}
 use Rattle.rules.proofs.Tests.{clash, and-yes, not-no}
-use Rattle.rules.proofs.Verdicts.{passes-both, not-refused, Plain, plain-if, plain-chain}
+use Rattle.rules.proofs.Verdicts.{passes-both, both-pass, not-refused, Plain, plain-if, plain-chain}
 use Rattle.rules.proofs.Count.{length-tabled, count-some}
 use Rattle.rules.proofs.Entries.{beyond, listed-more, listed-holds}
 use Rattle.rules.proofs.GainKept.{frees-take, after-binary, keptUp, kept-length, kept-more, gain-kept-at, gains-kept, gains-pinned, gains-chosen, replay-within, replay-listed, told-more, cut-kept, start-fresh}
 use Rattle.rules.proofs.FourScans.{recipe-scans, all-scans, all-visits}
 use Rattle.rules.proofs.Sizes.{sizes-kept, gain-range}
-use Rattle.rules.proofs.SoundJob.{ok7, sound, recipes-distinct, views-length, recipes-length, views-total}
+use Rattle.rules.proofs.SoundJob.{fine-k, ok7, sound, recipes-distinct, views-length, recipes-length, views-total}
 use Rattle.rules.proofs.Choice.{chosen-one}
 use Rattle.rules.proofs.MovesEnd.{StateLong, after-long, pass-free, pass-each, pass-end, locked-stays, frees-once, frees-few}
 use Rattle.rules.proofs.Fits.{long-enough}
@@ -49,7 +50,8 @@ accepted most job lent ok =
     record {
       sound = s;
       distinct = recipes-distinct most job s;
-      ratio = ok7 most job (b .0);
+      ratio = ok7 most job (b .0) .0;
+      wide = ok7 most job (b .0) .1;
       free = (t .0, t .1, eqb-true (getD (job .marks) (t .0) 0) 0 (t .2));
       balanced = not-no start (not-refused (not start) 8 0 (c .1));
     }
@@ -302,6 +304,14 @@ lent-six most job lent ok =
 pub lent-fits : (most : Limits) (job : Job) (lent : Bool) → check most job lent .number ≡ 0 → lent ≡ true
 unfolding check
 lent-fits most job lent ok = lent-six most job lent (passes-both (check1to6 most job lent) (check7to9 most job) ok .0)
+
+-- what passes 1 to 9 can be written
+pub check-writes : (most : Limits) (job : Job) (lent : Bool) → check most job lent .number ≡ 0 → checkWritten most job lent .number ≡ 0
+unfolding check check7to9
+check-writes most job lent ok =
+    let a = passes-both (check1to6 most job lent) (check7to9 most job) ok in
+    let k = ok7 most job (passes-both (check7 most job) (check8 job orElse check9 job) (a .1) .0) .1 in
+    both-pass (check1to6 most job lent) (refuseIf (badK (job .k)) 7 0) (a .0) (ap (λ (b : Bool). refuseIf b 7 0 .number) (fine-k (job .k) k))
 
 pub answers : (most : Limits) (job : Job) (l : Lent) → Answers most job l
 unfolding passEnds runEnds measure

@@ -1,7 +1,7 @@
 -- Reading: what a stored job that is let through has, and what a refusal leaves. Assumes nothing.
 use mathlib.Core.Path.{_≡_, refl, sym, ap, _∙_}
-use Prim.Native.Nat.{ℕ, suc, _+_, _*_, _/_, _%_, _<_}
-use mathlib.Core.Bool.{Bool, true, false, not, _&&_}
+use Prim.Native.Nat.{ℕ, suc, _+_, _*_, _/_, _%_, _≤_, _<_}
+use mathlib.Core.Bool.{Bool, true, false, not, cond, _&&_}
 use mathlib.Core.List.{List, map}
 use native.Mathlib.Decide.{ℕ-discrete, decLt}
 use native.Mathlib.Omega.{arith}
@@ -13,14 +13,15 @@ use borrow.Author.Tests.{eq-eqb, ne-eqb}
 use Rattle.rules.specs.declared.Header.{Header}
 use Rattle.rules.specs.Lists.{upTo, allBelow}
 use Rattle.rules.specs.Job.{Job, Limits, TwoByte, fileCount, recipeCount, pinCount}
-use Rattle.rules.specs.Check.{refuseIf, _orElse_, check1Of, check2Of, check1, check2, check3, check4to6, check1to6, check}
-use Rattle.rules.specs.Stored.{value, headerOf, boundsAt, pinsAt, blockVerdict, jobOf, Room, roomy, layoutVerdict, readVerdict, Reading, reading}
+use Rattle.rules.specs.Check.{refuseIf, _orElse_, badK, check1Of, check2Of, check1, check2, check3, check4to6, check1to6, check}
+use Rattle.rules.specs.Stored.{blockAt, value, headerOf, boundsAt, pinsAt, blockVerdict, jobOf, Room, roomy, layoutVerdict, readVerdict, Reading, reading}
+use Rattle.rules.specs.Writing.{checkWritten}
 use Rattle.rules.specs.Theorems.{ReadHolds, Written}
 use Rattle.rules.proofs.Verdicts.{passes-both, both-pass, not-refused, chain-go}
 use Rattle.rules.proofs.Tests.{not-no}
 use Rattle.rules.proofs.Count.{length-tabled, getD-tabled}
 use Rattle.rules.proofs.Entries.{below-any, onto-length, onto-in, onto-stays}
-use Rattle.rules.proofs.SoundJob.{sound}
+use Rattle.rules.proofs.SoundJob.{good-k, fine-k, sound}
 use Rattle.rules.proofs.Refusals.{read-rows}
 
 -- ---- its lists are as long as the header says
@@ -56,16 +57,18 @@ module _ (most : Limits) (bytes : List ℕ) (room : Room) (ok : readVerdict most
       × (check2Of most (headerOf bytes .files) (headerOf bytes .recipes) (headerOf bytes .pins) .number ≡ 0)
       × (check4to6 (jobOf bytes) .number ≡ 0)
       × (roomy (headerOf bytes) room ≡ true)
+      × ((1 ≤ headerOf bytes .k) × (headerOf bytes .k ≤ 4))
   unfolding readVerdict layoutVerdict
   read-counts =
       let h : Header = headerOf bytes in
       let a = passes-both (layoutVerdict most bytes room) (check4to6 (jobOf bytes)) ok in
       let b = passes-both (refuseIf (ltb (length bytes) 512) 20 0) _ (a .0) in
       let c = passes-both (blockVerdict h bytes 0) _ (b .1) in
-      let d = passes-both (check1Of (h .files) (h .recipes)) _ (c .1) in
+      let w = passes-both (refuseIf (badK (h .k)) 22 0) _ (c .1) in
+      let d = passes-both (check1Of (h .files) (h .recipes)) _ (w .1) in
       let e = passes-both (check2Of most (h .files) (h .recipes) (h .pins)) _ (d .1) in
       let f = passes-both (refuseIf (not (roomy h room)) 3 0) _ (e .1) in
-      (d .0, e .0, a .1, not-no (roomy h room) (not-refused (not (roomy h room)) 2 0 (f .0)))
+      (d .0, e .0, a .1, not-no (roomy h room) (not-refused (not (roomy h room)) 2 0 (f .0)), good-k (h .k) 21 (w .0))
 
   pub read-passes : check1to6 most (jobOf bytes) true .number ≡ 0
   unfolding check1to6 check1 check2 check3
@@ -77,6 +80,16 @@ module _ (most : Limits) (bytes : List ℕ) (room : Room) (ok : readVerdict most
       both-pass (check1 job) (check2 most job orElse check3 job true orElse check4to6 job) (rw (read-files bytes, read-recipes bytes) (r .0))
       (both-pass (check2 most job) (check3 job true orElse check4to6 job) (rw (read-files bytes, read-recipes bytes, read-pins bytes) (r .1))
       (both-pass (check3 job true) (check4to6 job) (ap (λ (b : Bool). refuseIf b 3 0 .number) long) (r .2)))
+
+  read-wide : (1 ≤ jobOf bytes .k) × (jobOf bytes .k ≤ 4)
+  unfolding jobOf
+  read-wide = read-counts .4
+
+  -- so it can be written
+  pub read-writes : checkWritten most (jobOf bytes) true .number ≡ 0
+  read-writes =
+      both-pass (check1to6 most (jobOf bytes) true) (refuseIf (badK (jobOf bytes .k)) 7 0) read-passes
+      (ap (λ (b : Bool). refuseIf b 7 0 .number) (fine-k (jobOf bytes .k) read-wide))
 
 -- ---- bytes make two-byte numbers
 
@@ -107,7 +120,12 @@ module _ (bytes : List ℕ) (small : allBelow 256 bytes) where
     num = value-small 0 3;
     den = value-small 0 4;
     cap = value-small 0 5;
+    k = go (eqb (getD (blockAt bytes 0) 3 0) 7);
   }
+    where
+      go : (b : Bool) → cond b (value bytes 0 6) 1 < 65536
+      go true = value-small 0 6
+      go false = omega arith
 
 pub read-holds : (most : Limits) (bytes : List ℕ) (room : Room) → ReadHolds most bytes room
 unfolding reading check
@@ -119,6 +137,7 @@ read-holds most bytes room = record {
   files = read-files bytes;
   recipes = read-recipes bytes;
   pins = read-pins bytes;
+  wide = read-wide most bytes room;
   sound = λ e. sound most (jobOf bytes) true (read-passes most bytes room e);
   adds = λ e. sym (chain-go refl (read-passes most bytes room e) refl);
   small = read-small bytes;

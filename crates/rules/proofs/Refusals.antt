@@ -13,7 +13,7 @@ use Rattle.rules.specs.declared.Header.{Header}
 use Rattle.rules.specs.Lists.{lowest, someBelow}
 use Rattle.rules.specs.Job.{Job, Limits, fileCount, recipeCount, pinCount, bound}
 use Rattle.rules.specs.Split.{sizeA, balanced}
-use Rattle.rules.specs.Check.{done, refuseIf, refuseAt, _orElse_, short, badFile, check1Of, check2Of, check1, check2, check3, check4, check5, check6, check7, check8, check9, check4to6, check7to9, check1to6, check}
+use Rattle.rules.specs.Check.{done, refuseIf, refuseAt, _orElse_, short, badFile, badRatio, badK, check1Of, check2Of, check1, check2, check3, check4, check5, check6, check7, check8, check9, check4to6, check7to9, check1to6, check}
 use Rattle.rules.specs.Stored.{word, blockAt, kindOf, valuesIn, blockCheck, laidOut, headerOf, blockCount, blockVerdict, blocksVerdict, jobOf, Room, roomy, layoutVerdict, readVerdict}
 use Rattle.rules.specs.Refusals.{Row, row, saidBy, rowOf, rows4to6, rows7to9, rows1to6, rows1to9, blockRows, furtherRows, layoutRows, readRows}
 use Rattle.rules.specs.Theorems.{FirstRow, FirstGiven}
@@ -142,7 +142,9 @@ module _ (job : Job) where
 
   pub rows-seven : (most : Limits) → check7to9 most job ≡ answerOf (rows7to9 most job)
   unfolding check7to9 check7 check8 check9 answerOf
-  rows-seven most = ap (λ (v : Verdict). check7 most job orElse check8 job orElse v) (or-done (not (balanced job (sizeA job (job .sides)))) 8 0)
+  rows-seven most =
+      or-assoc (refuseIf (badRatio most job) 7 0) (refuseIf (badK (job .k)) 7 0) (check8 job orElse check9 job)
+      ∙ ap (λ (v : Verdict). refuseIf (badRatio most job) 7 0 orElse refuseIf (badK (job .k)) 7 0 orElse check8 job orElse v) (or-done (not (balanced job (sizeA job (job .sides)))) 8 0)
 
   pub rows-six : (most : Limits) (lent : Bool) → check1to6 most job lent ≡ answerOf (rows1to6 most job lent)
   unfolding check1to6 check1 check2 check3 answerOf
@@ -187,7 +189,8 @@ module _ (most : Limits) (bytes : List ℕ) (room : Room) where
       let h : Header = headerOf bytes in
       let block : List ℕ = blockAt bytes 0 in
       let further : Verdict → Verdict = λ v.
-      check1Of (h .files) (h .recipes)
+      refuseIf (badK (h .k)) 22 0
+      orElse check1Of (h .files) (h .recipes)
       orElse check2Of most (h .files) (h .recipes) (h .pins)
       orElse refuseIf (not (roomy h room)) 3 0
       orElse refuseIf (not (eqb (length bytes) (512 * blockCount h))) 20 0

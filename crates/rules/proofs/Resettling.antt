@@ -21,7 +21,7 @@ use Rattle.rules.specs.Theorems.{Sound, Accepted}
 use Rattle.rules.specs.RoundTrip.{BlocksHold, lastPass, resettled, ResettledHolds, ResettleRefuses, HandsBack}
 use Rattle.rules.proofs.Verdicts.{passes-both, both-pass, chain-go}
 use Rattle.rules.proofs.SoundJob.{sound}
-use Rattle.rules.proofs.Proved.{accepted, answers, run-holds}
+use Rattle.rules.proofs.Proved.{accepted, check-writes, answers, run-holds}
 use Rattle.rules.proofs.OtherSides.{same-recipes, same-size, same-pass, check-again}
 use Rattle.rules.proofs.Reports.{last-sides}
 use Rattle.rules.proofs.Lending.{runText, room-enough, lent-enough, prints-run}
@@ -131,7 +131,7 @@ module _ (most : Limits) (input : List ℕ) (read : readVerdict most input (allR
     passes-six = passes-both (check1to6 most new true) (check7to9 most new) passes-nine .0
 
     new-blocks : BlocksHold most new
-    new-blocks = blocks-hold most new passes-six
+    new-blocks = blocks-hold most new (check-writes most new true passes-nine)
 
     new-read : readVerdict most (blocksOf new) (allRoom most) ≡ done
     new-read = new-blocks .verdict (allRoom most) ∙ ap (λ (b : Bool). refuseIf (not b) 3 0) (let s = sound most new true passes-six in room-enough most (headerFor new) (s .fewFiles) (s .fewRecipes) (s .fewPins))
@@ -155,6 +155,7 @@ module _ (most : Limits) (input : List ℕ) (read : readVerdict most input (allR
           num = t .num;
           den = t .den;
           cap = t .cap;
+          k = t .k;
         }
 
     pub hands-back : HandsBack most input

@@ -15,18 +15,18 @@ use Rattle.rules.specs.declared.Verdict.{Verdict}
 use Rattle.rules.specs.Lists.{upTo, inTurn, allBelow}
 use Rattle.rules.specs.Job.{Job, Limits, TwoByte, fileCount, recipeCount, pinCount, bound, pin}
 use Rattle.rules.specs.Split.{sizeOf}
-use Rattle.rules.specs.Check.{done, refuseIf, _orElse_, check1Of, check2Of, check1, check2, check3, check4to6, check1to6}
-use Rattle.rules.specs.Stored.{blockCheck, word, blockAt, valueIn, value, headerOf, boundsAt, pinsAt, blockCount, kindOf, valuesIn, laidOut, blockVerdict, blocksVerdict, jobOf, Room, roomy, layoutVerdict, readVerdict, written, reading}
-use Rattle.rules.specs.Writing.{blockOf, headerFor, sixFigures, fileValue, jobValue, jobValues, jobBlock, blocksOf}
+use Rattle.rules.specs.Check.{done, refuseIf, _orElse_, badK, check1Of, check2Of, check1, check2, check3, check4to6, check1to6}
+use Rattle.rules.specs.Stored.{blockCheck, word, blockAt, valueIn, value, headerOf, boundsAt, pinsAt, blockCount, kindOf, headerValues, valuesIn, laidOut, blockVerdict, blocksVerdict, jobOf, Room, roomy, layoutVerdict, readVerdict, written, reading}
+use Rattle.rules.specs.Writing.{blockOf, headerFor, headerFigures, fileValue, jobValue, jobValues, jobBlock, blocksOf, checkWritten}
 use Rattle.rules.specs.Theorems.{Sound}
 use Rattle.rules.specs.RoundTrip.{BlocksHold, BackHolds}
 use Rattle.rules.proofs.Tests.{not-no}
 use Rattle.rules.proofs.Verdicts.{chain-go, passes-both, both-pass, refuse-go, not-refused}
 use Rattle.rules.proofs.Count.{getD-tabled, length-tabled}
 use Rattle.rules.proofs.Entries.{below-any}
-use Rattle.rules.proofs.SoundJob.{sound}
+use Rattle.rules.proofs.SoundJob.{good-k, fine-k, sound}
 use Rattle.rules.proofs.Blocks.{blocks-pass, blocks-each}
-use Rattle.rules.proofs.Reading.{read-files, read-recipes, read-pins, part-small, value-small, read-passes, read-holds}
+use Rattle.rules.proofs.Reading.{read-files, read-recipes, read-pins, part-small, value-small, read-writes, read-holds}
 use Rattle.rules.proofs.Proved.{plain-later}
 use Rattle.rules.proofs.InTurn.{inTurn-length, inTurn-part, inTurn-is, inTurn-below}
 use Rattle.rules.proofs.Words.{block-length, block-check, block-value, block-below, block-laid, block-is, laid-out}
@@ -79,13 +79,14 @@ module _ (h : Header) (b : ℕ) where
       go false false false = omega arith
 
   pub few-values : valuesIn h b ≤ 253
-  few-values = go (eqb b 0) (ltb b (boundsAt h)) (ltb b (pinsAt h)) (h .files - 126 * (b - 1)) (h .recipes + 1 - 253 * (b - boundsAt h)) (h .pins - 253 * (b - pinsAt h))
+  few-values = go (eqb (h .k) 1) (eqb b 0) (ltb b (boundsAt h)) (ltb b (pinsAt h)) (h .files - 126 * (b - 1)) (h .recipes + 1 - 253 * (b - boundsAt h)) (h .pins - 253 * (b - pinsAt h))
     where
-      go : (x y z : Bool) (k l m : ℕ) → cond x 6 (cond y (2 * min 126 k) (cond z (min 253 l) (min 253 m))) ≤ 253
-      go true y z k l m = omega arith
-      go false true z k l m = omega arith
-      go false false true k l m = omega arith
-      go false false false k l m = omega arith
+      go : (s x y z : Bool) (k l m : ℕ) → cond x (cond s 6 7) (cond y (2 * min 126 k) (cond z (min 253 l) (min 253 m))) ≤ 253
+      go true true y z k l m = omega arith
+      go false true y z k l m = omega arith
+      go s false true z k l m = omega arith
+      go s false false true k l m = omega arith
+      go s false false false k l m = omega arith
 
   -- how many values it has
   pub files-held : 1 ≤ b → b < boundsAt h → valuesIn h b ≡ 2 * min 126 (h .files - 126 * (b - 1))
@@ -97,6 +98,14 @@ module _ (h : Header) (b : ℕ) where
   pub pins-held : pinsAt h ≤ b → valuesIn h b ≡ min 253 (h .pins - 253 * (b - pinsAt h))
   pins-held k = in-pins _ _ _ _ k
 
+-- a header has six values, or seven
+pub six-or-seven : (k : ℕ) → (6 ≤ headerValues k) × (headerValues k ≤ 7)
+six-or-seven k = go (eqb k 1)
+  where
+    go : (b : Bool) → (6 ≤ cond b 6 7) × (cond b 6 7 ≤ 7)
+    go true = (omega arith, omega arith)
+    go false = (omega arith, omega arith)
+
 -- ---- the blocks of a job
 
 module _ (job : Job) where
@@ -104,7 +113,7 @@ module _ (job : Job) where
   head = headerFor job
 
   -- which values they are
-  pub figure-at : (v : ℕ) → jobValue job 0 v ≡ getD (sixFigures head) v 0
+  pub figure-at : (v : ℕ) → jobValue job 0 v ≡ getD (headerFigures head) v 0
   unfolding jobValue
   figure-at v = refl
 
@@ -144,8 +153,30 @@ module _ (job : Job) where
 
   -- ---- read back, value by value
 
-  stored-figure : (v : ℕ) → v < 6 → value (blocksOf job) 0 v ≡ getD (sixFigures head) v 0
+  stored-figure : (v : ℕ) → v < headerValues (job .k) → value (blocksOf job) 0 v ≡ getD (headerFigures head) v 0
   stored-figure v h = stored-value 0 v (omega arith) h ∙ figure-at v
+
+  stored-six : (v : ℕ) → v < 6 → value (blocksOf job) 0 v ≡ getD (headerFigures head) v 0
+  stored-six v h = stored-figure v (omega (arith, six-or-seven (job .k) .0))
+
+  -- the count of values of block 0
+  stored-count : getD (blockAt (blocksOf job) 0) 3 0 ≡ headerValues (job .k)
+  unfolding jobBlock
+  stored-count =
+      ap (λ (block : List ℕ). getD block 3 0) (block-at 0 (omega arith))
+      ∙ laid-out (blockOf 0 1 (jobValues job 0)) 0 1 (length (jobValues job 0)) (block-laid 0 1 (jobValues job 0) (values-few 0) (λ e. absurd (omega (arith, e)))) .count
+      ∙ length-tabled (jobValue job 0) (headerValues (job .k))
+
+  -- k, which is 1 where it is left out
+  stored-k : cond (eqb (getD (blockAt (blocksOf job) 0) 3 0) 7) (value (blocksOf job) 0 6) 1 ≡ job .k
+  stored-k = elim (ℕ-discrete (job .k) 1) [
+    | yes e ↦
+        let six : headerValues (job .k) ≡ 6 = rw (eq-eqb (job .k) 1 e) refl in
+        rw (stored-count ∙ six) (sym e)
+    | no n ↦
+        let seven : headerValues (job .k) ≡ 7 = rw (ne-eqb (job .k) 1 n) refl in
+        rw (stored-count ∙ seven) (stored-figure 6 (omega arith))
+  ]
 
   stored-file : (i v : ℕ) → i < fileCount job → v < 2 → value (blocksOf job) (1 + i / 126) (2 * (i % 126) + v) ≡ fileValue job i v
   stored-file i v h l =
@@ -172,12 +203,13 @@ module _ (job : Job) where
   pub stored-header : headerOf (blocksOf job) ≡ head
   unfolding headerOf
   stored-header = λ i. record {
-    files = stored-figure 0 (omega arith) i;
-    recipes = stored-figure 1 (omega arith) i;
-    pins = stored-figure 2 (omega arith) i;
-    num = stored-figure 3 (omega arith) i;
-    den = stored-figure 4 (omega arith) i;
-    cap = stored-figure 5 (omega arith) i;
+    files = stored-six 0 (omega arith) i;
+    recipes = stored-six 1 (omega arith) i;
+    pins = stored-six 2 (omega arith) i;
+    num = stored-six 3 (omega arith) i;
+    den = stored-six 4 (omega arith) i;
+    cap = stored-six 5 (omega arith) i;
+    k = stored-k i;
   }
 
 -- ---- a job that passes 1 to 6 is read back
@@ -199,6 +231,7 @@ module _ (most : Limits) (job : Job) (s : Sound most job) where
         num = h .num;
         den = h .den;
         cap = h .cap;
+        k = h .k;
       }
 
   stored-size : (i : ℕ) → i < fileCount job → value (blocksOf job) (1 + i / 126) (2 * (i % 126)) ≡ sizeOf job i
@@ -221,11 +254,12 @@ module _ (most : Limits) (job : Job) (s : Sound most job) where
     num = job .num;
     den = job .den;
     cap = job .cap;
+    k = job .k;
   })
 
   -- ---- its blocks pass
 
-  -- a file's second value is not over 3
+  -- a file's second value is not over 5
   seconds-small : (b f : ℕ) → kindOf (headerFor job) b ≡ 2 → 2 * f < length (jobValues job b) → getD (jobValues job b) (2 * f + 1) 0 ≤ 5
   seconds-small b f k l =
       let h : Header = headerFor job in
@@ -256,15 +290,21 @@ module _ (most : Limits) (job : Job) (s : Sound most job) where
 
 -- ---- reading them
 
-module _ (most : Limits) (job : Job) (ok : check1to6 most job true .number ≡ 0) where
+module _ (most : Limits) (job : Job) (ok : checkWritten most job true .number ≡ 0) where
+  abbrev six : check1to6 most job true .number ≡ 0
+  six = passes-both (check1to6 most job true) (refuseIf (badK (job .k)) 7 0) ok .0
+
   abbrev fine : Sound most job
-  fine = sound most job true ok
+  fine = sound most job true six
+
+  wide : badK (job .k) ≡ false
+  wide = fine-k (job .k) (good-k (job .k) 6 (passes-both (check1to6 most job true) (refuseIf (badK (job .k)) 7 0) ok .1))
 
   -- 1, 2 and 4 to 6, of the header's figures and of the job
   parts-pass : (check1Of (fileCount job) (recipeCount job) .number ≡ 0) × (check2Of most (fileCount job) (recipeCount job) (pinCount job) .number ≡ 0) × (check4to6 job .number ≡ 0)
   unfolding check1to6 check1 check2
   parts-pass =
-      let a = passes-both (check1 job) (check2 most job orElse check3 job true orElse check4to6 job) ok in
+      let a = passes-both (check1 job) (check2 most job orElse check3 job true orElse check4to6 job) six in
       let b = passes-both (check2 most job) (check3 job true orElse check4to6 job) (a .1) in
       (a .0, b .0, passes-both (check3 job true) (check4to6 job) (b .1) .1)
 
@@ -288,7 +328,7 @@ module _ (most : Limits) (job : Job) (ok : check1to6 most job true .number ≡ 0
   layout-is room =
       let enough : ltb (length (blocksOf job)) 512 ≡ false = le-ltb (length (blocksOf job)) 512 (omega (arith, blocks-length job)) in
       rw (stored-header job)
-      (sym (refuse-go 20 0 enough (chain-go refl (block-passes most job fine 0 (omega arith)) (chain-go refl (parts-pass .0) (chain-go refl (parts-pass .1) refl)))))
+      (sym (refuse-go 20 0 enough (chain-go refl (block-passes most job fine 0 (omega arith)) (refuse-go 22 0 wide (chain-go refl (parts-pass .0) (chain-go refl (parts-pass .1) refl))))))
 
   blocks-verdict : (room : Room) → readVerdict most (blocksOf job) room ≡ refuseIf (not (roomy (headerFor job) room)) 3 0
   unfolding readVerdict
@@ -320,14 +360,15 @@ module _ (most : Limits) (job : Job) (s : Sound most job) (small : TwoByte job) 
   recipes-few : recipeCount job < 65536
   recipes-few = omega (arith, twice (recipeCount job) (omega arith), s .last, pins-few)
 
-  figures-small : (v : ℕ) → v < 6 → getD (sixFigures (headerFor job)) v 0 < 65536
+  figures-small : (v : ℕ) → v < 7 → getD (headerFigures (headerFor job)) v 0 < 65536
   figures-small zero h = few
   figures-small (suc zero) h = recipes-few
   figures-small (suc (suc zero)) h = pins-few
   figures-small (suc (suc (suc zero))) h = small .num
   figures-small (suc (suc (suc (suc zero)))) h = small .den
   figures-small (suc (suc (suc (suc (suc zero))))) h = small .cap
-  figures-small (suc (suc (suc (suc (suc (suc v)))))) h = absurd (omega arith)
+  figures-small (suc (suc (suc (suc (suc (suc zero)))))) h = small .k
+  figures-small (suc (suc (suc (suc (suc (suc (suc v))))))) h = absurd (omega arith)
 
   file-small : (f v : ℕ) → fileValue job f v < 65536
   file-small f v = go (eqb v 0)
@@ -340,7 +381,7 @@ module _ (most : Limits) (job : Job) (s : Sound most job) (small : TwoByte job) 
   job-value-small b v l =
       let h : Header = headerFor job in
       by-kinds h b
-      (λ e. rw (e, figure-at job v) (figures-small v (rw e at l)))
+      (λ e. rw (e, figure-at job v) (figures-small v (omega (arith, six-or-seven (job .k) .1, rw e at l))))
       (λ some m. rw (file-at job b v some m) (file-small (126 * (b - 1) + v / 2) (v % 2)))
       (λ m r. rw (bound-at job b v m r) (below-any 65536 (job .bounds) (omega arith) (small .bounds) (253 * (b - boundsAt h) + v)))
       (λ m. rw (pin-at job b v m) (below-any 65536 (job .pins) (omega arith) (small .pins) (253 * (b - pinsAt h) + v)))
@@ -360,9 +401,9 @@ module _ (most : Limits) (job : Job) (s : Sound most job) (small : TwoByte job) 
       bytes-of : (b : ℕ) → b < 65536 → allBelow 65536 (jobValues job b) → allBelow 256 (jobBlock job b)
       bytes-of b n p = unfold jobBlock in block-below b (kindOf (headerFor job) b) (jobValues job b) (values-few job b) n (kind-small (headerFor job) b) p
 
-pub blocks-hold : (most : Limits) (job : Job) → check1to6 most job true .number ≡ 0 → BlocksHold most job
+pub blocks-hold : (most : Limits) (job : Job) → checkWritten most job true .number ≡ 0 → BlocksHold most job
 blocks-hold most job ok =
-    let s : Sound most job = sound most job true ok in
+    let s : Sound most job = fine most job ok in
     record {
       long = blocks-length job;
       bytes = job-blocks-bytes most job s;
@@ -384,10 +425,11 @@ read-header bytes =
       num = own .0 t;
       den = own .1 t;
       cap = own .2 t;
+      k = own .3 t;
     }
   where
-    own : (jobOf bytes .num ≡ headerOf bytes .num) × (jobOf bytes .den ≡ headerOf bytes .den) × (jobOf bytes .cap ≡ headerOf bytes .cap)
-    own = unfold jobOf in (refl, refl, refl)
+    own : (jobOf bytes .num ≡ headerOf bytes .num) × (jobOf bytes .den ≡ headerOf bytes .den) × (jobOf bytes .cap ≡ headerOf bytes .cap) × (jobOf bytes .k ≡ headerOf bytes .k)
+    own = unfold jobOf in (refl, refl, refl, refl)
 
 -- C is two bytes
 pub read-few : (bytes : List ℕ) → allBelow 256 bytes → fileCount (jobOf bytes) < 65536
@@ -403,7 +445,8 @@ module _ (most : Limits) (bytes : List ℕ) (room : Room) (ok : readVerdict most
       let a = passes-both (layoutVerdict most bytes room) (check4to6 (jobOf bytes)) ok in
       let b = passes-both (refuseIf (ltb (length bytes) 512) 20 0) _ (a .0) in
       let c = passes-both (blockVerdict h bytes 0) _ (b .1) in
-      let d = passes-both (check1Of (h .files) (h .recipes)) _ (c .1) in
+      let w = passes-both (refuseIf (badK (h .k)) 22 0) _ (c .1) in
+      let d = passes-both (check1Of (h .files) (h .recipes)) _ (w .1) in
       let e = passes-both (check2Of most (h .files) (h .recipes) (h .pins)) _ (d .1) in
       let f = passes-both (refuseIf (not (roomy h room)) 3 0) _ (e .1) in
       let g = passes-both (refuseIf (not (eqb (length bytes) (512 * blockCount h))) 20 0) (blocksVerdict h bytes 1 (blockCount h - 1)) (f .1) in (
@@ -438,7 +481,16 @@ module _ (most : Limits) (bytes : List ℕ) (room : Room) (ok : readVerdict most
     unfolding jobOf
     pin-read l = getD-tabled _ (headerOf bytes .pins) i 0 l
 
-  figures-read : (v : ℕ) → v < 6 → getD (sixFigures (headerOf bytes)) v 0 ≡ value bytes 0 v
+  -- a seventh value is k
+  k-read : 6 < headerValues (headerOf bytes .k) → headerOf bytes .k ≡ value bytes 0 6
+  unfolding headerOf
+  k-read h = go (eqb (getD (blockAt bytes 0) 3 0) 7) h
+    where
+      go : (b : Bool) → 6 < cond (eqb (cond b (value bytes 0 6) 1) 1) 6 7 → cond b (value bytes 0 6) 1 ≡ value bytes 0 6
+      go true l = refl
+      go false l = absurd (omega arith)
+
+  figures-read : (v : ℕ) → v < headerValues (headerOf bytes .k) → getD (headerFigures (headerOf bytes)) v 0 ≡ value bytes 0 v
   unfolding headerOf
   figures-read zero h = refl
   figures-read (suc zero) h = refl
@@ -446,7 +498,8 @@ module _ (most : Limits) (bytes : List ℕ) (room : Room) (ok : readVerdict most
   figures-read (suc (suc (suc zero))) h = refl
   figures-read (suc (suc (suc (suc zero)))) h = refl
   figures-read (suc (suc (suc (suc (suc zero))))) h = refl
-  figures-read (suc (suc (suc (suc (suc (suc v)))))) h = absurd (omega arith)
+  figures-read (suc (suc (suc (suc (suc (suc zero)))))) h = k-read h
+  figures-read (suc (suc (suc (suc (suc (suc (suc v))))))) h = absurd (omega (arith, six-or-seven (headerOf bytes .k) .1))
 
   file-read : (b v f : ℕ) → f < headerOf bytes .files → 1 + f / 126 ≡ b → 2 * (f % 126) + v % 2 ≡ v → fileValue (jobOf bytes) f (v % 2) ≡ value bytes b v
   file-read b v f l p q = elim (ℕ-discrete (v % 2) 0) [
@@ -465,7 +518,7 @@ module _ (most : Limits) (bytes : List ℕ) (room : Room) (ok : readVerdict most
       let n : h .recipes ≡ headerOf bytes .recipes = read-recipes bytes in
       let p : h .pins ≡ headerOf bytes .pins = read-pins bytes in
       by-kinds h b
-      (λ e. rw (e, figure-at job v) (ap (λ (k : Header). getD (sixFigures k) v 0) (read-header bytes) ∙ figures-read v (rw e at l)))
+      (λ e. rw (e, figure-at job v) (ap (λ (k : Header). getD (headerFigures k) v 0) (read-header bytes) ∙ figures-read v (omega (arith, ap (λ (k : Header). headerValues (k .k)) (read-header bytes), rw e at l))))
       (λ some m.
       let held = files-held h b some m in
       file-at job b v some m ∙ file-read b v (126 * (b - 1) + v / 2) (omega arith) (omega arith) (omega arith))
@@ -517,7 +570,7 @@ back-holds most bytes room small = record {
   one = λ others lent fine ok accepted e. sym (read-back most bytes room ok small) ∙ ap blocksOf e ∙ read-back most others lent accepted fine;
   only = λ ok. (
     jobOf bytes,
-    read-passes most bytes room ok,
+    read-writes most bytes room ok,
     read-holds most bytes room .small small,
     read-few bytes small,
     ap (λ (h : Header). roomy h room) (read-header bytes) ∙ read-holds most bytes room .enough ok,

@@ -10,11 +10,11 @@ use native.Mathlib.Omega.{arith}
 use lib.Dec.{eqb, leb, ltb}
 use lib.ListN.{length, getD, take, drop, length-take, length-drop, length-map, List·getD-eq-default}
 use lib.Seq.{getD-take, getD-drop}
-use borrow.Author.Tests.{ltb-false, leb-false, eqb-true, eqb-false, lt-ltb, le-leb}
+use borrow.Author.Tests.{ltb-false, leb-false, eqb-true, eqb-false, ne-eqb, lt-ltb, le-ltb, le-leb}
 use Rattle.rules.specs.Lists.{total, count, upTo, lowest, someBelow}
 use Rattle.rules.specs.Job.{Job, Limits, fileCount, recipeCount, pinCount, bound, pin, view, views, readIn, recipes}
 use Rattle.rules.specs.Split.{sizeOf, times}
-use Rattle.rules.specs.Check.{refuseIf, refuseAt, _orElse_, short, repeatsIn, badPin, badFile, check1Of, check2Of, check1, check2, check3, check4, check5, check6, check7, check4to6, check1to6}
+use Rattle.rules.specs.Check.{refuseIf, refuseAt, _orElse_, short, repeatsIn, badPin, badFile, badRatio, badK, check1Of, check2Of, check1, check2, check3, check4, check5, check6, check7, check4to6, check1to6}
 use Rattle.rules.specs.Theorems.{Distinct, Sound}
 use Rattle.rules.proofs.Count.{total-map, total-upTo, getD-mapped, getD-tabled, length-tabled, times-once}
 use Rattle.rules.proofs.Tests.{or-no, and-yes, and-no, not-no}
@@ -111,15 +111,26 @@ module _ (job : Job) where
       let z : sizeOf job f ≢ 0 = eqb-false (sizeOf job f) 0 (q .0) in
       (omega arith, ltb-false 1 (getD (job .sides) f 0) (q .1), ltb-false 2 (getD (job .marks) f 0) (r .1))
 
+-- k, of 7 and of a header
+pub good-k : (k n : ℕ) → refuseIf (badK k) (suc n) 0 .number ≡ 0 → (1 ≤ k) × (k ≤ 4)
+good-k k n h =
+    let q = or-no (eqb k 0) (ltb 4 k) (not-refused (badK k) n 0 h) in
+    let z : k ≢ 0 = eqb-false k 0 (q .0) in
+    (omega arith, ltb-false 4 k (q .1))
+
+pub fine-k : (k : ℕ) → (1 ≤ k) × (k ≤ 4) → badK k ≡ false
+fine-k k w = rw (ne-eqb k 0 (λ e. omega (arith, w .0)), le-ltb 4 k (w .1)) refl
+
 -- 7, which no sound job need pass
-pub ok7 : (most : Limits) (job : Job) → check7 most job .number ≡ 0 → (1 ≤ job .num) × (job .num < job .den) × (job .den ≤ most .den)
+pub ok7 : (most : Limits) (job : Job) → check7 most job .number ≡ 0
+    → ((1 ≤ job .num) × (job .num < job .den) × (job .den ≤ most .den)) × ((1 ≤ job .k) × (job .k ≤ 4))
 unfolding check7
 ok7 most job h =
-    let bad = eqb (job .num) 0 || leb (job .den) (job .num) || ltb (most .den) (job .den) in
-    let r = or-no (eqb (job .num) 0 || leb (job .den) (job .num)) (ltb (most .den) (job .den)) (not-refused bad 6 0 h) in
+    let both = passes-both (refuseIf (badRatio most job) 7 0) (refuseIf (badK (job .k)) 7 0) h in
+    let r = or-no (eqb (job .num) 0 || leb (job .den) (job .num)) (ltb (most .den) (job .den)) (not-refused (badRatio most job) 6 0 (both .0)) in
     let q = or-no (eqb (job .num) 0) (leb (job .den) (job .num)) (r .0) in
     let z : job .num ≢ 0 = eqb-false (job .num) 0 (q .0) in
-    (omega arith, leb-false (job .den) (job .num) (q .1), ltb-false (most .den) (job .den) (r .1))
+    ((omega arith, leb-false (job .den) (job .num) (q .1), ltb-false (most .den) (job .den) (r .1)), good-k (job .k) 6 (both .1))
 
 -- a job for which the check gives none of 1 to 6
 pub sound : (most : Limits) (job : Job) (lent : Bool) → check1to6 most job lent .number ≡ 0 → Sound most job

@@ -12,13 +12,13 @@ use borrow.Author.Tests.{eqb-true, eq-eqb, ne-eqb}
 use Rattle.rules.specs.declared.Verdict.{Verdict}
 use Rattle.rules.specs.Lists.{lowest, someBelow}
 use Rattle.rules.specs.Job.{Job, Limits, fileCount, recipeCount, pinCount, bound}
-use Rattle.rules.specs.Check.{refuseIf, refuseAt, _orElse_, check1, check2, check3, short, check4, badPin, check5, badFile, check6, check4to6, check1to6}
+use Rattle.rules.specs.Check.{refuseIf, refuseAt, _orElse_, badK, check1, check2, check3, short, check4, badPin, check5, badFile, check6, check4to6, check1to6}
 use Rattle.rules.specs.Stored.{blockCount}
 use Rattle.rules.specs.Report.{refusal}
-use Rattle.rules.specs.Writing.{headerFor, blocksOf, writingOf, writeVerdict, writing, handsOut}
+use Rattle.rules.specs.Writing.{headerFor, blocksOf, writingOf, checkWritten, writeVerdict, writing, handsOut}
 use Rattle.rules.specs.RoundTrip.{WriteHolds}
-use Rattle.rules.proofs.Verdicts.{zero-of}
-use Rattle.rules.proofs.Proved.{plain-six, lent-six}
+use Rattle.rules.proofs.Verdicts.{zero-of, passes-both, Plain, plain-if, plain-chain}
+use Rattle.rules.proofs.Proved.{lent-six}
 use Rattle.rules.proofs.RoundTrip.{blocks-length}
 
 -- a number is given only by a check
@@ -49,6 +49,13 @@ few-numbers most job lent =
     (few-or (check5 job) (check6 job) 6
     (few-if (someBelow (badPin job) (pinCount job)) 5 (lowest (badPin job) (pinCount job)) 6 (omega arith)) (few-if (someBelow (badFile job) c) 6 (lowest (badFile job) c) 6 (omega arith))))))
 
+-- 1 to 6 and then k
+plain-written : (most : Limits) (job : Job) (lent : Bool) → Plain (checkWritten most job lent)
+plain-written most job lent = plain-chain (check1to6 most job lent) (refuseIf (badK (job .k)) 7 0) (plain-if (badK (job .k)) 6 0)
+
+lent-written : (most : Limits) (job : Job) (lent : Bool) → checkWritten most job lent .number ≡ 0 → lent ≡ true
+lent-written most job lent z = lent-six most job lent (passes-both (check1to6 most job lent) (refuseIf (badK (job .k)) 7 0) z .0)
+
 pub write-holds : (most : Limits) (job : Job) (out : List ℕ) → WriteHolds most job out
 unfolding writing
 write-holds most job out =
@@ -56,14 +63,14 @@ write-holds most job out =
     let v : Verdict = writeVerdict most job out in
     record {
       refused = λ z. rw (ne-eqb (v .number) 0 z, writing) refl;
-      numbers = few-numbers most job _;
-      writes = λ z. rw (eq-eqb (v .number) 0 z, writing) (ap (λ (w : Verdict). writingOf w (blocksOf job)) (plain-six most job _ z));
-      exact = λ z. eqb-true (length out) n (lent-six most job _ z);
-      passes = λ z. ap (λ (b : Bool). check1to6 most job b .number) (sym (lent-six most job _ z)) ∙ z;
-      all = λ e. ap (check1to6 most job) (eq-eqb (length out) n e);
+      numbers = few-or (check1to6 most job _) (refuseIf (badK (job .k)) 7 0) 7 (omega (arith, few-numbers most job (eqb (length out) n))) (few-if (badK (job .k)) 7 0 7 (omega arith));
+      writes = λ z. rw (eq-eqb (v .number) 0 z, writing) (ap (λ (w : Verdict). writingOf w (blocksOf job)) (plain-written most job _ z));
+      exact = λ z. eqb-true (length out) n (lent-written most job _ z);
+      passes = λ z. ap (λ (b : Bool). checkWritten most job b .number) (sym (lent-written most job _ z)) ∙ z;
+      all = λ e. ap (checkWritten most job) (eq-eqb (length out) n e);
       carried = λ num den cap. unfold check1to6 check4to6 check1 check2 check3 check4 check5 badPin check6 in refl;
       long = elim (ℕ-discrete (v .number) 0) [
-        | yes z ↦ rw (eq-eqb (v .number) 0 z, writing) (blocks-length job ∙ sym (eqb-true (length out) n (lent-six most job _ z)))
+        | yes z ↦ rw (eq-eqb (v .number) 0 z, writing) (blocks-length job ∙ sym (eqb-true (length out) n (lent-written most job _ z)))
         | no z ↦ rw (ne-eqb (v .number) 0 z, writing) refl
       ];
     }
@@ -76,7 +83,7 @@ module _ (most : Limits) (job : Job) (out : List ℕ) {v : Verdict} (e : v ≡ w
   pub write-done : {new : List ℕ} → v .number ≡ 0 → new ≡ blocksOf job → writingOf v new ≡ writing most job out
   write-done z n =
       let w : writeVerdict most job out .number ≡ 0 = zero-of e z in
-      ap₂ (λ (x : Verdict) (l : List ℕ). writingOf x l) (e ∙ plain-six most job (eqb (length out) (512 * blockCount (headerFor job))) w) n
+      ap₂ (λ (x : Verdict) (l : List ℕ). writingOf x l) (e ∙ plain-written most job (eqb (length out) (512 * blockCount (headerFor job))) w) n
       ∙ sym (write-holds most job out .writes w)
 
   pub write-exact : v .number ≡ 0 → length out ≡ 512 * blockCount (headerFor job)

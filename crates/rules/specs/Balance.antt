@@ -10,7 +10,7 @@ use Rattle.rules.specs.declared.Verdict.{Verdict}
 use Rattle.rules.specs.declared.BalanceFigures.{BalanceFigures}
 use Rattle.rules.specs.Lists.{bit, total, listed}
 use Rattle.rules.specs.Job.{Job, Limits, fileCount, files, recipes, scratchFor}
-use Rattle.rules.specs.Split.{onSide, cut, gain, isFree, weighs, unreadFiles, unreadRecipes, weight, smax, sizeA, largeEnough, smallEnough}
+use Rattle.rules.specs.Split.{onSide, cut, gain, isFree, weighs, unreadFiles, unreadRecipes, weight, tolerance, sizeA, largeEnough, smallEnough}
 use Rattle.rules.specs.Check.{isDone, refuseIf, _orElse_, check7, check8, check1to6}
 use Rattle.rules.specs.Move.{State, start, moved, after, greater, firstBelow, movesBy}
 use Rattle.rules.specs.Stored.{jobOf, readVerdict}
@@ -20,10 +20,10 @@ use Rattle.rules.specs.Writing.{withSides, HandedOut, handsOut}
 -- ---- the two halves of the balance test: a split is balanced if A is neither
 
 unfoldable pub tooLarge : Job → ℕ → Bool
-tooLarge job a = not (smallEnough (job .num) (job .den) (weight job) (smax job) a)
+tooLarge job a = not (smallEnough (job .num) (job .den) (weight job) (tolerance job) a)
 
 unfoldable pub tooSmall : Job → ℕ → Bool
-tooSmall job a = not (largeEnough (job .num) (job .den) (weight job) (smax job) a)
+tooSmall job a = not (largeEnough (job .num) (job .den) (weight job) (tolerance job) a)
 
 -- ---- the choice
 

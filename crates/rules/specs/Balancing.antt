@@ -31,7 +31,7 @@ pub record Halves (job : Job) (a : ℕ) : Type 0 where
   pub even : balanced job a ≡ true → heavy job a ≡ none
   pub uneven : heavy job a ≡ none → balanced job a ≡ true
 
--- ---- the moves (Balancing `balance-holds`, of a sound job)
+-- ---- the moves (Balancing `balance-holds`, of a sound job, at every k over 0)
 
 -- the sides after the first k moves
 abbrev pub balancedTo : Job → ℕ → List ℕ

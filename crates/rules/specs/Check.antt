@@ -99,13 +99,16 @@ badFile job f = eqb (sizeOf job f) 0 || ltb 1 (getD (job .sides) f 0) || ltb 2 (
 unfoldable pub check6 : Job → Verdict
 check6 job = refuseAt 6 (badFile job) (fileCount job)
 
--- ---- 7: num 0, num not below den, or den over its most
+-- ---- 7: num 0, num not below den, or den over its most; then k not 1 to 4 (document 02, order 6)
 
 abbrev pub badRatio : Limits → Job → Bool
 badRatio most job = eqb (job .num) 0 || leb (job .den) (job .num) || ltb (most .den) (job .den)
 
+abbrev pub badK : ℕ → Bool
+badK k = eqb k 0 || ltb 4 k
+
 unfoldable pub check7 : Limits → Job → Verdict
-check7 most job = refuseIf (badRatio most job) 7 0
+check7 most job = refuseIf (badRatio most job) 7 0 orElse refuseIf (badK (job .k)) 7 0
 
 -- ---- 8: no file is free
 

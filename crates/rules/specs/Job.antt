@@ -7,7 +7,8 @@ use lib.Dec.{leb, ltb, eqb}
 use lib.IntN.{ℤ}
 use Rattle.rules.specs.Lists.{those, upTo, allBelow}
 
--- a side is 0 (A) or 1 (B), a mark 0 (free), 1 (pinned) or 2 (unread: document 02, order 5); the ratio is num/den for A; cap 0 is none
+-- a side is 0 (A) or 1 (B), a mark 0 (free), 1 (pinned) or 2 (unread: document 02, order 5); the ratio is num/den for A; cap 0 is none; the
+-- tolerance is k times smax (order 6)
 pub record Job : Type 0 where
   pub sizes : List ℕ
   pub sides : List ℕ
@@ -17,10 +18,11 @@ pub record Job : Type 0 where
   pub num : ℕ
   pub den : ℕ
   pub cap : ℕ
+  pub k : ℕ
 
 -- a job of the lists and numbers of a call, for contracts
-abbrev pub asJob : List ℕ → List ℕ → List ℕ → List ℕ → List ℕ → ℕ → ℕ → ℕ → Job
-asJob sizes sides marks bounds pins num den cap = record {
+abbrev pub asJob : List ℕ → List ℕ → List ℕ → List ℕ → List ℕ → ℕ → ℕ → ℕ → ℕ → Job
+asJob sizes sides marks bounds pins num den cap k = record {
   sizes = sizes;
   sides = sides;
   marks = marks;
@@ -29,6 +31,7 @@ asJob sizes sides marks bounds pins num den cap = record {
   num = num;
   den = den;
   cap = cap;
+  k = k;
 }
 
 -- the most files, recipes and pins, and the most that den may be: the kind of job hands them over
@@ -69,6 +72,7 @@ pub record TwoByte (job : Job) : Type 0 where
   pub num : job .num < 65536
   pub den : job .den < 65536
   pub cap : job .cap < 65536
+  pub k : job .k < 65536
 
 -- ---- the view
 

@@ -16,3 +16,4 @@ pub mod Marked
 pub mod Theorems
 pub mod RoundTrip
 pub mod Balancing
+pub mod Wider

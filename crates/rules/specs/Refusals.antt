@@ -7,7 +7,7 @@ use Rattle.rules.specs.declared.Verdict.{Verdict}
 use Rattle.rules.specs.declared.Header.{Header}
 use Rattle.rules.specs.Lists.{lowest, someBelow}
 use Rattle.rules.specs.Job.{Job, Limits, fileCount, recipeCount, pinCount}
-use Rattle.rules.specs.Check.{empty, overMost, wrongLength, startsLate, short, endsWrong, badPin, badFile, badRatio, noneFree, badStart}
+use Rattle.rules.specs.Check.{empty, overMost, wrongLength, startsLate, short, endsWrong, badPin, badFile, badRatio, badK, noneFree, badStart}
 use Rattle.rules.specs.Stored.{blockAt, headerOf, blockCount, badCheck, badLayout, underOne, wrongTotal, jobOf, Room, roomy}
 
 pub record Row : Type 0 where
@@ -47,9 +47,9 @@ rows4to6 job =
     ∷ rowAt 6 (badFile job) (fileCount job)
     ∷ []
 
--- num 0, num not below den, or den over its most; no file is free
+-- num 0, num not below den, or den over its most; k not 1 to 4; no file is free
 abbrev pub rows7and8 : Limits → Job → List Row
-rows7and8 most job = row 7 (badRatio most job) 0 ∷ row 8 (noneFree job) 0 ∷ []
+rows7and8 most job = row 7 (badRatio most job) 0 ∷ row 7 (badK (job .k)) 0 ∷ row 8 (noneFree job) 0 ∷ []
 
 -- the start is not balanced
 abbrev pub rows7to9 : Limits → Job → List Row
@@ -76,12 +76,12 @@ unfoldable pub furtherRows : Header → List ℕ → ℕ → ℕ → List Row
 furtherRows h bytes b zero = []
 furtherRows h bytes b (suc n) = blockRows h bytes b ++ furtherRows h bytes (suc b) n
 
--- under 512 bytes; block 0; 1 and 2 from the header; a lent list too short; total length not as the header makes it; each further block
+-- under 512 bytes; block 0, and its k; 1 and 2 from the header; a lent list too short; total length not as the header makes it; each further block
 abbrev pub layoutRows : Limits → List ℕ → Room → List Row
 layoutRows most bytes room =
     let h = headerOf bytes in
     (row 20 (underOne bytes) 0 ∷ blockRows h bytes 0)
-    ++ (rows1and2 most (h .files) (h .recipes) (h .pins)
+    ++ (row 22 (badK (h .k)) 0 ∷ rows1and2 most (h .files) (h .recipes) (h .pins)
     ++ (row 3 (not (roomy h room)) 0 ∷ row 20 (wrongTotal h bytes) 0 ∷ furtherRows h bytes 1 (blockCount h - 1)))
 
 -- then 4 to 6

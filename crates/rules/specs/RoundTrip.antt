@@ -14,9 +14,9 @@ use Rattle.rules.specs.Split.{sizeA}
 use Rattle.rules.specs.Pass.{Pass, pass}
 use Rattle.rules.specs.Run.{settles, run, lastOf, runFiguresOf}
 use Rattle.rules.specs.Report.{refusal, report, allRoom, prints}
-use Rattle.rules.specs.Writing.{headerFor, blocksOf, writingOf, writeVerdict, writing, withSides, resettles}
+use Rattle.rules.specs.Writing.{headerFor, blocksOf, writingOf, checkWritten, writeVerdict, writing, withSides, resettles}
 
--- ---- reading what was written gives the same job (RoundTrip `blocks-hold`, of a job that passes 1 to 6)
+-- ---- reading what was written gives the same job (RoundTrip `blocks-hold`, of a job that passes 1 to 6 and has a good k)
 
 pub record BlocksHold (most : Limits) (job : Job) : Type 0 where
   -- as long as the header makes them; each byte is one, where every number of the job is a two-byte number, C among them
@@ -25,7 +25,7 @@ pub record BlocksHold (most : Limits) (job : Job) : Type 0 where
   -- the header and the job that are stored
   pub header : headerOf (blocksOf job) ≡ headerFor job
   pub same : jobOf (blocksOf job) ≡ job
-  -- reading refuses them only for want of room, as 3; else it answers the six figures and writes the job's entries
+  -- reading refuses them only for want of room, as 3; else it answers the figures and writes the job's entries
   pub verdict : (room : Room) → readVerdict most (blocksOf job) room ≡ refuseIf (not (roomy (headerFor job) room)) 3 0
   pub reads : (room : Room) → roomy (headerFor job) room ≡ true
       → reading most (blocksOf job) room ≡ record { answer = record { verdict = done; header = headerFor job }; room = written job room }
@@ -40,24 +40,24 @@ pub record BackHolds (most : Limits) (bytes : List ℕ) (room : Room) : Type 0 w
       → jobOf bytes ≡ jobOf others → bytes ≡ others
   -- and the reader lets through exactly what the writer writes, where it has room for it
   pub only : readVerdict most bytes room .number ≡ 0
-      → (job : Job) × (check1to6 most job true .number ≡ 0) × TwoByte job × (fileCount job < 65536) × (roomy (headerFor job) room ≡ true) × (bytes ≡ blocksOf job)
-  pub each : (job : Job) → check1to6 most job true .number ≡ 0 → roomy (headerFor job) room ≡ true → bytes ≡ blocksOf job → readVerdict most bytes room ≡ done
+      → (job : Job) × (checkWritten most job true .number ≡ 0) × TwoByte job × (fileCount job < 65536) × (roomy (headerFor job) room ≡ true) × (bytes ≡ blocksOf job)
+  pub each : (job : Job) → checkWritten most job true .number ≡ 0 → roomy (headerFor job) room ≡ true → bytes ≡ blocksOf job → readVerdict most bytes room ≡ done
 
 -- ---- the call that writes (Writes `write-holds`, of any input)
 
 pub record WriteHolds (most : Limits) (job : Job) (out : List ℕ) : Type 0 where
-  -- refused, with one of 1 to 6, no byte of the output list changes
+  -- refused, with one of 1 to 7, no byte of the output list changes
   pub refused : writeVerdict most job out .number ≢ 0 → writing most job out ≡ writingOf (writeVerdict most job out) out
-  pub numbers : writeVerdict most job out .number ≤ 6
+  pub numbers : writeVerdict most job out .number ≤ 7
   -- else it answers done, and the list is exactly the blocks
   pub writes : writeVerdict most job out .number ≡ 0 → writing most job out ≡ writingOf done (blocksOf job)
-  -- which it is long enough for, of a job that passes 1 to 6
+  -- which it is long enough for, of a job that passes 1 to 6 and has a good k
   pub exact : writeVerdict most job out .number ≡ 0 → length out ≡ 512 * blockCount (headerFor job)
-  pub passes : writeVerdict most job out .number ≡ 0 → check1to6 most job true .number ≡ 0
+  pub passes : writeVerdict most job out .number ≡ 0 → checkWritten most job true .number ≡ 0
   -- and every such job is written to such a list, whatever its ratio and its cap
-  pub all : length out ≡ 512 * blockCount (headerFor job) → writeVerdict most job out ≡ check1to6 most job true
+  pub all : length out ≡ 512 * blockCount (headerFor job) → writeVerdict most job out ≡ checkWritten most job true
   pub carried : (num den cap : ℕ)
-      → writeVerdict most (asJob (job .sizes) (job .sides) (job .marks) (job .bounds) (job .pins) num den cap) out ≡ writeVerdict most job out
+      → writeVerdict most (asJob (job .sizes) (job .sides) (job .marks) (job .bounds) (job .pins) num den cap (job .k)) out ≡ writeVerdict most job out
   -- the list's length never changes
   pub long : length (writing most job out .out) ≡ length out
 

@@ -96,11 +96,15 @@ sizeOn job u sides = total (λ f. bit (onSide sides u f) * weighs job f) (files 
 abbrev pub sizeA : Job → List ℕ → ℕ
 sizeA job sides = sizeOn job 0 sides
 
--- den·|A| + den·smax is at least num·W
+-- the tolerance: k times smax (order 6)
+abbrev pub tolerance : Job → ℕ
+tolerance job = job .k * smax job
+
+-- den·|A| + den·m is at least num·W, where m is the tolerance
 abbrev pub largeEnough : ℕ → ℕ → ℕ → ℕ → ℕ → Bool
 largeEnough num den w m a = leb (num * w) (den * a + den * m)
 
--- den·|A| is at most num·W + den·smax
+-- den·|A| is at most num·W + den·m
 abbrev pub smallEnough : ℕ → ℕ → ℕ → ℕ → ℕ → Bool
 smallEnough num den w m a = leb (den * a) (num * w + den * m)
 
@@ -110,4 +114,4 @@ inWindow num den w m a = largeEnough num den w m a && smallEnough num den w m a
 
 -- |A| of a is balanced
 unfoldable pub balanced : Job → ℕ → Bool
-balanced job a = inWindow (job .num) (job .den) (weight job) (smax job) a
+balanced job a = inWindow (job .num) (job .den) (weight job) (tolerance job) a

@@ -9,7 +9,7 @@ use Rattle.rules.specs.declared.Header.{Header}
 use Rattle.rules.specs.declared.ReadFigures.{ReadFigures}
 use Rattle.rules.specs.Lists.{upTo, someBelow, onto}
 use Rattle.rules.specs.Job.{Job, Limits}
-use Rattle.rules.specs.Check.{done, isDone, refuseIf, _orElse_, check1Of, check2Of, check4to6}
+use Rattle.rules.specs.Check.{done, isDone, refuseIf, _orElse_, badK, check1Of, check2Of, check4to6}
 
 -- ---- the check of a block
 
@@ -39,7 +39,7 @@ valueIn block v = word block (4 + 2 * v)
 abbrev pub value : List ℕ → ℕ → ℕ → ℕ
 value bytes b v = valueIn (blockAt bytes b) v
 
--- six values: C, N, P, num, den, cap
+-- six values: C, N, P, num, den, cap; a seventh is k, and six values mean k = 1 (document 02, order 6)
 unfoldable pub headerOf : List ℕ → Header
 headerOf bytes = record {
   files = value bytes 0 0;
@@ -48,6 +48,7 @@ headerOf bytes = record {
   num = value bytes 0 3;
   den = value bytes 0 4;
   cap = value bytes 0 5;
+  k = cond (eqb (getD (blockAt bytes 0) 3 0) 7) (value bytes 0 6) 1;
 }
 
 -- ---- which blocks there are: kinds in order; only the last block of a kind may be short, and a kind with no values has none
@@ -74,10 +75,14 @@ kindOf h b = cond (eqb b 0) 1 (cond (ltb b (boundsAt h)) 2 (cond (ltb b (pinsAt 
 abbrev pub heldIn : ℕ → ℕ → ℕ → ℕ
 heldIn m x k = min m (x - m * k)
 
+-- the header has six values where k is 1, and seven else
+abbrev pub headerValues : ℕ → ℕ
+headerValues k = cond (eqb k 1) 6 7
+
 -- the count of values that block b must have: a file has two
 abbrev pub valuesIn : Header → ℕ → ℕ
 valuesIn h b =
-    cond (eqb b 0) 6
+    cond (eqb b 0) (headerValues (h .k))
     (cond (ltb b (boundsAt h)) (2 * heldIn 126 (h .files) (b - 1))
     (cond (ltb b (pinsAt h)) (heldIn 253 (h .recipes + 1) (b - boundsAt h))
     (heldIn 253 (h .pins) (b - pinsAt h))))
@@ -131,6 +136,7 @@ jobOf bytes =
       num = h .num;
       den = h .den;
       cap = h .cap;
+      k = h .k;
     }
 
 -- ---- reading
@@ -156,13 +162,14 @@ underOne bytes = ltb (length bytes) 512
 abbrev pub wrongTotal : Header → List ℕ → Bool
 wrongTotal h bytes = not (eqb (length bytes) (512 * blockCount h))
 
--- under 512 bytes 20; block 0 check 21, layout 22; 1 and 2 from the header; 3 for a lent list too short;
+-- under 512 bytes 20; block 0 check 21, layout 22, a seventh value that is no k 22; 1 and 2 from the header; 3 for a lent list too short;
 -- total length not as the header makes it 20; each further block, 21 then 22
 unfoldable pub layoutVerdict : Limits → List ℕ → Room → Verdict
 layoutVerdict most bytes room =
     let h = headerOf bytes in
     refuseIf (underOne bytes) 20 0
     orElse blockVerdict h bytes 0
+    orElse refuseIf (badK (h .k)) 22 0
     orElse check1Of (h .files) (h .recipes)
     orElse check2Of most (h .files) (h .recipes) (h .pins)
     orElse refuseIf (not (roomy h room)) 3 0
@@ -188,7 +195,7 @@ written job room = record {
 }
 
 abbrev pub noHeader : Header
-noHeader = record { files = 0; recipes = 0; pins = 0; num = 0; den = 0; cap = 0 }
+noHeader = record { files = 0; recipes = 0; pins = 0; num = 0; den = 0; cap = 0; k = 0 }
 
 unfoldable pub reading : Limits → List ℕ → Room → Reading
 reading most bytes room =

@@ -56,6 +56,7 @@ pub record Accepted (most : Limits) (job : Job) : Type 0 where
   pub sound : Sound most job
   pub distinct : Distinct (recipes job)
   pub ratio : (1 ≤ job .num) × (job .num < job .den) × (job .den ≤ most .den)
+  pub wide : (1 ≤ job .k) × (job .k ≤ 4)
   pub free : (f : ℕ) × (f < fileCount job) × (getD (job .marks) f 0 ≡ 0)
   pub balanced : balanced job (sizeA job (job .sides)) ≡ true
 
@@ -282,7 +283,7 @@ pub record ReadHolds (most : Limits) (bytes : List ℕ) (room : Room) : Type 0 w
   -- refused, it answers zeros and writes nothing
   pub refused : readVerdict most bytes room .number ≢ 0 →
       reading most bytes room ≡ record { answer = record { verdict = readVerdict most bytes room; header = noHeader }; room = room }
-  -- else it writes the job's entries and answers the header's six figures
+  -- else it writes the job's entries and answers the header's seven figures
   pub reads : readVerdict most bytes room .number ≡ 0 →
       reading most bytes room ≡ record { answer = record { verdict = readVerdict most bytes room; header = headerOf bytes }; room = written (jobOf bytes) room }
   -- for which there is room
@@ -294,6 +295,8 @@ pub record ReadHolds (most : Limits) (bytes : List ℕ) (room : Room) : Type 0 w
   -- a job that is read passes 1 to 6, so the run's own check adds 7 to 9
   pub sound : readVerdict most bytes room .number ≡ 0 → Sound most (jobOf bytes)
   pub adds : readVerdict most bytes room .number ≡ 0 → check most (jobOf bytes) true ≡ check7to9 most (jobOf bytes)
+  -- its k is 1 to 4
+  pub wide : readVerdict most bytes room .number ≡ 0 → (1 ≤ jobOf bytes .k) × (jobOf bytes .k ≤ 4)
   -- every number of it is a two-byte number, where each byte is one
   pub small : allBelow 256 bytes → TwoByte (jobOf bytes)
 

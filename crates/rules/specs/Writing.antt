@@ -1,7 +1,7 @@
 -- Document 02, order 1: the blocks of a job, the call that writes them, and the program `resettle`. The layout is that of specs/Stored.antt.
 -- Assumes nothing.
 use Prim.Native.Nat.{ℕ, _+_, _-_, _*_, _/_, _%_}
-use mathlib.Core.Bool.{true, false, not, cond}
+use mathlib.Core.Bool.{Bool, true, false, not, cond}
 use mathlib.Core.List.{List, [], _∷_, _++_, map}
 use lib.ListN.{length, getD}
 use lib.Dec.{leb, ltb, eqb}
@@ -11,7 +11,7 @@ use Rattle.rules.specs.declared.Handed.{Handed}
 use Rattle.rules.specs.Lists.{upTo, inTurn, padded, onto}
 use Rattle.rules.specs.Job.{Job, Limits, fileCount, recipeCount, pinCount, bound, pin}
 use Rattle.rules.specs.Split.{sizeOf}
-use Rattle.rules.specs.Check.{isDone, refuseIf, _orElse_, check1to6}
+use Rattle.rules.specs.Check.{isDone, refuseIf, _orElse_, badK, check1to6}
 use Rattle.rules.specs.Stored.{blockCheck, boundsAt, pinsAt, blockCount, kindOf, valuesIn, jobOf, readVerdict}
 use Rattle.rules.specs.Report.{refusal, allRoom, allRun}
 
@@ -36,7 +36,7 @@ blockOf b kind vs = contents b kind vs ++ twoBytes (blockCheck (contents b kind 
 
 -- ---- the blocks of a job
 
--- the ratio and the cap as they are, good or bad
+-- the ratio and the cap as they are, good or bad; k, which must be good
 abbrev pub headerFor : Job → Header
 headerFor job = record {
   files = fileCount job;
@@ -45,11 +45,12 @@ headerFor job = record {
   num = job .num;
   den = job .den;
   cap = job .cap;
+  k = job .k;
 }
 
--- six values: C, N, P, num, den, cap
-abbrev pub sixFigures : Header → List ℕ
-sixFigures h = h .files ∷ h .recipes ∷ h .pins ∷ h .num ∷ h .den ∷ h .cap ∷ []
+-- C, N, P, num, den, cap, and k, which is left out where it is 1
+abbrev pub headerFigures : Header → List ℕ
+headerFigures h = h .files ∷ h .recipes ∷ h .pins ∷ h .num ∷ h .den ∷ h .cap ∷ h .k ∷ []
 
 -- of a file's two values the first is its size, the second side + 2·mark
 abbrev pub fileValue : Job → ℕ → ℕ → ℕ
@@ -59,7 +60,7 @@ fileValue job f v = cond (eqb v 0) (sizeOf job f) (getD (job .sides) f 0 + 2 * g
 unfoldable pub jobValue : Job → ℕ → ℕ → ℕ
 jobValue job b v =
     let h = headerFor job in
-    cond (eqb b 0) (getD (sixFigures h) v 0)
+    cond (eqb b 0) (getD (headerFigures h) v 0)
     (cond (ltb b (boundsAt h)) (fileValue job (126 * (b - 1) + v / 2) (v % 2))
     (cond (ltb b (pinsAt h)) (bound job (253 * (b - boundsAt h) + v))
     (pin job (253 * (b - pinsAt h) + v))))
@@ -86,11 +87,15 @@ pub record Writing : Type 0 where
 abbrev pub writingOf : Verdict → List ℕ → Writing
 writingOf v out = record { verdict = v; out = out }
 
+-- 1 to 6, and then 7 for k alone (order 6)
+abbrev pub checkWritten : Limits → Job → Bool → Verdict
+checkWritten most job lent = check1to6 most job lent orElse refuseIf (badK (job .k)) 7 0
+
 -- an output list not exactly as long as the blocks is refused as 3
 abbrev pub writeVerdict : Limits → Job → List ℕ → Verdict
-writeVerdict most job out = check1to6 most job (eqb (length out) (512 * blockCount (headerFor job)))
+writeVerdict most job out = checkWritten most job (eqb (length out) (512 * blockCount (headerFor job)))
 
--- refused, no byte of it changes; 7 to 9 are never given
+-- refused, no byte of it changes; 7 is never given for the ratio, 8 and 9 never
 unfoldable pub writing : Limits → Job → List ℕ → Writing
 writing most job out =
     let v = writeVerdict most job out in
@@ -109,6 +114,7 @@ withSides job sides = record {
   num = job .num;
   den = job .den;
   cap = job .cap;
+  k = job .k;
 }
 
 -- the bytes for standard output, and those for standard error

@@ -37,7 +37,7 @@ pub struct RunFigures {
     pub settled: bool,
 }
 
-// The six figures of a stored job's header: C, N, P, num, den, cap.
+// The seven figures of a stored job's header: C, N, P, num, den, cap, k.
 pub struct Header {
     pub files: u16,
     pub recipes: u16,
@@ -45,6 +45,7 @@ pub struct Header {
     pub num: u16,
     pub den: u16,
     pub cap: u16,
+    pub k: u16,
 }
 
 // The answer of reading.

@@ -6,13 +6,13 @@ use Prim.Native.Nat.{ℕ, zero, suc, _*_, _≤_, _<_, _^_}
 use mathlib.Core.Bool.{Bool, false}
 use mathlib.Core.List.{List}
 use native.Mathlib.Omega.{arith}
-use native.Mathlib.Nat.{max-le}
+use native.Mathlib.Nat.{max-le, mul-le-mul}
 use lib.IntN.{ℤ}
 use Rattle.rules.specs.declared.Verdict.{Verdict}
 use Rattle.rules.specs.declared.Figures.{Figures}
 use Rattle.rules.specs.Lists.{bit, total, largest, upTo}
 use Rattle.rules.specs.Job.{Job, Limits, fileCount, files, isRead, Lent, lentOf, fits}
-use Rattle.rules.specs.Split.{sizeOf, isFree, weighs, unreadFiles, unreadRecipes, weight, smax}
+use Rattle.rules.specs.Split.{sizeOf, isFree, weighs, unreadFiles, unreadRecipes, weight, smax, tolerance}
 use Rattle.rules.specs.Check.{check1to6, check}
 use Rattle.rules.specs.Run.{endedOf, Ended, noFigures, passEnds}
 use Rattle.rules.specs.Theorems.{Sound}
@@ -23,7 +23,7 @@ use Rattle.rules.proofs.Proved.{lent-six, answers}
 use Rattle.job.specs.Survey.{checkFor}
 use Rattle.job.specs.declared.figures.Survey.{Survey}
 use Rattle.tables.specs.LayingOut.{LaysOut}
-use Rattle.tables.proofs.Accepted.{Narrow, verdict-is, survey-is, let-through}
+use Rattle.tables.proofs.Accepted.{Narrow, verdict-is, survey-is, let-through, wide-through}
 use Rattle.choice.specs.declared.window.Window.{Window}
 use Rattle.split.specs.declared.progress.Progress.{Progress}
 use Rattle.choice.specs.Choosing.{windowOf}
@@ -75,7 +75,7 @@ module _ {balancing : Bool} {most : Limits} {job : Job} {l : Lent} {g : List ℤ
         ≡ record {
           verdict = checkFor balancing most job (fits job l);
           weight = weight job;
-          largest = smax job;
+          tolerance = tolerance job;
           size = sizeAtStart job;
           cut = cutAtStart job;
           unread = unreadFiles job;
@@ -99,17 +99,21 @@ module _ {balancing : Bool} {most : Limits} {job : Job} {l : Lent} {g : List ℤ
     sound-is : Sound most job
     sound-is = sound most job (fits job l) six-done
 
+    wide-is : (1 ≤ job .k) × (job .k ≤ 4)
+    wide-is = wide-through balancing most job (fits job l) check-done
+
     weight-small : weight job < 2 ^ 32
     weight-small = omega (arith, weight-most job (a .sizes), sound-is .fewFiles, a .narrow .files)
 
-    pub sums-small : (s .weight < 2 ^ 32) × (s .largest < 2 ^ 32)
+    pub sums-small : (s .weight < 2 ^ 32) × (s .tolerance < 2 ^ 32)
     sums-small =
-        (omega (arith, ap (λ (x : Survey). x .weight) found, weight-small), omega (arith, ap (λ (x : Survey). x .largest) found, smax-most job (a .sizes)))
+        (omega (arith, ap (λ (x : Survey). x .weight) found, weight-small), omega (arith, ap (λ (x : Survey). x .tolerance) found, mul-le-mul (wide-is .1) (smax-most job (a .sizes))))
 
-    pub playable : {w : Window} → w ≡ windowOf job (s .weight) (s .largest) → Playable job l w
+    pub playable : {w : Window} → w ≡ windowOf job (s .weight) (s .tolerance) → Playable job l w
     playable e = record {
       most = most;
       sound = sound-is;
+      wide = wide-is .0;
       small = record {
         files = omega (arith, sound-is .fewFiles, a .narrow .files);
         bounds = omega (arith, sound-is .fewRecipes, a .narrow .recipes);
@@ -121,7 +125,7 @@ module _ {balancing : Bool} {most : Limits} {job : Job} {l : Lent} {g : List ℤ
       measured = record {
         den = ap (λ (w : Window). w .den) e;
         aim = ap (λ (w : Window). w .aim) e ∙ ap (λ (x : Survey). job .num * x .weight) found;
-        span = ap (λ (w : Window). w .span) e ∙ ap (λ (x : Survey). job .den * x .largest) found;
+        span = ap (λ (w : Window). w .span) e ∙ ap (λ (x : Survey). job .den * x .tolerance) found;
       };
     }
 

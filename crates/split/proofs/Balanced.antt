@@ -16,7 +16,7 @@ use Rattle.rules.specs.declared.Verdict.{Verdict}
 use Rattle.rules.specs.declared.BalanceFigures.{BalanceFigures}
 use Rattle.rules.specs.Lists.{listed}
 use Rattle.rules.specs.Job.{Job, Limits, fileCount, recipeCount, pinCount, recipes, Lent, lentOf, scratchFor, fits}
-use Rattle.rules.specs.Split.{sideOf, onSide, sizeOf, cut, unreadFiles, unreadRecipes, weight, smax, sizeA}
+use Rattle.rules.specs.Split.{sideOf, onSide, sizeOf, cut, unreadFiles, unreadRecipes, weight, tolerance, sizeA}
 use Rattle.rules.specs.Check.{done}
 use Rattle.rules.specs.Move.{State, moved, distance, greater, firstBelow, after}
 use Rattle.rules.specs.Balance.{tooLarge, tooSmall, heavy, balanceChoice, balanceMoves, balanceSides, balanceFigures, noBalanceFigures, balanceVerdict, Balancing, balancingOf, balancing}
@@ -79,7 +79,7 @@ tests-agree x y z = go (leb x (y + z)) (leb y (x + z)) refl refl
 
 heavy-is : (job : Job) (w : Window) → Measured job w → (a : ℕ) → sideOr (heavy job a) ≡ heavyIn w a
 unfolding heavy tooLarge tooSmall
-heavy-is job w m a = rw (m .den, m .aim, m .span) (tests-agree (job .den * a) (job .num * weight job) (job .den * smax job))
+heavy-is job w m a = rw (m .den, m .aim, m .span) (tests-agree (job .den * a) (job .num * weight job) (job .den * tolerance job))
 
 -- ---- the choice by the lists
 
@@ -97,13 +97,13 @@ no-third sides locks gains n b = go (firstBelow (freeIn 2 sides locks) (greater 
 
 -- ---- the moves
 
-module _ (most : Limits) (job : Job) (s : Sound most job) where
+module _ (most : Limits) (job : Job) (s : Sound most job) (wide : 1 ≤ job .k) where
   each-picked : (k : ℕ) → k < length (balanceMoves job) → balanceChoice job (stands job (balanceMoves job) k) ≡ some (getD (balanceMoves job) k 0)
   unfolding balanceMoves
   each-picked k h = moves-each (balanceChoice job) moved (fileCount job) (begins job) k h
 
   balance-picked : Picked job (balanceChoice job) (balanceMoves job)
-  balance-picked = record { each = each-picked; ended = rw (take-length (balanceMoves job)) (balance-holds most job s .ended) }
+  balance-picked = record { each = each-picked; ended = rw (take-length (balanceMoves job)) (balance-holds most job s wide .ended) }
 
 -- they are underway, with some move lists
 pub record BalanceUnderway (job : Job) (l : Lent) (w : Window) (sides : List ℕ) (y : Treated) : Type 0 where
@@ -121,7 +121,7 @@ balance-first {job} {l} y d e = record {
   gained = l .gained;
   cuts = l .cuts;
   ends = l .ends;
-  under = first-under (balance-holds (y .most) job (y .sound) .frees) y d e;
+  under = first-under (balance-holds (y .most) job (y .sound) (y .wide) .frees) y d e;
 }
 
 module _ {job : Job} {l : Lent} {w : Window} {sides : List ℕ} {y : Treated} (u : BalanceUnderway job l w sides y) where
@@ -152,7 +152,7 @@ module _ {job : Job} {l : Lent} {w : Window} {sides : List ℕ} {y : Treated} (u
   unfolding greatestIn
   picks none e = ap (fileOr c) (no-third (st .sides) (st .locks) (y .scanned .gains) c (stands-binary (line (u .under)) k) ∙ sym (choice-stop job st e))
   picks (some x) e =
-      let way = toward-at (may .most) job (may .sound) k in
+      let way = toward-at (may .most) job (may .sound) (may .wide) k in
       let toward : Toward job x st = subst (λ (t : ℕ). Toward job t st) (sym (way .way x e)) way in
       ap (fileOr c) (listed-same job x st (y .scanned .gains) toward e (ap length (g .gains) ∙ gains-long (line (u .under)) k) (rw (g .gains) (gains-fresh (line (u .under)) k)))
 
@@ -172,7 +172,7 @@ module _ {job : Job} {l : Lent} {w : Window} {sides : List ℕ} {y : Treated} (u
         ∙ picks (heavy job (sizeA job (st .sides))) refl
 
     chose : Chose job ms b f
-    chose = record { pick = balanceChoice job; picked = balance-picked (may .most) job (may .sound); file = file-is }
+    chose = record { pick = balanceChoice job; picked = balance-picked (may .most) job (may .sound) (may .wide); file = file-is }
 
     -- a file: it is moved
     module _ (h : f < c) where

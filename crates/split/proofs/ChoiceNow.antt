@@ -12,7 +12,7 @@ use lib.ListN.{length, getD, take}
 use borrow.Author.Tests.{leb-true, leb-false, le-leb, lt-leb, eqb-true, ne-eqb}
 use Rattle.rules.specs.Lists.{bit}
 use Rattle.rules.specs.Job.{Job, fileCount, recipes, Lent}
-use Rattle.rules.specs.Split.{sideOf, sizeOf, weighs, weight, smax, sizeA, inWindow, balanced}
+use Rattle.rules.specs.Split.{sideOf, sizeOf, weighs, weight, tolerance, sizeA, inWindow, balanced}
 use Rattle.rules.specs.Move.{lockOf, free, distance, sizeAfter, legal, distAfter, better, choose}
 use Rattle.rules.specs.Pass.{gainsAfter, startGains}
 use Rattle.rules.proofs.Tests.{and-yes}
@@ -74,7 +74,7 @@ module _ {job : Job} {ms : List ℕ} (v : Line job ms) (k : ℕ) where
       gain-kept (recipes job) (recipes-distinct (v .most) job (v .sound)) (begins job) (made ms k) (made-free v k) (v .sound .binary)
       (startGains (recipes job) (fileCount job) (begins job)) (start-fresh (recipes job) (recipes-distinct (v .most) job (v .sound)) (fileCount job) (begins job))
 
-  module _ (w : Window) (den : w .den ≡ job .den) (aim : w .aim ≡ job .num * weight job) (span : w .span ≡ job .den * smax job) where
+  module _ (w : Window) (den : w .den ≡ job .den) (aim : w .aim ≡ job .num * weight job) (span : w .span ≡ job .den * tolerance job) where
     dist-same : (f : ℕ) → f < fileCount job → lockOf (stands job ms k) f ≡ 0
         → distIn w (sizeA job (stands job ms k .sides)) (job .sizes) (stands job ms k .sides) f ≡ distAfter job (stands job ms k) f
     unfolding distAfter
@@ -87,11 +87,11 @@ module _ {job : Job} {ms : List ℕ} (v : Line job ms) (k : ℕ) where
       | yes e ↦
           ap (λ (b : Bool). free (stands job ms k) f && b)
           (ap₂ leb (dist-same f h e) span
-          ∙ (unfold distAfter in sym (window-near (job .num) (job .den) (weight job) (smax job) (sizeAfter job (stands job ms k) f))))
+          ∙ (unfold distAfter in sym (window-near (job .num) (job .den) (weight job) (tolerance job) (sizeAfter job (stands job ms k) f))))
       | no n ↦
           let z : free (stands job ms k) f ≡ false = ne-eqb (lockOf (stands job ms k) f) 0 n in
           ap (λ (b : Bool). b && leb (distIn w (sizeA job (stands job ms k .sides)) (job .sizes) (stands job ms k .sides) f) (w .span)) z
-          ∙ sym (ap (λ (b : Bool). b && inWindow (job .num) (job .den) (weight job) (smax job) (sizeAfter job (stands job ms k) f)) z)
+          ∙ sym (ap (λ (b : Bool). b && inWindow (job .num) (job .den) (weight job) (tolerance job) (sizeAfter job (stands job ms k) f)) z)
     ]
 
     choice-here : chosenIn w (sizeA job (stands job ms k .sides)) (job .sizes) (stands job ms k .sides) (stands job ms k .locks) (gainsNow job ms k) (fileCount job)

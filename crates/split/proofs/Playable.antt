@@ -1,10 +1,10 @@
 -- What a pass may count on in a job that is not refused. Assumes nothing.
 use mathlib.Core.Path.{_≡_}
-use Prim.Native.Nat.{ℕ, _*_, _<_, _^_}
+use Prim.Native.Nat.{ℕ, _*_, _≤_, _<_, _^_}
 use mathlib.Core.Bool.{true}
 use lib.ListN.{length}
 use Rattle.rules.specs.Job.{Job, Limits, fileCount, recipeCount, pinCount, recipes, Lent, fits}
-use Rattle.rules.specs.Split.{weight, smax, cut, sizeA}
+use Rattle.rules.specs.Split.{weight, tolerance, cut, sizeA}
 use Rattle.rules.specs.Theorems.{Sound}
 use Rattle.choice.specs.declared.window.Window.{Window}
 
@@ -16,16 +16,17 @@ pub record Small (job : Job) : Type 0 where
   pub scans : 4 * recipeCount job < 65536
   pub weight : weight job < 2 ^ 32
 
--- den, and num·W and den·smax
+-- den, and num·W and den times the tolerance
 pub record Measured (job : Job) (w : Window) : Type 0 where
   pub den : w .den ≡ job .den
   pub aim : w .aim ≡ job .num * weight job
-  pub span : w .span ≡ job .den * smax job
+  pub span : w .span ≡ job .den * tolerance job
 
 -- a job that a pass may be made of, with the lists lent to it
 pub record Playable (job : Job) (l : Lent) (w : Window) : Type 0 where
   pub most : Limits
   pub sound : Sound most job
+  pub wide : 1 ≤ job .k
   pub small : Small job
   pub fitting : fits job l ≡ true
   pub measured : Measured job w

@@ -74,7 +74,7 @@ fn balance_with(
     if s.verdict.number != 0 {
         return none_made(s.verdict);
     }
-    let window = window_of(job, s.weight, s.largest);
+    let window = window_of(job, s.weight, s.tolerance);
     let mut p = Progress::new(s.size, s.cut);
     loop {
         let size = p.size as u32;

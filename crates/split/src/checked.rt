@@ -13,15 +13,15 @@ use rules::Figures;
 use rules::Verdict;
 use tables::Extent;
 
-// Den, and num·W and den·smax.
-pub(crate) fn window_of(job: Job, weight: u64, largest: u64) -> Window
-    requires { ⌜ (weight < 2 ^ 32) × (largest < 2 ^ 32) ⌝ }
-    ensures { λ r. ⌜ r ≡ windowOf (ofFigures job) weight largest ⌝ }
+// Den, and num·W and den times the tolerance.
+pub(crate) fn window_of(job: Job, weight: u64, tolerance: u64) -> Window
+    requires { ⌜ (weight < 2 ^ 32) × (tolerance < 2 ^ 32) ⌝ }
+    ensures { λ r. ⌜ r ≡ windowOf (ofFigures job) weight tolerance ⌝ }
 {
     Window {
         den: job.den,
         aim: (job.num as u64) * weight,
-        span: (job.den as u64) * largest,
+        span: (job.den as u64) * tolerance,
     }
 }
 

@@ -67,7 +67,7 @@ pub fn pass_once(
     if s.verdict.number != 0 {
         return refused(s.verdict);
     }
-    let window = window_of(job, s.weight, s.largest);
+    let window = window_of(job, s.weight, s.tolerance);
     let c = sizes.len();
     let mut p = Progress::new(s.size, s.cut);
     loop {

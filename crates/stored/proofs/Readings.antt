@@ -15,9 +15,9 @@ use Rattle.rules.specs.declared.Header.{Header}
 use Rattle.rules.specs.declared.ReadFigures.{ReadFigures}
 use Rattle.rules.specs.Lists.{onto}
 use Rattle.rules.specs.Job.{Job, Limits}
-use Rattle.rules.specs.Check.{refuseIf, _orElse_, check1Of, check2Of, check4to6, «measure»}
+use Rattle.rules.specs.Check.{refuseIf, _orElse_, badK, check1Of, check2Of, check4to6, «measure»}
 use Rattle.rules.specs.Report.{allRoom}
-use Rattle.rules.specs.Stored.{Room, Reading, blockAt, headerOf, boundsAt, pinsAt, blockCount, roomy, jobOf, blockVerdict, blocksVerdict, layoutVerdict, readVerdict, written, noHeader, reading}
+use Rattle.rules.specs.Stored.{Room, Reading, blockAt, headerOf, headerValues, boundsAt, pinsAt, blockCount, roomy, jobOf, blockVerdict, blocksVerdict, layoutVerdict, readVerdict, written, noHeader, reading}
 use Rattle.rules.proofs.Tests.{and-yes, not-no}
 use Rattle.rules.proofs.Verdicts.{or-assoc, or-three, chain-stop, chain-go, refuse-stop, refuse-go, zero-of, passes-both, not-refused, measure-verdict, first-three}
 use Rattle.rules.proofs.SoundJob.{ok1-of, ok2-of}
@@ -26,7 +26,7 @@ use Rattle.rules.proofs.Entries.{onto-take, onto-least}
 use Rattle.rules.proofs.Reading.{read-files, read-sides, read-marks, read-bounds, read-pins, read-holds, reading-verdict}
 use Rattle.stored.specs.declared.header.Lengths.{Lengths}
 use Rattle.stored.specs.Room.{roomLong}
-use Rattle.stored.specs.Steps.{Taken, TakenFiles, filesOf, storedValue, verdictOf, headerIn, figuresVerdict, openingVerdict, Allowed, Ample, Gathered, firstOf, readFigures, answerBy}
+use Rattle.stored.specs.Steps.{Taken, TakenFiles, filesOf, storedValue, verdictOf, kIn, headerIn, figuresVerdict, openingVerdict, Allowed, Ample, Gathered, firstOf, readFigures, answerBy}
 use Rattle.stored.proofs.Blocks.{block-told}
 use Rattle.stored.proofs.Filled.{taken-all}
 
@@ -46,12 +46,18 @@ module _ (most : Limits) (bytes : List ℕ) (room : Room) where
       let h : Header = headerOf bytes in
       let a : Verdict = refuseIf (ltb (length bytes) 512) 20 0 in
       let b : Verdict = blockVerdict h bytes 0 in
+      let w : Verdict = refuseIf (badK (h .k)) 22 0 in
+      let c : Verdict = check1Of (h .files) (h .recipes) in
+      let d : Verdict = check2Of most (h .files) (h .recipes) (h .pins) in
+      let e : Verdict = refuseIf (not (roomy h room)) 3 0 in
       let f : Verdict = figuresVerdict most h room in
       sym (or-assoc (openingVerdict most bytes room) blocks-past (check4to6 (jobOf bytes)))
       ∙ ap (λ (v : Verdict). v orElse check4to6 (jobOf bytes))
       (or-three a b (f orElse length-verdict) blocks-past
       ∙ ap (λ (v : Verdict). a orElse b orElse v)
-      (or-assoc f length-verdict blocks-past ∙ or-three (check1Of (h .files) (h .recipes)) (check2Of most (h .files) (h .recipes) (h .pins)) (refuseIf (not (roomy h room)) 3 0) (length-verdict orElse blocks-past)))
+      (or-assoc f length-verdict blocks-past
+      ∙ or-assoc w (c orElse d orElse e) (length-verdict orElse blocks-past)
+      ∙ ap (λ (v : Verdict). w orElse v) (or-three c d e (length-verdict orElse blocks-past))))
 
   pub opening-tells : openingVerdict most bytes room .number ≡ 0 → (length bytes ≡ 512 * blockCount (headerOf bytes)) × Allowed most (headerOf bytes)
   unfolding openingVerdict
@@ -60,7 +66,8 @@ module _ (most : Limits) (bytes : List ℕ) (room : Room) where
       let a = passes-both (refuseIf (ltb (length bytes) 512) 20 0) _ z in
       let b = passes-both (blockVerdict h bytes 0) _ (a .1) in
       let c = passes-both (figuresVerdict most h room) length-verdict (b .1) in
-      let d = passes-both (check1Of (h .files) (h .recipes)) _ (c .0) in
+      let w = passes-both (refuseIf (badK (h .k)) 22 0) _ (c .0) in
+      let d = passes-both (check1Of (h .files) (h .recipes)) _ (w .1) in
       let e = passes-both (check2Of most (h .files) (h .recipes) (h .pins)) _ (d .1) in
       let some = ok1-of (h .files) (h .recipes) (d .0) in
       let few = ok2-of most (h .files) (h .recipes) (h .pins) (e .0) in (
@@ -107,6 +114,7 @@ first-written bytes old =
       num = headerOf bytes .num;
       den = headerOf bytes .den;
       cap = headerOf bytes .cap;
+      k = headerOf bytes .k;
     }
   where
     first : (xs ys : List ℕ) {n : ℕ} → length xs ≡ n → take n (onto xs ys) ≡ xs
@@ -194,9 +202,12 @@ module _ (most : Limits) (bytes : List ℕ) (room : Room) where
   unfolding openingVerdict
   short-opening l e = refuse-stop 19 0 (blockVerdict (headerOf bytes) bytes 0 orElse figuresVerdict most (headerOf bytes) room orElse length-verdict most bytes room) (lt-ltb (length bytes) 512 l) e
 
-  module _ (l : 512 ≤ length bytes) {block : List ℕ} (b : block ≡ blockAt bytes 0) {v : Verdict} (e : v ≡ verdictOf block 0 1 6) where
+  module _ (l : 512 ≤ length bytes) {block : List ℕ} (b : block ≡ blockAt bytes 0) {k n : ℕ} (s : k ≡ kIn block) (m : n ≡ headerValues k) {v : Verdict}
+      (e : v ≡ verdictOf block 0 1 n) where
+    -- as many values as its own k makes it have
     zeroth : v ≡ blockVerdict (headerOf bytes) bytes 0
-    zeroth = block-told (headerOf bytes) bytes 0 b e
+    unfolding headerOf
+    zeroth = block-told (headerOf bytes) bytes 0 b (e ∙ ap (verdictOf block 0 1) (m ∙ ap headerValues (s ∙ ap kIn b)))
 
     pub stopped-zeroth : (v .number ≡ 0 → ⊥) → v ≡ openingVerdict most bytes room
     unfolding openingVerdict

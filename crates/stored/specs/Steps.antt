@@ -9,7 +9,7 @@ use Rattle.rules.specs.declared.Verdict.{Verdict}
 use Rattle.rules.specs.declared.Header.{Header}
 use Rattle.rules.specs.declared.ReadFigures.{ReadFigures}
 use Rattle.rules.specs.Job.{Job, Limits, asJob}
-use Rattle.rules.specs.Check.{isDone, refuseIf, _orElse_, check1Of, check2Of}
+use Rattle.rules.specs.Check.{isDone, refuseIf, _orElse_, badK, check1Of, check2Of}
 use Rattle.rules.specs.Stored.{Room, word, valueIn, value, headerOf, blockCheck, overSecond, laidOut, blockCount, blockVerdict, jobOf, roomy, noHeader}
 
 -- value v is beyond the n that the block has, and is not zero
@@ -26,7 +26,11 @@ verdictOf block b kind n =
     refuseIf (not (eqb (word block 510) (blockCheck block))) 21 b
     orElse refuseIf (not (laidOut block b kind n)) 22 b
 
--- the six values of the header's block
+-- k of the header's block: its seventh value, and 1 where it has six
+abbrev pub kIn : List ℕ → ℕ
+kIn block = cond (eqb (getD block 3 0) 7) (valueIn block 6) 1
+
+-- the six or seven values of the header's block
 abbrev pub headerIn : List ℕ → Header
 headerIn block = record {
   files = valueIn block 0;
@@ -35,6 +39,7 @@ headerIn block = record {
   num = valueIn block 3;
   den = valueIn block 4;
   cap = valueIn block 5;
+  k = kIn block;
 }
 
 -- the n entries from a on are those of f, the others are as they were
@@ -79,10 +84,11 @@ pub record TakenFiles (bytes : List ℕ) (n : ℕ) (old new : Files) : Type 0 wh
   pub sides : Taken (storedSide bytes) n (old .sides) (new .sides)
   pub marks : Taken (storedMark bytes) n (old .marks) (new .marks)
 
--- 1 to 3, in the order of layoutVerdict
+-- 22 for k, then 1 to 3, in the order of layoutVerdict
 abbrev pub figuresVerdict : Limits → Header → Room → Verdict
 figuresVerdict most h room =
-    check1Of (h .files) (h .recipes)
+    refuseIf (badK (h .k)) 22 0
+    orElse check1Of (h .files) (h .recipes)
     orElse check2Of most (h .files) (h .recipes) (h .pins)
     orElse refuseIf (not (roomy h room)) 3 0
 
@@ -115,7 +121,7 @@ pub record Ample (c n p : ℕ) (r : Room) : Type 0 where
 abbrev pub firstOf : Header → Room → Job
 firstOf h r =
     asJob (take (h .files) (r .sizes)) (take (h .files) (r .sides)) (take (h .files) (r .marks)) (take (h .recipes + 1) (r .bounds)) (take (h .pins) (r .pins))
-    (h .num) (h .den) (h .cap)
+    (h .num) (h .den) (h .cap) (h .k)
 
 -- the stored job stands in the first entries of the lists
 pub record Gathered (bytes : List ℕ) (h : Header) (r : Room) : Type 0 where

@@ -3,15 +3,17 @@ ghost use mathlib.Core.Path.{_≡_};
 ghost use Rattle.rules.specs.Job.{limitsOf};
 ghost use Rattle.rules.specs.Stored.{headerOf, noHeader};
 ghost use Rattle.stored.specs.Room.{roomLong};
-ghost use Rattle.stored.specs.Steps.{headerIn, figuresVerdict, openingVerdict, answerBy, readFigures};
+ghost use Rattle.stored.specs.Steps.{kIn, headerIn, figuresVerdict, openingVerdict, answerBy, readFigures};
 use crate::block::block_at;
 use crate::block::block_verdict;
 use job::Job;
+use job::bad_k;
 use job::check1;
 use job::check2;
 use job::or_else;
 use job::refuse_if;
 use layout::block_count;
+use layout::header_values;
 use layout::value_in;
 use rules::Header;
 use rules::ReadFigures;
@@ -36,6 +38,7 @@ pub(crate) fn refused(verdict: Verdict) -> ReadFigures
         num: 0,
         den: 0,
         cap: 0,
+        k: 0,
     };
     ReadFigures { verdict, header }
 }
@@ -50,7 +53,17 @@ pub(crate) fn answer_by(verdict: Verdict, header: Header) -> ReadFigures
     ReadFigures { verdict, header }
 }
 
-// The six values of block 0.
+// A header with six values means k = 1, one with seven carries k: document 02, order 6.
+fn k_in(block: &[u8; 512]) -> u16
+    ensures { λ r. ⌜ r ≡ kIn (now (block .entry)) ⌝ }
+{
+    if block[3] == 7 {
+        return value_in(block, 6);
+    }
+    1
+}
+
+// The values of block 0.
 fn header_in(block: &[u8; 512]) -> Header
     ensures { λ r. ⌜ r ≡ headerIn (now (block .entry)) ⌝ }
 {
@@ -60,6 +73,7 @@ fn header_in(block: &[u8; 512]) -> Header
     let num = value_in(block, 3);
     let den = value_in(block, 4);
     let cap = value_in(block, 5);
+    let k = k_in(block);
     Header {
         files,
         recipes,
@@ -67,16 +81,18 @@ fn header_in(block: &[u8; 512]) -> Header
         num,
         den,
         cap,
+        k,
     }
 }
 
-// 1 to 3, of the header's figures.
+// 22 for a k that is none, then 1 to 3, of the header's figures.
 fn figures_verdict(h: Header, lent: Lengths) -> Verdict
     ensures { λ r. do ⌜ r ≡ figuresVerdict (limitsOf (← ⟦Job::MOST_FILES⟧ .entry) (← ⟦Job::MOST_RECIPES⟧ .entry) (← ⟦Job::MOST_PINS⟧ .entry) (← ⟦Job::MOST_DEN⟧ .entry)) h (roomLong lent) ⌝ }
 {
     let files = h.files as usize;
     let recipes = h.recipes as usize;
     let pins = h.pins as usize;
+    let wrong = refuse_if(bad_k(h.k), 22, 0);
     let none = check1(files, recipes);
     let over = check2(files, recipes, pins);
     let roomy = (files <= lent.sizes)
@@ -85,10 +101,10 @@ fn figures_verdict(h: Header, lent: Lengths) -> Verdict
         & (recipes + 1 <= lent.bounds)
         & (pins <= lent.pins);
     let short = refuse_if(!roomy, 3, 0);
-    or_else(none, or_else(over, short))
+    or_else(wrong, or_else(none, or_else(over, short)))
 }
 
-// Block 0, filled, checked and then taken apart; 1 to 3 and the total length by its header.
+// Block 0, filled, checked and then taken apart; its k is looked at first, since the count of its values goes by it. Then k, 1 to 3 and the total length by its header.
 pub(crate) fn opening(bytes: &[u8], lent: Lengths) -> ReadFigures
     ensures { λ r. do ⌜ r ≡ answerBy (openingVerdict (limitsOf (← ⟦Job::MOST_FILES⟧ .entry) (← ⟦Job::MOST_RECIPES⟧ .entry) (← ⟦Job::MOST_PINS⟧ .entry) (← ⟦Job::MOST_DEN⟧ .entry)) (now (bytes .entry)) (roomLong lent)) (headerOf (now (bytes .entry))) ⌝ }
 {
@@ -96,7 +112,8 @@ pub(crate) fn opening(bytes: &[u8], lent: Lengths) -> ReadFigures
         return refused(refuse_if(true, 20, 0));
     }
     let block = block_at(bytes, 0);
-    let first = block_verdict(&block, 0, 1, 6);
+    let n = header_values(k_in(&block));
+    let first = block_verdict(&block, 0, 1, n);
     if first.number != 0 {
         return refused(first);
     }

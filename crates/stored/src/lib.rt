@@ -33,7 +33,7 @@ fn sound_verdict(
     requires { ⌜ Ample (h .files) (h .recipes) (h .pins) (roomOf (now sizes) (now sides) (now marks) (now bounds) (now pins)) ⌝ }
     ensures { λ r. ⌜ r ≡ check4to6 (firstOf h (roomOf (now (sizes .entry)) (now (sides .entry)) (now (marks .entry)) (now (bounds .entry)) (now (pins .entry)))) ⌝ }
 {
-    let figures = Job::new(h.num, h.den, h.cap);
+    let figures = Job::new(h.num, h.den, h.cap, h.k);
     let c = h.files as usize;
     let n = h.recipes as usize + 1;
     let p = h.pins as usize;

@@ -1,4 +1,4 @@
--- What 1 and 2 answer of a job's counts, what 1 to 6 then answer, and the header that is made between. Assumes nothing.
+-- What 1 and 2 answer of a job's counts, what 1 to 6 and k then answer, and the header that is made between. Assumes nothing.
 use mathlib.Core.Path.{_≡_, sym, ap, ap₂, _∙_}
 use Prim.Native.Nat.{ℕ, _*_, _≤_}
 use mathlib.Core.Bool.{Bool}
@@ -8,12 +8,11 @@ use lib.Dec.{eqb}
 use Rattle.rules.specs.declared.Verdict.{Verdict}
 use Rattle.rules.specs.declared.Header.{Header}
 use Rattle.rules.specs.Job.{Job, Limits, fileCount, recipeCount, pinCount}
-use Rattle.rules.specs.Check.{_orElse_, check1Of, check2Of, check1, check2, check3, check4to6, check1to6}
+use Rattle.rules.specs.Check.{refuseIf, _orElse_, badK, check1Of, check2Of, check1, check2, check3, check4to6, check1to6}
 use Rattle.rules.specs.Stored.{blockCount}
-use Rattle.rules.specs.Writing.{headerFor, writeVerdict}
-use Rattle.rules.specs.Theorems.{Sound}
+use Rattle.rules.specs.Writing.{headerFor, checkWritten, writeVerdict}
 use Rattle.rules.proofs.Verdicts.{chain-stop, or-assoc, passes-both, zero-of}
-use Rattle.rules.proofs.SoundJob.{ok2}
+use Rattle.rules.proofs.SoundJob.{ok2, sound}
 use Rattle.job.specs.Parts.{ofLists}
 use Rattle.job.proofs.Whole.{lists-only}
 use Rattle.writer.specs.Filling.{jobWith, Writable}
@@ -24,19 +23,24 @@ module _ (most : Limits) (job : Job) {o v w : Verdict} {n : ℕ} (counted : n �
   unfolding check1 check2
   counts-are = e ∙ ap₂ _orElse_ (f ∙ ap (check1Of (fileCount job)) counted) (g ∙ ap (λ (k : ℕ). check2Of most (fileCount job) k (pinCount job)) counted)
 
-  pub counts-stop : (lent : Bool) → (o .number ≡ 0 → ⊥) → o ≡ check1to6 most job lent
+  pub counts-stop : (lent : Bool) → (o .number ≡ 0 → ⊥) → o ≡ checkWritten most job lent
   unfolding check1to6
-  counts-stop lent z = chain-stop (check3 job lent orElse check4to6 job) counts-are z ∙ or-assoc (check1 job) (check2 most job) (check3 job lent orElse check4to6 job)
+  counts-stop lent z =
+      let rest : Verdict = check3 job lent orElse check4to6 job in
+      chain-stop (refuseIf (badK (job .k)) 7 0) (chain-stop rest counts-are z ∙ or-assoc (check1 job) (check2 most job) rest) z
 
   pub counts-few : o .number ≡ 0 → (fileCount job ≤ most .files) × (recipeCount job ≤ most .recipes) × (pinCount job ≤ most .pins)
   counts-few z = ok2 job most (passes-both (check1 job) (check2 most job) (zero-of counts-are z) .1)
 
--- what 1 to 6 answer, told that the output list is as long as the blocks
-pub verdict-is : (most : Limits) (job : Job) (out : List ℕ) {v : Verdict} {lent : Bool} {n : ℕ} → v ≡ check1to6 most (ofLists (job .sizes) (job .sides) (job .marks) (job .bounds) (job .pins)) lent
-    → n ≡ blockCount (headerFor job) → lent ≡ eqb (length out) (512 * n) → v ≡ writeVerdict most job out
-verdict-is most job out {lent = lent} e c w = e ∙ lists-only most job lent ∙ ap (check1to6 most job) (w ∙ ap (λ (k : ℕ). eqb (length out) (512 * k)) c)
+-- what 1 to 6 answer, told that the output list is as long as the blocks, and then k
+pub verdict-is : (most : Limits) (job : Job) (out : List ℕ) {v s t : Verdict} {lent bad : Bool} {n : ℕ} → s ≡ check1to6 most (ofLists (job .sizes) (job .sides) (job .marks) (job .bounds) (job .pins)) lent
+    → n ≡ blockCount (headerFor job) → lent ≡ eqb (length out) (512 * n) → bad ≡ badK (job .k) → t ≡ refuseIf bad 7 0 → v ≡ (s orElse t) → v ≡ writeVerdict most job out
+verdict-is most job out {lent = lent} e c w b f o =
+    o
+    ∙ ap₂ _orElse_ (e ∙ lists-only most job lent ∙ ap (check1to6 most job) (w ∙ ap (λ (k : ℕ). eqb (length out) (512 * k)) c))
+    (f ∙ ap (λ (x : Bool). refuseIf x 7 0) b)
 
--- the job, with its ratio and cap from its header
+-- the job, with its ratio, cap and k from its header
 module _ (job : Job) {h : Header} (e : h ≡ headerFor job) where
   abbrev own : Header → Job
   own k = jobWith k (job .sizes) (job .sides) (job .marks) (job .bounds) (job .pins)
@@ -44,5 +48,7 @@ module _ (job : Job) {h : Header} (e : h ≡ headerFor job) where
   pub own-job : own h ≡ job
   own-job = ap own e
 
-  pub writable : (most : Limits) → Sound most job → Writable h (own h)
-  writable most s = record { header = e ∙ ap headerFor (sym own-job); sides = s .binary; marks = s .marks }
+  pub writable : (most : Limits) (out : List ℕ) {v : Verdict} → v ≡ writeVerdict most job out → v .number ≡ 0 → Writable h (own h)
+  writable most out f z =
+      let s = sound most job _ (passes-both (check1to6 most job _) (refuseIf (badK (job .k)) 7 0) (zero-of f z) .0) in
+      record { header = e ∙ ap headerFor (sym own-job); sides = s .binary; marks = s .marks }

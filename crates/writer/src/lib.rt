@@ -14,11 +14,13 @@ ghost use Rattle.writer.specs.Filling.{jobWith, Writable};
 use block::fill;
 use block::put_block;
 use job::Job;
+use job::bad_k;
 use job::check1;
 use job::check1to6;
 use job::check2;
 use job::or_else;
 use job::recipe_count;
+use job::refuse_if;
 use job::wide;
 use layout::block_count;
 use rules::Header;
@@ -35,6 +37,7 @@ fn header_for(job: Job, sizes: &[u16], bounds: &[u16], pins: &[u16]) -> Header
         num: job.num,
         den: job.den,
         cap: job.cap,
+        k: job.k,
     }
 }
 
@@ -62,7 +65,7 @@ fn put_blocks(
     }
 }
 
-// 1 to 6, where an output list not exactly as long as the blocks is 3; else the list is the blocks. The header's figures are two bytes each, which 1 and 2 see to.
+// 1 to 6, where an output list not exactly as long as the blocks is 3, and last 7 for k; else the list is the blocks. The header's figures are two bytes each, which 1 and 2 see to.
 pub fn write(
     job: Job,
     sizes: &[u16],
@@ -81,7 +84,8 @@ pub fn write(
     }
     let h = header_for(job, sizes, bounds, pins);
     let fits = out.len() == 512 * wide(block_count(h));
-    let v = check1to6(sizes, sides, marks, bounds, pins, fits);
+    let six = check1to6(sizes, sides, marks, bounds, pins, fits);
+    let v = or_else(six, refuse_if(bad_k(job.k), 7, 0));
     if v.number != 0 {
         return v;
     }

@@ -3,7 +3,7 @@ ghost use mathlib.Core.Path.{_≡_};
 ghost use Prim.Native.Nat.{_≤_};
 ghost use lib.ListN.{getD};
 ghost use Rattle.rules.specs.Theorems.{Binary};
-ghost use Rattle.rules.specs.Writing.{sixFigures, fileValue, jobValue};
+ghost use Rattle.rules.specs.Writing.{headerFigures, fileValue, jobValue};
 ghost use Rattle.job.specs.Parts.{ofFiles};
 ghost use Rattle.writer.specs.Filling.{jobWith, Writable};
 use job::entry_at;
@@ -14,9 +14,9 @@ use rules::Header;
 
 // Value v of the header's block.
 fn figure(h: Header, v: u8) -> u16
-    ensures { λ r. ⌜ r ≡ getD (sixFigures h) v 0 ⌝ }
+    ensures { λ r. ⌜ r ≡ getD (headerFigures h) v 0 ⌝ }
 {
-    let figures = [h.files, h.recipes, h.pins, h.num, h.den, h.cap];
+    let figures = [h.files, h.recipes, h.pins, h.num, h.den, h.cap, h.k];
     entry_at(&figures, v as usize)
 }
 

@@ -39,24 +39,29 @@ returns-2 c =
     (c .before .before .check7to9 .ensures _ (record { job-is = refl; totals = t .totals-of .ensures .is })))
     (c .if2 .taken)
 
+tolerance-requires : tie.Need-tolerance-requires
+tolerance-requires c κs =
+    let s = sound _ _ _ (zero-of (c .before .before .before .before .before .before .check1to6 .ensures) (c .before .before .before .before .if1 .left)) in
+    within-more (omega (arith, s .fewFiles)) (c .before .before .before .totals-of .ensures .within)
+
 cut-requires : tie.Need-cut-requires
 cut-requires c κs = search needs
 
 holding-requires : tie.Need-holding-requires
 unfolding totalsOf
 holding-requires c κs e =
-    let t = c .before .before .before .before in
+    let t = c .before .before .before .before .before in
     let s = sound _ _ _ (zero-of (t .before .before .before .check1to6 .ensures) (t .before .if1 .left)) in
     none-holding _ _ (omega (arith, s .marksLong)) (sym (ap (λ (y : Totals). y .unread) (t .totals-of .ensures .is)) ∙ e)
 
 returns-3 : tie.Need-returns-3
 unfolding totalsOf recipes readIn views unreadRecipes
 returns-3 c =
-    let t = c .before .before .before .before .before in
+    let t = c .before .before .before .before .before .before in
     survey-done _ _ _ _
     (chain-go (t .before .before .before .check1to6 .ensures ∙ lists-only _ _ _) (t .before .if1 .left)
-    (c .before .before .before .before .check7to9 .ensures _ (record { job-is = refl; totals = t .totals-of .ensures .is })))
-    _ _ _ (c .before .before .if2 .left) (c .before .cut .ensures) (c .holding .ensures) (t .totals-of .ensures .is)
+    (c .before .before .before .before .before .check7to9 .ensures _ (record { job-is = refl; totals = t .totals-of .ensures .is })))
+    _ _ _ _ (c .before .before .before .if2 .left) (c .before .before .tolerance .ensures .0) (c .before .cut .ensures) (c .holding .ensures) (t .totals-of .ensures .is)
 
 pub survey-spec : {M : Type 1} → statement M
 survey-spec =
@@ -67,6 +72,7 @@ survey-spec =
     totals-of-requires
     check7to9-requires
     returns-2
+    tolerance-requires
     cut-requires
     holding-requires
     returns-3)

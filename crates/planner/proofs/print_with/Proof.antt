@@ -52,9 +52,9 @@ returns c =
     let start = c .before .before .before .before .before .before .before .before .before .before .before .before .before .before .before .before .before .before .before .before .before .before .before .before .before .before .before .before .before .before .before .before .before .before .before .before .before .before .before .before .before .before .before .before .before .before .before .before .before .before .before .before in
     let t = c .before .before .before .trace .ensures in
     let q = c .before .before .before .before .before .before .before .before .before .before .before .before .before .before .before .before .before .before .before .before .before .before .before .before .before .before .before .before .before .before .before .before .before .before .before .before .before .before .before .if1 .taken in
-    let e = pass-printed (limitsOf _ _ _ _) (asJob _ _ _ _ _ _ _ _) _ _ _ _ _ _ _ (c .before .before .before .before .before .before .before .before .before .before .before .before .before .before .before .before .before .before .before .before .before .before .before .before .before .before .before .before .before .pass-once .ensures) (start .pre .1 .0) (t .0) in
+    let e = pass-printed (limitsOf _ _ _ _) (asJob _ _ _ _ _ _ _ _ _) _ _ _ _ _ _ _ (c .before .before .before .before .before .before .before .before .before .before .before .before .before .before .before .before .before .before .before .before .before .before .before .before .before .before .before .before .before .pass-once .ensures) (start .pre .1 .0) (t .0) in
     let p = c .before .before .before .trace .result in (
-      told-out false p _ (c .for-stream .ensures) (trace-out (start .args .what) (limitsOf _ _ _ _) (asJob _ _ _ _ _ _ _ _) (start .args .out .now) _ p q (e .0)),
+      told-out false p _ (c .for-stream .ensures) (trace-out (start .args .what) (limitsOf _ _ _ _) (asJob _ _ _ _ _ _ _ _ _) (start .args .out .now) _ p q (e .0)),
       λ long. told-number false p (c .for-stream .ensures) (e .1 (t .1 (e .3 ∙ start .pre .0 .1) (start .pre .0 .2) (e .2) (omega (arith, trace-room (start .args .what) _ _ _ _ q long, e .4, start .pre .0 .0)))),
     )
 
@@ -64,7 +64,7 @@ run-requires c κs = search needs
 tell-run-requires : tie.Need-tell-run-requires
 tell-run-requires c κs =
     let start = c .before .before .before .before .before .before .before .before .before .before .before .before .before .before .before .before .before .before .before .before .before .before .before .before .before .before .before .before .before .before .before .before .before .before .before .before .before .before .before .before .before in (
-      after-run (limitsOf _ _ _ _) (asJob _ _ _ _ _ _ _ _) _ _ _ _ (c .before .before .before .before .before .before .before .before .before .before .before .before .before .before .before .before .before .before .run .ensures) (start .pre .1 .0) (start .args .bytes) (start .pre .1 .1 .0) (omega (arith, c .before .before .before .before .before .before .before .before .before .before .before .before .before .before .before .before .before .sides2 .given, start .pre .0 .1)) (start .pre .0 .2) (start .pre .0 .0),
+      after-run (limitsOf _ _ _ _) (asJob _ _ _ _ _ _ _ _ _) _ _ _ _ (c .before .before .before .before .before .before .before .before .before .before .before .before .before .before .before .before .before .before .run .ensures) (start .pre .1 .0) (start .args .bytes) (start .pre .1 .1 .0) (omega (arith, c .before .before .before .before .before .before .before .before .before .before .before .before .before .before .before .before .before .sides2 .given, start .pre .0 .1)) (start .pre .0 .2) (start .pre .0 .0),
       start .pre .1 .1 .1,
     )
 
@@ -103,7 +103,7 @@ returns-2 c =
     let start = c .before .before .before .before .before .before .before .before .before .before .before .before .before .before .before .before .before .before .before .before .before .before .before .before .before .before .before .before .before .before .before .before .before .before .before .before .before .before .before .before .before .before .before .before in
     let t = c .before .before .tell-run .ensures in
     let q = c .before .before .before .before .before .before .before .before .before .before .before .before .before .before .before .before .before .before .before .before .before .before .before .before .before .before .before .before .before .before .before .if1 .left in
-    let o = run-out (limitsOf _ _ _ _) (asJob _ _ _ _ _ _ _ _) _ _ _ _ (c .before .before .before .before .before .before .before .before .before .before .before .before .before .before .before .before .before .before .before .before .before .run .ensures) (start .pre .1 .0) (start .args .what) q in
+    let o = run-out (limitsOf _ _ _ _) (asJob _ _ _ _ _ _ _ _ _) _ _ _ _ (c .before .before .before .before .before .before .before .before .before .before .before .before .before .before .before .before .before .before .before .before .before .run .ensures) (start .pre .1 .0) (start .args .what) q in
     (t .0 ∙ ap (λ (x : HandedOut). handInto x (start .args .out .now)) o, λ long. t .1 (run-room (start .args .what) _ _ _ _ q long))
 
 pub print-with-spec : {M : Type 1} → statement M

@@ -42,7 +42,7 @@ returns : tie.Need-returns
 returns c =
     let p = c .before .before .before .before .before .before .before .before .before .before .before .before .before .before .before .before .pre in
     let n = c .before .before .before .before .before .before .before .before .before .before .new .ensures in
-    own-verdict (p .0) (p .1) (rw (n .0, n .1, n .2) at (c .before .measure .ensures))
+    own-verdict (p .0) (p .1) (rw (n .0, n .1, n .2, n .3) at (c .before .measure .ensures))
 
 pub sound-verdict-spec : {M : Type 1} → statement M
 sound-verdict-spec =

@@ -6,8 +6,6 @@ use Rattle.rules.specs.declared.Header.{Header}
 use Rattle.rules.specs.Job.{Job, limitsOf}
 use Rattle.rules.specs.Stored.{blockCount}
 use Rattle.rules.specs.Writing.{blocksOf}
-use Rattle.rules.proofs.Verdicts.{zero-of}
-use Rattle.rules.proofs.SoundJob.{sound}
 use Rattle.rules.proofs.RoundTrip.{blocks-length}
 use Rattle.rules.proofs.Writes.{write-stays, write-done, write-exact}
 use Rattle.job.specs.Parts.{wholeJob}
@@ -53,31 +51,63 @@ mul-fits c = search needs
 check1to6-requires : tie.Need-check1to6-requires
 check1to6-requires c κs = search needs
 
+bad-k-requires : tie.Need-bad-k-requires
+bad-k-requires c κs = search needs
+
+refuse-if-requires : tie.Need-refuse-if-requires
+refuse-if-requires c κs = search needs
+
+or-else-requires-2 : tie.Need-or-else-requires-2
+or-else-requires-2 c κs = search needs
+
 returns-2 : tie.Need-returns-2
 returns-2 c =
-    let a = c .before .before .before .before .before .before .before .before .before .before .before .before .before .before .before .before .before .before .args in
+    let o = c .before .before in
+    let k = c .before .before .before .before in
+    let s = c .before .before .before .before .before in
+    let w = c .before .before .before .before .before .before in
+    let h = w .before .before .header-for .ensures in
+    let a = w .before .before .before .before .before .before .before .before .before .before .before .before .before .before .before .args in
     let job : Job = wholeJob (a .job) (a .sizes .now) (a .sides .now) (a .marks .now) (a .bounds .now) (a .pins .now) in
-    write-stays _ job (a .out .now) (verdict-is _ job (a .out .now) (c .before .before .check1to6 .ensures) (c .before .before .before .wide .ensures ∙ c .before .before .before .before .block-count .ensures ∙ ap blockCount (c .before .before .before .before .before .header-for .ensures)) refl) (c .if2 .taken)
+    let v = verdict-is _ job (a .out .now) (s .check1to6 .ensures) (w .wide .ensures ∙ w .before .block-count .ensures ∙ ap blockCount h) refl (k .bad-k .ensures) (o .before .refuse-if .ensures) (o .or-else2 .ensures) in
+    write-stays _ job (a .out .now) v (c .if2 .taken)
 
 put-blocks-requires : tie.Need-put-blocks-requires
 put-blocks-requires c κs =
-    let a = c .before .before .before .before .before .before .before .before .before .before .before .before .before .before .before .before .before .before .before .args in
+    let o = c .before .before .before in
+    let k = c .before .before .before .before .before in
+    let s = c .before .before .before .before .before .before in
+    let w = c .before .before .before .before .before .before .before in
+    let h = w .before .before .header-for .ensures in
+    let a = w .before .before .before .before .before .before .before .before .before .before .before .before .before .before .before .args in
     let job : Job = wholeJob (a .job) (a .sizes .now) (a .sides .now) (a .marks .now) (a .bounds .now) (a .pins .now) in
-    let v = verdict-is _ job (a .out .now) (c .before .before .before .check1to6 .ensures) (c .before .before .before .before .wide .ensures ∙ c .before .before .before .before .before .block-count .ensures ∙ ap blockCount (c .before .before .before .before .before .before .header-for .ensures)) refl in
-    let e = c .before .before .before .before .before .before .header-for .ensures in
-    (writable job e _ (sound _ job _ (zero-of v (c .before .if2 .left))), write-exact _ job (a .out .now) v (c .before .if2 .left) ∙ ap (λ (k : Header). 512 * blockCount k) (sym e))
+    let v = verdict-is _ job (a .out .now) (s .check1to6 .ensures) (w .wide .ensures ∙ w .before .block-count .ensures ∙ ap blockCount h) refl (k .bad-k .ensures) (o .before .refuse-if .ensures) (o .or-else2 .ensures) in
+    let z = c .before .if2 .left in
+    (writable job h _ (a .out .now) v z, write-exact _ job (a .out .now) v z ∙ ap (λ (k : Header). 512 * blockCount k) (sym h))
 
 same-length : tie.Need-same-length
 same-length c =
-    let a = c .before .before .before .before .before .before .before .before .before .before .before .before .before .before .before .before .before .before .before .before .before .before .args in
+    let o = c .before .before .before .before .before .before in
+    let k = c .before .before .before .before .before .before .before .before in
+    let s = c .before .before .before .before .before .before .before .before .before in
+    let w = c .before .before .before .before .before .before .before .before .before .before in
+    let h = w .before .before .header-for .ensures in
+    let a = w .before .before .before .before .before .before .before .before .before .before .before .before .before .before .before .args in
     let job : Job = wholeJob (a .job) (a .sizes .now) (a .sides .now) (a .marks .now) (a .bounds .now) (a .pins .now) in
-    ap length (c .before .before .put-blocks .ensures ∙ ap blocksOf (own-job job (c .before .before .before .before .before .before .before .before .before .header-for .ensures))) ∙ blocks-length job ∙ sym (write-exact _ job (a .out .now) (verdict-is _ job (a .out .now) (c .before .before .before .before .before .before .check1to6 .ensures) (c .before .before .before .before .before .before .before .wide .ensures ∙ c .before .before .before .before .before .before .before .before .block-count .ensures ∙ ap blockCount (c .before .before .before .before .before .before .before .before .before .header-for .ensures)) refl) (c .before .before .before .before .if2 .left))
+    let v = verdict-is _ job (a .out .now) (s .check1to6 .ensures) (w .wide .ensures ∙ w .before .block-count .ensures ∙ ap blockCount h) refl (k .bad-k .ensures) (o .before .refuse-if .ensures) (o .or-else2 .ensures) in
+    ap length (c .before .before .put-blocks .ensures ∙ ap blocksOf (own-job job h)) ∙ blocks-length job ∙ sym (write-exact _ job (a .out .now) v (c .before .before .before .before .if2 .left))
 
 returns-3 : tie.Need-returns-3
 returns-3 c =
-    let a = c .before .before .before .before .before .before .before .before .before .before .before .before .before .before .before .before .before .before .before .before .before .before .args in
+    let o = c .before .before .before .before .before .before in
+    let k = c .before .before .before .before .before .before .before .before in
+    let s = c .before .before .before .before .before .before .before .before .before in
+    let w = c .before .before .before .before .before .before .before .before .before .before in
+    let h = w .before .before .header-for .ensures in
+    let a = w .before .before .before .before .before .before .before .before .before .before .before .before .before .before .before .args in
     let job : Job = wholeJob (a .job) (a .sizes .now) (a .sides .now) (a .marks .now) (a .bounds .now) (a .pins .now) in
-    write-done _ job (a .out .now) (verdict-is _ job (a .out .now) (c .before .before .before .before .before .before .check1to6 .ensures) (c .before .before .before .before .before .before .before .wide .ensures ∙ c .before .before .before .before .before .before .before .before .block-count .ensures ∙ ap blockCount (c .before .before .before .before .before .before .before .before .before .header-for .ensures)) refl) (c .before .before .before .before .if2 .left) (c .before .before .put-blocks .ensures ∙ ap blocksOf (own-job job (c .before .before .before .before .before .before .before .before .before .header-for .ensures)))
+    let v = verdict-is _ job (a .out .now) (s .check1to6 .ensures) (w .wide .ensures ∙ w .before .block-count .ensures ∙ ap blockCount h) refl (k .bad-k .ensures) (o .before .refuse-if .ensures) (o .or-else2 .ensures) in
+    write-done _ job (a .out .now) v (c .before .before .before .before .if2 .left) (c .before .before .put-blocks .ensures ∙ ap blocksOf (own-job job h))
 
 pub write-spec : {M : Type 1} → statement M
 write-spec =
@@ -93,6 +123,9 @@ write-spec =
     wide-requires
     mul-fits
     check1to6-requires
+    bad-k-requires
+    refuse-if-requires
+    or-else-requires-2
     returns-2
     put-blocks-requires
     same-length

@@ -1,13 +1,8 @@
 use native.Mathlib.Omega.{arith}
-use native.Mathlib.Nat.{mul-le-mul}
-use Prim.Native.Nat.{ℕ, _*_, _≤_}
+use Rattle.job.proofs.AddingUp.{product}
 use borrow.Author.Needs.{needs}
 use Rattle.job.proofs.figures.is_balanced.Statement.{statement}
 use Rattle.job.proofs.figures.is_balanced.Tie as tie
-
--- a two-byte number times a total
-product : {b : ℕ} (x y : ℕ) → x ≤ 65535 → y ≤ b → x * y ≤ 65535 * b
-product x y h l = mul-le-mul h l
 
 long-requires : tie.Need-long-requires
 long-requires c κs = search needs
@@ -20,10 +15,11 @@ mul-w c =
     let t = c .before .before .before in
     omega (arith, product (c .before .before .long .result) (t .args .t .weight) (omega arith) (t .pre .0 .weight))
 
+tolerance-requires : tie.Need-tolerance-requires
+tolerance-requires c κs = c .before .before .before .pre .0
+
 mul-m : tie.Need-mul-m
-mul-m c =
-    let t = c .before .before .before .before in
-    omega (arith, product (c .before .before .long2 .result) (t .args .t .largest) (omega arith) (t .pre .0 .largest))
+mul-m c = omega (arith, product (c .before .before .long2 .result) (c .tolerance .result) (omega arith) (c .tolerance .ensures .1))
 
 mul-result : tie.Need-mul-result
 mul-result c =
@@ -34,7 +30,7 @@ add-result : tie.Need-add-result
 add-result c =
     let t = c .before .before .before .before in
     let d = c .before .before .long2 .result in
-    omega (arith, product d (t .args .t .largest) (omega arith) (t .pre .0 .largest), product d (t .args .most) (omega arith) (t .pre .2))
+    omega (arith, product d (c .tolerance .result) (omega arith) (c .tolerance .ensures .1), product d (t .args .most) (omega arith) (t .pre .2))
 
 mul-result-2 : tie.Need-mul-result-2
 mul-result-2 c =
@@ -46,10 +42,10 @@ add-result-2 c =
     let t = c .before .before .before .before in
     let n = c .before .before .before .long .result in
     let d = c .before .before .long2 .result in
-    omega (arith, product n (t .args .t .weight) (omega arith) (t .pre .0 .weight), product d (t .args .t .largest) (omega arith) (t .pre .0 .largest))
+    omega (arith, product n (t .args .t .weight) (omega arith) (t .pre .0 .weight), product d (c .tolerance .result) (omega arith) (c .tolerance .ensures .1))
 
 returns : tie.Need-returns
-returns c = rw (← c .before .before .before .long .ensures, ← c .before .before .long2 .ensures)
+returns c = rw (← c .before .before .before .long .ensures, ← c .before .before .long2 .ensures, ← c .tolerance .ensures .0)
 
 pub is-balanced-spec : {M : Type 1} → statement M
 is-balanced-spec =
@@ -58,6 +54,7 @@ is-balanced-spec =
     long-requires
     long-requires-2
     mul-w
+    tolerance-requires
     mul-m
     mul-result
     add-result

@@ -6,8 +6,11 @@ use Rattle.rules.specs.Stored.{boundsAt, pinsAt, heldIn}
 use Rattle.layout.proofs.kinds.values_in.Statement.{statement}
 use Rattle.layout.proofs.kinds.values_in.Tie as tie
 
+header-values-requires : tie.Need-header-values-requires
+header-values-requires c κs = tt
+
 returns : tie.Need-returns
-returns c = simp (eq-eqb _ _ (c .if1 .taken))
+returns c = simp (eq-eqb _ _ (c .before .if1 .taken)) (c .header-values .ensures)
 
 bounds-at-requires : tie.Need-bounds-at-requires
 bounds-at-requires c κs = tt
@@ -64,6 +67,7 @@ pub values-in-spec : {M : Type 1} → statement M
 values-in-spec =
     tie.close
     (tie.spec
+    header-values-requires
     returns
     bounds-at-requires
     wide-requires

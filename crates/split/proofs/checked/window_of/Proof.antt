@@ -19,7 +19,7 @@ mul-t5 : tie.Need-mul-t5
 mul-t5 c = let a = c .before .args in omega (arith, product (a .job .num) (a .weight) (omega arith) (omega arith))
 
 mul-t7 : tie.Need-mul-t7
-mul-t7 c = let a = c .before .before .args in omega (arith, product (a .job .den) (a .largest) (omega arith) (omega arith))
+mul-t7 c = let a = c .before .before .args in omega (arith, product (a .job .den) (a .tolerance) (omega arith) (omega arith))
 
 returns : tie.Need-returns
 returns c = search needs

@@ -19,6 +19,12 @@ returns c =
 block-at-requires : tie.Need-block-at-requires
 block-at-requires c κs = omega arith
 
+k-in-requires : tie.Need-k-in-requires
+k-in-requires c κs = tt
+
+header-values-requires : tie.Need-header-values-requires
+header-values-requires c κs = tt
+
 block-verdict-requires : tie.Need-block-verdict-requires
 block-verdict-requires c κs = tt
 
@@ -28,7 +34,9 @@ refused-requires-2 c κs = tt
 returns-2 : tie.Need-returns-2
 returns-2 c =
     let n = c .before .if2 .taken in
-    c .refused2 .ensures ∙ refused-by _ (stopped-zeroth _ _ _ (c .before .before .before .before .before .before .if1 .left) (c .before .before .before .before .before .block-at .ensures) (c .before .before .before .block-verdict .ensures) n) n
+    let v = c .before .before .before in
+    let k = c .before .before .before .before .before .before in
+    c .refused2 .ensures ∙ refused-by _ (stopped-zeroth _ _ _ (k .before .before .before .if1 .left) (k .before .before .block-at .ensures) (k .k-in .ensures) (v .before .before .header-values .ensures) (v .block-verdict .ensures) n) n
 
 header-in-requires : tie.Need-header-in-requires
 header-in-requires c κs = tt
@@ -56,9 +64,11 @@ answer-by-requires c κs = tt
 
 returns-3 : tie.Need-returns-3
 returns-3 c =
-    all-opened _ _ _ (c .before .before .before .before .before .before .before .before .before .before .before .before .if1 .left) (c .before .before .before .before .before .before .before .before .before .before .before .block-at .ensures) (c .before .before .before .before .before .before .before .before .before .block-verdict .ensures)
-    (c .before .before .before .before .before .before .before .if2 .left) (c .before .before .before .before .before .header-in .ensures) (c .before .before .before .before .figures-verdict .ensures) (c .before .before .before .block-count .ensures)
-    (c .before .before .refuse-if2 .ensures) (c .before .or-else .ensures) (c .answer-by .ensures)
+    let h = c .before .before .before .before .before in
+    let v = c .before .before .before .before .before .before .before .before .before in
+    let k = c .before .before .before .before .before .before .before .before .before .before .before .before in
+    all-opened _ _ _ (k .before .before .before .if1 .left) (k .before .before .block-at .ensures) (k .k-in .ensures) (v .before .before .header-values .ensures) (v .block-verdict .ensures)
+    (h .before .before .if2 .left) (h .header-in .ensures) (c .before .before .before .before .figures-verdict .ensures) (c .before .before .before .block-count .ensures) (c .before .before .refuse-if2 .ensures) (c .before .or-else .ensures) (c .answer-by .ensures)
 
 pub opening-spec : {M : Type 1} → statement M
 opening-spec =
@@ -68,6 +78,8 @@ opening-spec =
     refused-requires
     returns
     block-at-requires
+    k-in-requires
+    header-values-requires
     block-verdict-requires
     refused-requires-2
     returns-2

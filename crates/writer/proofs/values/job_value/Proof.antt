@@ -5,7 +5,7 @@ use lib.ListN.{getD}
 use Rattle.rules.specs.declared.Header.{Header}
 use Rattle.rules.specs.Job.{Job, bound, pin}
 use Rattle.rules.specs.Stored.{boundsAt, pinsAt}
-use Rattle.rules.specs.Writing.{headerFor, sixFigures, fileValue, jobValue}
+use Rattle.rules.specs.Writing.{headerFor, headerFigures, fileValue, jobValue}
 use Rattle.rules.proofs.RoundTrip.{figure-at, file-at, bound-at, pin-at}
 use Rattle.writer.specs.Filling.{jobWith}
 use borrow.Author.Needs.{needs}
@@ -21,7 +21,7 @@ returns c =
     let a = s .args in
     let job : Job = jobWith (a .h) (a .sizes .now) (a .sides .now) (a .marks .now) (a .bounds .now) (a .pins .now) in
     let e = s .pre .header in
-    c .figure .ensures ∙ ap (λ (k : Header). getD (sixFigures k) (a .v) 0) e ∙ sym (ap (λ (b : ℕ). jobValue job b (a .v)) (c .before .if1 .taken) ∙ figure-at job (a .v))
+    c .figure .ensures ∙ ap (λ (k : Header). getD (headerFigures k) (a .v) 0) e ∙ sym (ap (λ (b : ℕ). jobValue job b (a .v)) (c .before .if1 .taken) ∙ figure-at job (a .v))
 
 bounds-at-requires : tie.Need-bounds-at-requires
 bounds-at-requires c κs = search needs
