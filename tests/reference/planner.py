@@ -805,6 +805,98 @@ def job_of_blocks(data, header, counts):
     )
 
 
+# ---- Two stored jobs compared
+
+# "What differs": the first of "1 to 7", the first of "8 to 10", and "11".
+FIGURES_DIFFER = 1
+FILES_DIFFER = 8
+PINS_DIFFER = 11
+# "A list that is too short is refused as 30."
+TOO_SHORT = 30
+# "C, N, P, num, den, cap, k", three of each file and one of each recipe.
+MOST_DIFFERENCES = HEADER_FIGURES + 3 * MOST_FILES + MOST_RECIPES
+
+
+def header_figures(job):
+    """ "C, N, P, num, den, cap, k", and "a header without k as k = 1"."""
+    return job.files, job.recipes, len(job.pins), job.num, job.den, job.cap, job.k
+
+
+def file_figures(job, file):
+    """ "Size, side, mark"; a file that a job lacks "is compared as zeros"."""
+    if file >= job.files:
+        return 0, 0, 0
+    return job.sizes[file], job.sides[file], job.marks[file]
+
+
+def figure_differences(start, number, old_figures, new_figures):
+    """Those of two rows of figures that are not equal, from the kind start on."""
+    figures = zip(old_figures, new_figures)
+    return [
+        (what, number, old, new)
+        for what, (old, new) in enumerate(figures, start)
+        if old != new
+    ]
+
+
+def recipe_difference(recipe, old_pins, new_pins):
+    """ "11, with the two lengths, given if the pin sequences differ"."""
+    if old_pins == new_pins:
+        return []
+    return [(PINS_DIFFER, recipe, len(old_pins), len(new_pins))]
+
+
+def differences(old, new):
+    """The records of two jobs that pass checks 1 to 6, "in this order".
+
+    Each holds "what differs, its number, the old and the new figure".
+    """
+    # "1 to 7 for C, N, P, num, den, cap, k (number 0)."
+    records = figure_differences(
+        FIGURES_DIFFER, 0, header_figures(old), header_figures(new)
+    )
+    # "Then file by file 8 to 10 for size, side, mark."
+    for file in range(max(old.files, new.files)):
+        records += figure_differences(
+            FILES_DIFFER, file, file_figures(old, file), file_figures(new, file)
+        )
+    # "Then recipe by recipe 11"; the view of a recipe that a job lacks is "empty".
+    for recipe in range(max(old.recipes, new.recipes)):
+        records += recipe_difference(
+            recipe,
+            view(old.bounds, old.pins, recipe),
+            view(new.bounds, new.pins, recipe),
+        )
+    return records
+
+
+def first_refused(readings):
+    """Job, number and place: "a refusal names its job, 1 or 2, job 1's first"."""
+    for job, (number, place, _, _) in enumerate(readings, start=1):
+        if number:
+            return job, number, place
+    return 0, 0, 0
+
+
+def compare(old_bytes, new_bytes, room):
+    """Job, number, place, the number of records, and the lent list afterwards.
+
+    "The two jobs are read up to check 6." Refused, the list is "left as it was",
+    and the count is 0 but for 30, which has "the number needed".
+    """
+    readings = read_job(old_bytes), read_job(new_bytes)
+    job, number, place = first_refused(readings)
+    if number:
+        return job, number, place, 0, list(room)
+    (_, _, _, old), (_, _, _, new) = readings
+    records = differences(old, new)
+    # "After both, a list that is too short."
+    if len(room) < len(records):
+        return 0, TOO_SHORT, 0, len(records), list(room)
+    # "Entries beyond the last record stay."
+    return 0, 0, 0, len(records), records + list(room[len(records) :])
+
+
 # ---- The program's words
 
 
@@ -920,6 +1012,36 @@ def trace(data):
     return "\n".join(lines) + "\n"
 
 
+def compare_program(old_bytes, new_bytes):
+    """The bytes that the program prints of two files' bytes.
+
+    "Each record's four numbers on a line, one space between, or `refused`, job,
+    number and place." Its list has room for the most records.
+    """
+    room = [(0, 0, 0, 0)] * MOST_DIFFERENCES
+    job, number, place, count, room = compare(old_bytes, new_bytes, room)
+    if number:
+        return f"refused {job} {number} {place}\n".encode()
+    lines = [" ".join(map(str, record)) for record in room[:count]]
+    return "".join(line + "\n" for line in lines).encode()
+
+
+def file_or_empty(name):
+    """A file's bytes, "one that can't be opened counting as empty"."""
+    try:
+        with open(name, "rb") as file:
+            return file.read()
+    except OSError:
+        return b""
+
+
+def compare_files(names):
+    """What the program prints of two names; a file that is not named counts as empty
+    too."""
+    old_bytes, new_bytes, *_ = [*map(file_or_empty, names), b"", b""]
+    return compare_program(old_bytes, new_bytes)
+
+
 def main(words, data):
     """The report of the bytes, or with the one word `trace` their trace."""
     return trace(data) if words == ["trace"] else run_stored(data)
@@ -928,4 +1050,7 @@ def main(words, data):
 if __name__ == "__main__":
     import sys
 
-    sys.stdout.write(main(sys.argv[1:], sys.stdin.buffer.read()))
+    if sys.argv[1:2] == ["compare"]:
+        sys.stdout.buffer.write(compare_files(sys.argv[2:]))
+    else:
+        sys.stdout.write(main(sys.argv[1:], sys.stdin.buffer.read()))

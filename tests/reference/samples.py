@@ -1,5 +1,6 @@
 """Jobs for tests: those that the documents give, those at the edges of the window,
-those with unread files, those with a wider window, and random ones."""
+those with unread files, those with a wider window, those to be compared, and random
+ones."""
 
 from planner import A, B, FREE, PINNED, UNREAD, Job, balance, size_of_a
 
@@ -28,13 +29,18 @@ def three_files():
     return Job([1] * 3, [A, A, B], [FREE] * 3, [0, 3], [0, 1, 2], 1, 2, 0)
 
 
-def job_of_recipes(recipes, **fields):
-    """A job whose recipes are given as lists of files."""
+def bounds_and_pins(recipes):
+    """The two lists of recipes that are given as lists of files."""
     bounds, pins = [0], []
     for files in recipes:
         pins += files
         bounds.append(len(pins))
-    return Job(bounds=bounds, pins=pins, **fields)
+    return {"bounds": bounds, "pins": pins}
+
+
+def job_of_recipes(recipes, **fields):
+    """A job whose recipes are given as lists of files."""
+    return Job(**bounds_and_pins(recipes), **fields)
 
 
 # ---- Order 2: the window of the free files
@@ -519,6 +525,282 @@ def starts_beside_archives():
 
 def wider_starts():
     return {**at_each_wider(starts), **starts_beside_archives()}
+
+
+# ---- Order 7: jobs to be compared
+
+CHAIN_RECIPES = ([0, 1], [2, 3], [1, 2])
+
+
+def with_recipes(job, *recipes):
+    """The job with these recipes, as lists of files."""
+    return job.changed(**bounds_and_pins(recipes))
+
+
+def with_files(job, *files):
+    """The job with these files behind its own, as (size, side, mark)."""
+    return job.changed(
+        sizes=job.sizes + tuple(size for size, _, _ in files),
+        sides=job.sides + tuple(side for _, side, _ in files),
+        marks=job.marks + tuple(mark for _, _, mark in files),
+    )
+
+
+def compared_figures():
+    """By name: two jobs with other figures of the header, and the records."""
+    old = chain()
+    return {
+        "num": (old, old.changed(num=3), [(4, 0, 1, 3)]),
+        "den": (old, old.changed(den=65535), [(5, 0, 2, 65535)]),
+        "cap": (old, old.changed(cap=256), [(6, 0, 0, 256)]),
+        "k_of_six_and_seven": (old, old.changed(k=2), [(7, 0, 1, 2)]),
+        "k_of_seven_and_six": (old.changed(k=4), old, [(7, 0, 4, 1)]),
+        "k_of_seven_and_seven": (old.changed(k=2), old.changed(k=3), [(7, 0, 2, 3)]),
+        "ratio": (old, old.changed(num=0, den=0), [(4, 0, 1, 0), (5, 0, 2, 0)]),
+    }
+
+
+def compared_files():
+    """The same with other files, and with files more."""
+    old = chain()
+    pinned, unread = old.changed(marks=[1, 0, 0, 0]), old.changed(marks=[2, 0, 0, 0])
+    more = (1, 0, 4, 5)
+    return {
+        "size": (old, old.changed(sizes=[1, 1, 65535, 1]), [(8, 2, 1, 65535)]),
+        "side": (old, old.changed(sides=[A, A, A, B]), [(9, 1, 1, 0)]),
+        "mark_pinned": (old, pinned, [(10, 0, 0, 1)]),
+        "mark_unread": (old, unread, [(10, 0, 0, 2)]),
+        "pinned_and_unread": (pinned, unread, [(10, 0, 1, 2)]),
+        # The stored second value is 1, and then 4: both of its figures differ.
+        "side_and_mark": (
+            old,
+            old.changed(sides=[A, A, A, B], marks=[0, 2, 0, 0]),
+            [(9, 1, 1, 0), (10, 1, 0, 2)],
+        ),
+        # File by file, and not size by size.
+        "first_and_last_file": (
+            old,
+            old.changed(sizes=[2, 1, 1, 3], sides=[B, B, A, A], marks=[1, 0, 0, 2]),
+            [(8, 0, 1, 2), (9, 0, 0, 1), (10, 0, 0, 1)]
+            + [(8, 3, 1, 3), (9, 3, 1, 0), (10, 3, 0, 2)],
+        ),
+        # A file that a job lacks has the size 0, lies in A and is free.
+        "file_added_in_a": (old, with_files(old, (7, A, FREE)), [more, (8, 4, 0, 7)]),
+        "file_added_in_b": (
+            old,
+            with_files(old, (7, B, FREE)),
+            [more, (8, 4, 0, 7), (9, 4, 0, 1)],
+        ),
+        "file_added_unread": (
+            old,
+            with_files(old, (7, A, UNREAD)),
+            [more, (8, 4, 0, 7), (10, 4, 0, 2)],
+        ),
+        "files_added": (
+            old,
+            with_files(old, (7, B, PINNED), (65535, A, FREE)),
+            [(1, 0, 4, 6), (8, 4, 0, 7), (9, 4, 0, 1), (10, 4, 0, 1), (8, 5, 0, 65535)],
+        ),
+        "files_removed": (
+            with_files(old, (7, B, PINNED), (65535, A, FREE)),
+            old,
+            [(1, 0, 6, 4), (8, 4, 7, 0), (9, 4, 1, 0), (10, 4, 1, 0), (8, 5, 65535, 0)],
+        ),
+        # All others go up by one number, and their pins with them.
+        "file_added_in_front": (
+            old,
+            all_free([[1, 2], [3, 4], [2, 3]], [A, A, B, A, B]),
+            [more, (9, 1, 1, 0), (9, 2, 0, 1), (9, 3, 1, 0), (8, 4, 0, 1), (9, 4, 0, 1)]
+            + [(11, 0, 2, 2), (11, 1, 2, 2), (11, 2, 2, 2)],
+        ),
+    }
+
+
+def compared_recipes():
+    """The same with other recipes, and with recipes more."""
+    old = chain()
+    one, two, three = CHAIN_RECIPES
+    long_first = with_recipes(old, [0, 1, 2], [3, 0], three)
+    long_second = with_recipes(old, [0, 1], [2, 3, 0], three)
+    return {
+        "another_first_pin": (
+            old,
+            with_recipes(old, [3, 1], two, three),
+            [(11, 0, 2, 2)],
+        ),
+        "another_last_pin": (old, with_recipes(old, one, two, [1, 3]), [(11, 2, 2, 2)]),
+        # The same pins: in another order, in another recipe, and cut by other bounds.
+        "pins_in_another_order": (
+            old,
+            with_recipes(old, one, [3, 2], three),
+            [(11, 1, 2, 2)],
+        ),
+        "recipes_in_another_order": (
+            old,
+            with_recipes(old, two, one, three),
+            [(11, 0, 2, 2), (11, 1, 2, 2)],
+        ),
+        "other_bounds": (long_first, long_second, [(11, 0, 3, 2), (11, 1, 2, 3)]),
+        "pin_added": (
+            old,
+            with_recipes(old, one, two, [1, 2, 0]),
+            [(3, 0, 6, 7), (11, 2, 2, 3)],
+        ),
+        "pin_added_in_front": (
+            old,
+            with_recipes(old, [2, 0, 1], two, three),
+            [(3, 0, 6, 7), (11, 0, 2, 3)],
+        ),
+        "pin_removed": (long_first, old, [(3, 0, 7, 6), (11, 0, 3, 2), (11, 1, 2, 2)]),
+        "recipe_added": (
+            old,
+            with_recipes(old, one, two, three, [0, 3]),
+            [(2, 0, 3, 4), (3, 0, 6, 8), (11, 3, 0, 2)],
+        ),
+        "recipes_added": (
+            old,
+            with_recipes(old, one, two, three, [0, 3, 2], [3, 2]),
+            [(2, 0, 3, 5), (3, 0, 6, 11), (11, 3, 0, 3), (11, 4, 0, 2)],
+        ),
+        "recipe_removed": (
+            old,
+            with_recipes(old, one, two),
+            [(2, 0, 3, 2), (3, 0, 6, 4), (11, 2, 2, 0)],
+        ),
+        "recipes_removed": (
+            old,
+            with_recipes(old, one),
+            [(2, 0, 3, 1), (3, 0, 6, 2), (11, 1, 2, 0), (11, 2, 2, 0)],
+        ),
+        "recipe_added_in_front": (
+            old,
+            with_recipes(old, [0, 3], one, two, three),
+            [(2, 0, 3, 4), (3, 0, 6, 8)]
+            + [(11, 0, 2, 2), (11, 1, 2, 2), (11, 2, 2, 2), (11, 3, 0, 2)],
+        ),
+        # As many pins, and a recipe less.
+        "recipes_joined": (
+            old,
+            with_recipes(old, [0, 1, 2, 3], three),
+            [(2, 0, 3, 2), (11, 0, 2, 4), (11, 1, 2, 2), (11, 2, 2, 0)],
+        ),
+    }
+
+
+def all_kinds():
+    """Two jobs that differ in each of the eleven, and the records."""
+    new = Job(
+        sizes=[2, 1, 1, 1, 3],
+        sides=[B, B, A, B, B],
+        marks=[PINNED, FREE, FREE, FREE, UNREAD],
+        bounds=[0, 2, 5],
+        pins=[0, 1, 4, 3, 2],
+        num=2,
+        den=5,
+        cap=1,
+        k=4,
+    )
+    return (
+        chain(),
+        new,
+        [(1, 0, 4, 5), (2, 0, 3, 2), (3, 0, 6, 5)]
+        + [(4, 0, 1, 2), (5, 0, 2, 5), (6, 0, 0, 1), (7, 0, 1, 4)]
+        + [(8, 0, 1, 2), (9, 0, 0, 1), (10, 0, 0, 1)]
+        + [(8, 4, 0, 3), (9, 4, 0, 1), (10, 4, 0, 2)]
+        + [(11, 1, 2, 3), (11, 2, 2, 0)],
+    )
+
+
+def compared_jobs():
+    """By name: two jobs, and the records of them, worked out by hand."""
+    return {
+        "same": (chain(), chain(), []),
+        **compared_figures(),
+        **compared_files(),
+        **compared_recipes(),
+        "all_kinds": all_kinds(),
+    }
+
+
+def most_different():
+    """Two jobs of the largest size in which all differs: 7 + 3·1,024 + 1,024 records.
+
+    The first has one file and one recipe more, which the second lacks.
+    """
+    rows = [[(4 * j + i) % 1024 for i in range(4)] for j in range(1024)]
+    old = job_of_recipes(
+        rows,
+        sizes=[65535 - i for i in range(1024)],
+        sides=[B] * 1024,
+        marks=[PINNED + i % 2 for i in range(1024)],
+        num=65535,
+        den=65534,
+        cap=65533,
+        k=4,
+    )
+    # Each recipe the other way round, and file 0 in place of file 1,023.
+    turned = [[file % 1023 for file in reversed(files)] for files in rows[:1023]]
+    new = job_of_recipes(
+        turned,
+        sizes=[1 + i for i in range(1023)],
+        sides=[A] * 1023,
+        marks=[FREE] * 1023,
+        num=1,
+        den=2,
+        cap=0,
+    )
+    return old, new
+
+
+def put(entries, at, entry):
+    """A list with one entry put anew."""
+    return (*entries[:at], entry, *entries[at + 1 :])
+
+
+def changed_recipes(rng, job):
+    """The recipes with one thing changed; as they are where that cannot be."""
+    recipes = list(job.whole_recipes)
+    j = rng.randrange(job.recipes)
+    files, others = recipes[j], sorted({*range(job.files)} - {*recipes[j]})
+    how = rng.choice(("order", "pin", "longer", "shorter", "more", "fewer"))
+    if how == "order":
+        recipes[j] = rng.sample(files, len(files))
+    elif how == "pin" and others:
+        recipes[j] = put(files, rng.randrange(len(files)), rng.choice(others))
+    elif how == "longer" and others:
+        recipes[j] = [*files, rng.choice(others)]
+    elif how == "shorter" and len(files) > 2:
+        recipes[j] = files[1:]
+    elif how == "more":
+        recipes.insert(j, files)
+    elif how == "fewer" and job.recipes > 1:
+        del recipes[j]
+    return recipes
+
+
+def changed_once(rng, job):
+    """The job with one thing changed, at times to what it was; checks 1 to 6 pass."""
+    file = rng.randrange(job.files)
+    field = rng.choice(
+        ("num", "den", "cap", "k", "sizes", "sides", "marks", "files", "", "")
+    )
+    if field in ("num", "den", "cap"):
+        return job.changed(**{field: rng.choice([0, 1, 255, 256, 65535])})
+    if field == "k":
+        return job.changed(k=rng.randint(1, 4))
+    if field == "files":
+        return with_files(job, (rng.randint(1, 65535), rng.randint(A, B), FREE))
+    if field:
+        most = {"sizes": (1, 65535), "sides": (A, B), "marks": (FREE, UNREAD)}[field]
+        entries = put(getattr(job, field), file, rng.randint(*most))
+        return job.changed(**{field: entries})
+    return with_recipes(job, *changed_recipes(rng, job))
+
+
+def changed_often(rng, job, times):
+    for _ in range(times):
+        job = changed_once(rng, job)
+    return job
 
 
 # ---- Random jobs

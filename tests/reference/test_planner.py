@@ -6,7 +6,9 @@ tests see them, so that none of them passes for want of looking.
 
 import functools
 import itertools
+import pathlib
 import random
+import tempfile
 import unittest
 from unittest import mock
 
@@ -1744,6 +1746,433 @@ class Wider(unittest.TestCase):
         self.assertEqual(planner.balance_stored(data), (data, told))
 
 
+# ---- Order 7: two stored jobs compared
+
+# What each entry of a lent list is before the call; no record is so.
+FILLED = (165, 166, 167, 168)
+
+
+def lent(length):
+    return [FILLED] * length
+
+
+def figures_of(job):
+    """All that is compared of a job, by what it is and its number; a recipe's pins."""
+    counts = len(job.sizes), len(job.bounds) - 1, len(job.pins)
+    header = (*counts, job.num, job.den, job.cap, job.k)
+    figures = {(what, 0): figure for what, figure in enumerate(header, start=1)}
+    for what, entries in ((8, job.sizes), (9, job.sides), (10, job.marks)):
+        figures |= {(what, file): entry for file, entry in enumerate(entries)}
+    for recipe, ends in enumerate(zip(job.bounds, job.bounds[1:])):
+        figures[11, recipe] = job.pins[slice(*ends)]
+    return figures
+
+
+def place_in_order(key):
+    """The header, then file by file, then recipe by recipe."""
+    what, number = key
+    return (what > 7) + (what > 10), number, what
+
+
+def expected_records(old, new):
+    """Worked out from the names of all that either job has."""
+    olds, news = figures_of(old), figures_of(new)
+    records = []
+    for key in sorted({*olds, *news}, key=place_in_order):
+        empty = () if key[0] == 11 else 0
+        both = olds.get(key, empty), news.get(key, empty)
+        if both[0] != both[1]:
+            records.append((*key, *(map(len, both) if key[0] == 11 else both)))
+    return records
+
+
+# What a comparison has to meet; each raises AssertionError where it does not.
+
+
+def see_records(old, new):
+    """Each figure in which two jobs differ has its record, in order; no other has."""
+    assert planner.differences(old, new) == expected_records(old, new), "other records"
+
+
+def see_equal_bytes(old, new):
+    """ "No differences exactly if the stored jobs are byte for byte equal." """
+    none = planner.differences(old, new) == []
+    assert none == (planner.write_job(old) == planner.write_job(new)), "not exactly"
+
+
+def see_room(old, new):
+    """Lists of just as many records as are needed, of fewer, and of more."""
+    stored = planner.write_job(old), planner.write_job(new)
+    records = expected_records(old, new)
+    needed = len(records)
+    for length in {0, needed // 2, max(needed - 1, 0), needed, needed + 1, needed + 9}:
+        room = lent(length)
+        told = planner.compare(*stored, room)
+        assert room == lent(length), "the caller's own list"
+        if length < needed:
+            assert told == (0, 30, 0, needed, room), "not as too short a list"
+        else:
+            after = records + lent(length - needed)
+            assert told == (0, 0, 0, needed, after), "not as a list that serves"
+
+
+def see_refused(readings):
+    """Two stored jobs, each with its refusal, or 0 and 0: job 1's goes first."""
+    (first, old), (second, new) = readings
+    job, (number, place) = (1, first) if first[0] else (2, second)
+    assert number, "none is refused"
+    for length in (0, 1, 40):
+        told = planner.compare(old, new, lent(length))
+        assert told == (job, number, place, 0, lent(length)), "another refusal"
+    printed = f"refused {job} {number} {place}\n".encode()
+    assert planner.compare_program(old, new) == printed, "another line"
+
+
+def bad_readings():
+    """Stored chains that the reader refuses, each with its number and place."""
+    chain = planner.write_job(samples.chain())
+    found = [
+        (told, faults.stored_chain([(told, plant)]))
+        for told, plant in faults.IN_ORDER
+        if told[0] not in (7, 8, 9)
+    ]
+    found.append(((22, 0), faults.stored_chain([faults.WRONG_SEVENTH], k=2)))
+    found += [((20, 0), chain[:length]) for length in (0, 1, 511, 512, 2047)]
+    found.append(((20, 0), chain + b"\0"))
+    found.append(((21, 0), bytes(512)))
+    return found
+
+
+def good_readings():
+    return [
+        ((0, 0), planner.write_job(job))
+        for job in (samples.chain(), samples.all_kinds()[1], samples.archive())
+    ]
+
+
+def some_jobs():
+    """A part of all that are sound, of each sort."""
+    return [*small_jobs()[:60], *unread_jobs()[:60], *wider_jobs()[:60]]
+
+
+@functools.cache
+def compared_pairs():
+    """Pairs of jobs: those worked out by hand, both ways; random ones with few changes
+    and with many, with themselves, and with others."""
+    pairs = []
+    for old, new, _ in samples.compared_jobs().values():
+        pairs += [(old, new), (new, old)]
+    rng = random.Random(7)
+    jobs = [*small_jobs(), *unread_jobs(), *wider_jobs()]
+    for job in rng.sample(jobs, 300):
+        pairs.append((job, samples.changed_once(rng, job)))
+        pairs.append((samples.changed_often(rng, job, rng.randint(2, 20)), job))
+        pairs.append((job, job.changed()))
+        pairs.append((job, rng.choice(jobs)))
+    return pairs
+
+
+class Compared(unittest.TestCase):
+    """Order 7: "compare last night with tonight"."""
+
+    def stored(self, *jobs):
+        return [planner.write_job(job) for job in jobs]
+
+    def test_worked_out_by_hand(self):
+        for name, (old, new, records) in samples.compared_jobs().items():
+            for job in (old, new):
+                self.assertEqual(planner.refusal(job, True, 6), (0, 0), name)
+            self.assertEqual(planner.differences(old, new), records, name)
+            count = len(records)
+            told = planner.compare(*self.stored(old, new), lent(count + 2))
+            self.assertEqual(told, (0, 0, 0, count, records + lent(2)), name)
+
+    def test_the_other_way_round(self):
+        """The same records with both figures changed for each other."""
+        for name, (old, new, records) in samples.compared_jobs().items():
+            turned = [(what, number, b, a) for what, number, a, b in records]
+            self.assertEqual(planner.differences(new, old), turned, name)
+
+    def test_each_kind_by_itself(self):
+        """4 to 11 stand alone; 1 has an 8 with it, 2 and 3 have an 11."""
+        alone = set()
+        for _, _, records in samples.compared_jobs().values():
+            kinds = {what for what, _, _, _ in records}
+            if len(records) == 1:
+                alone |= kinds
+        self.assertEqual(alone, set(range(4, 12)))
+        for old, new in compared_pairs():
+            kinds = {what for what, _, _, _ in planner.differences(old, new)}
+            for count, beside in ((1, 8), (2, 11), (3, 11)):
+                self.assertTrue(count not in kinds or beside in kinds)
+
+    def test_all_kinds_at_once(self):
+        records = planner.differences(*samples.all_kinds()[:2])
+        self.assertEqual({what for what, _, _, _ in records}, set(range(1, 12)))
+        # File by file: 8, 9 and 10 of file 0 stand before those of file 4.
+        self.assertEqual(
+            [what for what, _, _, _ in records],
+            [1, 2, 3, 4, 5, 6, 7, 8, 9, 10, 8, 9, 10, 11, 11],
+        )
+
+    def test_every_figure_of_the_chain_alone(self):
+        """Each of its files and recipes in turn, one figure at a time."""
+        job = samples.chain()
+        for file in range(4):
+            sizes = samples.put(job.sizes, file, 256)
+            sides = samples.put(job.sides, file, 1 - job.sides[file])
+            marks = samples.put(job.marks, file, 2)
+            for fields, record in (
+                (dict(sizes=sizes), (8, file, 1, 256)),
+                (dict(sides=sides), (9, file, job.sides[file], sides[file])),
+                (dict(marks=marks), (10, file, 0, 2)),
+            ):
+                new = job.changed(**fields)
+                self.assertEqual(planner.differences(job, new), [record])
+        for recipe, (first, second) in enumerate(samples.CHAIN_RECIPES):
+            recipes = samples.put(samples.CHAIN_RECIPES, recipe, [second, first])
+            new = samples.with_recipes(job, *recipes)
+            self.assertEqual(planner.differences(job, new), [(11, recipe, 2, 2)])
+
+    def test_k_of_six_values_and_of_seven(self):
+        for old, new in itertools.product(ALL_K, repeat=2):
+            data = self.stored(*samples.at_each((old, new), samples.chain()))
+            for k, one in zip((old, new), data):
+                self.assertEqual(one[3], 6 if k == 1 else 7)
+            printed = b"" if old == new else f"7 0 {old} {new}\n".encode()
+            self.assertEqual(planner.compare_program(*data), printed)
+
+    def test_random_pairs(self):
+        kinds = set()
+        for old, new in compared_pairs():
+            see_records(old, new)
+            kinds |= {what for what, _, _, _ in planner.differences(old, new)}
+        self.assertEqual(kinds, set(range(1, 12)))
+
+    def test_lent_lists(self):
+        for old, new in compared_pairs()[:400]:
+            see_room(old, new)
+
+    def test_no_room_at_all(self):
+        """A list of no records serves where there is no difference, and only there."""
+        chain, other = self.stored(samples.chain(), samples.chain(cap=1))
+        self.assertEqual(planner.compare(chain, chain, []), (0, 0, 0, 0, []))
+        self.assertEqual(planner.compare(chain, other, []), (0, 30, 0, 1, []))
+
+    def test_a_job_with_itself(self):
+        for job in (*some_jobs(), mill()):
+            data = planner.write_job(job)
+            for length in (0, 3):
+                told = planner.compare(data, data, lent(length))
+                self.assertEqual(told, (0, 0, 0, 0, lent(length)))
+            self.assertEqual(planner.compare_program(data, data), b"")
+
+    def test_equal_bytes_of_random_pairs(self):
+        equal = 0
+        for old, new in compared_pairs():
+            see_equal_bytes(old, new)
+            equal += planner.differences(old, new) == []
+        self.assertGreater(equal, 300)
+
+    def test_equal_bytes_of_all_that_reads(self):
+        """Of stored jobs with one byte put anew those that read, each with each."""
+        mixed = samples.chain().changed(marks=[0, 1, 2, 0])
+        read = {}
+        for one in samples.at_each((1, 2), mixed):
+            for data in stored_variants(one):
+                number, _, _, job = planner.read_job(data)
+                if number == 0:
+                    read[data] = job
+        self.assertGreater(len(read), 200)
+        for (old_bytes, old), (new_bytes, new) in itertools.product(
+            read.items(), repeat=2
+        ):
+            none = planner.differences(old, new) == []
+            self.assertEqual(none, old_bytes == new_bytes)
+
+    def test_one_byte_is_one_difference(self):
+        """Of all bytes of the stored chain put anew, those that still read: one record,
+        or two where a file's second value has another side and another mark."""
+        chain = planner.write_job(samples.chain())
+        counts = set()
+        for data in stored_variants(samples.chain()):
+            job, number, place, count, records = planner.compare(chain, data, lent(9))
+            if number == 0:
+                counts.add(count)
+                self.assertEqual(count == 0, data == chain)
+                if count > 1:
+                    self.assertEqual([what for what, *_ in records[:2]], [9, 10])
+            else:
+                self.assertEqual((job, count, records), (2, 0, lent(9)))
+                self.assertEqual((number, place), planner.read_job(data)[:2])
+        self.assertEqual(counts, {0, 1, 2})
+
+    def test_damaged_bytes_never_read(self):
+        """A byte that is changed and not checked anew is 21, in either job."""
+        chain = planner.write_job(samples.chain())
+        for at in range(0, len(chain), 23):
+            wrong = bytearray(chain)
+            wrong[at] ^= 1 << at % 8
+            told = 21, at // 512, 0, lent(4)
+            self.assertEqual(planner.compare(wrong, chain, lent(4)), (1, *told))
+            self.assertEqual(planner.compare(chain, wrong, lent(4)), (2, *told))
+
+    def test_refusals(self):
+        """Job 1 bad, job 2 bad, and both."""
+        numbers = {number for (number, _), _ in bad_readings()}
+        self.assertEqual(numbers, {1, 2, 4, 5, 6, 20, 21, 22})
+        for bad, good in itertools.product(bad_readings(), good_readings()):
+            see_refused((bad, good))
+            see_refused((good, bad))
+        for both in itertools.product(bad_readings(), repeat=2):
+            see_refused(both)
+
+    def test_equal_bytes_that_are_refused(self):
+        """They are no stored jobs: job 1 is refused."""
+        for (number, place), data in bad_readings():
+            told = planner.compare(data, data, [])
+            self.assertEqual(told, (1, number, place, 0, []))
+
+    def test_read_up_to_6(self):
+        """What only a run refuses is compared: 7, 8 and 9 of the chain."""
+        chain = faults.stored_chain([])
+        expected = {
+            7: [(4, 0, 1, 2)],
+            8: [(10, file, 0, 1) for file in range(4)],
+            9: [(9, 1, 1, 0), (9, 3, 1, 0)],
+        }
+        for fault in faults.IN_ORDER[-3:]:
+            (number, _), _ = fault
+            data, records = faults.stored_chain([fault]), expected[number]
+            self.assertTrue(planner.run_stored(data).startswith(f"refused {number} "))
+            told = planner.compare(chain, data, lent(len(records)))
+            self.assertEqual(told, (0, 0, 0, len(records), records))
+            self.assertEqual(planner.compare(data, data, []), (0, 0, 0, 0, []))
+
+    def test_3_is_never_given(self):
+        """The largest jobs have room, whatever list of records is lent."""
+        data = self.stored(*samples.most_different())
+        for length in (0, 1, 4102):
+            self.assertEqual(planner.compare(*data, lent(length))[:3], (0, 30, 0))
+
+    def test_30_comes_after_both(self):
+        """A list that is too short, and a job that is refused."""
+        chain, other = self.stored(samples.chain(), samples.all_kinds()[1])
+        self.assertEqual(planner.compare(chain, other, lent(14))[:4], (0, 30, 0, 15))
+        short = planner.compare(chain, other[:-1], lent(14))
+        self.assertEqual(short, (2, 20, 0, 0, lent(14)))
+        short = planner.compare(chain[:-1], other, lent(14))
+        self.assertEqual(short, (1, 20, 0, 0, lent(14)))
+
+    def test_the_most_differences(self):
+        """7 + 3·1,024 + 1,024, which is 4,103: all are met at once."""
+        old, new = samples.most_different()
+        data = self.stored(old, new)
+        self.assertEqual(planner.MOST_DIFFERENCES, 4103)
+        see_records(old, new)
+        for length in (0, 4102):
+            told = planner.compare(*data, lent(length))
+            self.assertEqual(told, (0, 30, 0, 4103, lent(length)))
+        for length in (4103, 4104):
+            job, number, place, count, after = planner.compare(*data, lent(length))
+            self.assertEqual((job, number, place, count), (0, 0, 0, 4103))
+            self.assertEqual(after[4103:], lent(length - 4103))
+        records = after[:4103]
+        self.assertEqual([what for what, *_ in records[:7]], [1, 2, 3, 4, 5, 6, 7])
+        files = [(what, file) for file in range(1024) for what in (8, 9, 10)]
+        self.assertEqual([(what, n) for what, n, _, _ in records[7:3079]], files)
+        # Of the last file and the last recipe the second job has none.
+        last_file = [(8, 1023, 64512, 0), (9, 1023, 1, 0), (10, 1023, 2, 0)]
+        self.assertEqual(records[3076:3079], last_file)
+        self.assertEqual(records[3079:-1], [(11, j, 4, 4) for j in range(1023)])
+        self.assertEqual(records[-1], (11, 1023, 4, 0))
+        self.assertEqual(len(planner.compare_program(*data).splitlines()), 4103)
+
+    def test_the_bound(self):
+        """7, three of each file that either job has, and one of each recipe."""
+        for old, new in compared_pairs():
+            files, recipes = max(old.files, new.files), max(old.recipes, new.recipes)
+            count = len(planner.differences(old, new))
+            self.assertLessEqual(count, 7 + 3 * files + recipes)
+        # Met by a job of two files beside the largest.
+        small = samples.two_files().changed(sides=[A, A])
+        count = len(planner.differences(samples.most_different()[0], small))
+        self.assertEqual(count, 4103)
+
+    def test_blocks_of_a_kind(self):
+        """The last figure of a block and the first of the next, in the largest job."""
+        job = samples.random_job(random.Random(1), 1024, 1024, longest=4, reach=64)
+        for file in (0, 125, 126, 251, 252, 1023):
+            new = job.changed(sizes=samples.put(job.sizes, file, 999))
+            record = (8, file, job.sizes[file], 999)
+            self.assertEqual(planner.differences(job, new), [record])
+        for recipe in (0, 251, 252, 253, 1023):
+            recipes = [*job.whole_recipes]
+            recipes[recipe] = recipes[recipe][::-1]
+            length = len(recipes[recipe])
+            new = samples.with_recipes(job, *recipes)
+            self.assertEqual(
+                planner.differences(job, new), [(11, recipe, length, length)]
+            )
+
+    def test_the_program(self):
+        """ "Each record's four numbers on a line, one space between", and no more."""
+        for name, (old, new, records) in samples.compared_jobs().items():
+            lines = [f"{a} {b} {c} {d}\n" for a, b, c, d in records]
+            printed = planner.compare_program(*self.stored(old, new))
+            self.assertEqual(printed, "".join(lines).encode(), name)
+        self.assertEqual(
+            planner.compare_program(*self.stored(*samples.all_kinds()[:2])),
+            b"1 0 4 5\n2 0 3 2\n3 0 6 5\n4 0 1 2\n5 0 2 5\n6 0 0 1\n7 0 1 4\n"
+            b"8 0 1 2\n9 0 0 1\n10 0 0 1\n8 4 0 3\n9 4 0 1\n10 4 0 2\n"
+            b"11 1 2 3\n11 2 2 0\n",
+        )
+
+    def test_files_that_cannot_be_opened(self):
+        """They count as empty, and so does one that is not named."""
+        with tempfile.TemporaryDirectory() as folder:
+            there, gone = (pathlib.Path(folder, name) for name in ("there", "gone"))
+            there.write_bytes(planner.write_job(samples.chain()))
+            for names, printed in (
+                ([there, there], b""),
+                ([there, gone], b"refused 2 20 0\n"),
+                ([there, folder], b"refused 2 20 0\n"),
+                ([there], b"refused 2 20 0\n"),
+                ([gone, there], b"refused 1 20 0\n"),
+                ([gone, gone], b"refused 1 20 0\n"),
+                ([], b"refused 1 20 0\n"),
+            ):
+                self.assertEqual(planner.compare_files(names), printed)
+
+    def test_the_chain_and_its_night(self):
+        """File 1 goes from B to A: "AAAB"."""
+        old = planner.write_job(samples.chain())
+        new, _ = planner.resettle(old)
+        self.assertEqual(planner.compare_program(old, new), b"9 1 1 0\n")
+        self.assertEqual(planner.compare_program(new, old), b"9 1 0 1\n")
+
+    def test_a_night_changes_sides_alone(self):
+        """The records of a job and the job resettled are 9 of the files whose side
+        differs, and none where the run keeps the sides."""
+        for job in some_jobs():
+            old = planner.write_job(job)
+            new, _ = planner.resettle(old)
+            sides = enumerate(zip(job.sides, planner.run(job).last.sides))
+            records = [(9, file, a, b) for file, (a, b) in sides if a != b]
+            told = planner.compare(old, new, lent(job.files))
+            rest = lent(job.files - len(records))
+            self.assertEqual(told, (0, 0, 0, len(records), records + rest))
+
+    def test_the_mill(self):
+        """As it came: with a balanced start, and under another ratio."""
+        old = planner.write_job(mill())
+        balanced, _ = planner.balance_stored(old)
+        self.assertEqual(planner.compare_program(old, balanced), b"9 32 1 0\n")
+        other = planner.write_job(mill().changed(num=53, den=100, k=2))
+        printed = b"4 0 11 53\n5 0 20 100\n7 0 1 2\n"
+        self.assertEqual(planner.compare_program(old, other), printed)
+
+
 class Mill(unittest.TestCase):
     def test_it_is_balanced_and_then_runs(self):
         data, said = planner.balance_stored(planner.write_job(mill()))
@@ -2005,6 +2434,181 @@ class CanFail(unittest.TestCase):
 
         self.assertTrue(self.seen(see_round_trip, "header_values", seven))
         self.assertFalse(self.wider_seen(see_round_trip, "header_values", seven))
+
+    def pair_seen(self, see, name, wrong, pairs=None):
+        """Whether a test of what a comparison has to meet sees the error."""
+        with mock.patch.object(planner, name, wrong):
+            for pair in pairs or compared_pairs()[:400]:
+                try:
+                    see(*pair)
+                except AssertionError:
+                    return True
+        return False
+
+    def refusal_pairs(self):
+        """Each as the one thing that see_refused is given."""
+        bad, good = bad_readings(), good_readings()
+        both = *itertools.product(bad, bad), *itertools.product(bad, good)
+        return [(readings,) for readings in (*both, *itertools.product(good, bad))]
+
+    def test_right_comparing_passes(self):
+        for name in ("recipe_difference", "first_refused", "compare", "differences"):
+            right = getattr(planner, name)
+            for see in (see_records, see_equal_bytes, see_room):
+                self.assertFalse(self.pair_seen(see, name, right))
+            refused = see_refused, name, right, self.refusal_pairs()
+            self.assertFalse(self.pair_seen(*refused))
+
+    def test_pins_of_equal_lengths_not_looked_at(self):
+        def by_length(recipe, old, new):
+            return [(11, recipe, len(old), len(new))] if len(old) != len(new) else []
+
+        for see in (see_records, see_equal_bytes, see_room):
+            self.assertTrue(self.pair_seen(see, "recipe_difference", by_length))
+
+    def test_pins_compared_in_any_order(self):
+        def by_files(recipe, old, new):
+            differ = sorted(old) != sorted(new)
+            return [(11, recipe, len(old), len(new))] if differ else []
+
+        for see in (see_records, see_equal_bytes):
+            self.assertTrue(self.pair_seen(see, "recipe_difference", by_files))
+
+    def wrong_differences(self, change):
+        """differences with its records changed by a wrong rule, of both jobs."""
+        right = planner.differences
+        return lambda old, new: change(old, new, right(old, new))
+
+    def test_pins_compared_as_one_list(self):
+        """Recipes of other bounds over the same pins are not looked at."""
+
+        def as_one(old, new, records):
+            return [r for r in records if r[0] != 11 or old.pins != new.pins]
+
+        wrong = "differences", self.wrong_differences(as_one)
+        for see in (see_records, see_equal_bytes):
+            self.assertTrue(self.pair_seen(see, *wrong))
+
+    def test_files_that_both_have(self):
+        def shared(old, new, records):
+            files = min(old.files, new.files)
+            return [r for r in records if not 8 <= r[0] <= 10 or r[1] < files]
+
+        wrong = "differences", self.wrong_differences(shared)
+        self.assertTrue(self.pair_seen(see_records, *wrong))
+
+    def test_recipes_that_both_have(self):
+        def shared(old, new, records):
+            recipes = min(old.recipes, new.recipes)
+            return [r for r in records if r[0] != 11 or r[1] < recipes]
+
+        wrong = "differences", self.wrong_differences(shared)
+        self.assertTrue(self.pair_seen(see_records, *wrong))
+
+    def test_kind_by_kind(self):
+        """All sizes, then all sides, then all marks."""
+
+        def by_kind(old, new, records):
+            return sorted(records)
+
+        wrong = "differences", self.wrong_differences(by_kind)
+        self.assertTrue(self.pair_seen(see_records, *wrong))
+
+    def test_new_figure_before_the_old(self):
+        def turned(old, new, records):
+            return [(what, number, b, a) for what, number, a, b in records]
+
+        wrong = "differences", self.wrong_differences(turned)
+        self.assertTrue(self.pair_seen(see_records, *wrong))
+
+    def test_k_that_is_not_compared(self):
+        right = planner.header_figures
+
+        def six(job):
+            return right(job)[:6]
+
+        for see in (see_records, see_equal_bytes):
+            self.assertTrue(self.pair_seen(see, "header_figures", six))
+
+    def test_header_without_k_as_0(self):
+        right = planner.header_figures
+
+        def with_0(job):
+            return (*right(job)[:6], job.k if job.k > 1 else 0)
+
+        self.assertTrue(self.pair_seen(see_records, "header_figures", with_0))
+
+    def test_mark_that_is_not_compared(self):
+        right = planner.file_figures
+
+        def no_mark(job, file):
+            return right(job, file)[:2]
+
+        for see in (see_records, see_equal_bytes):
+            self.assertTrue(self.pair_seen(see, "file_figures", no_mark))
+
+    def test_refusal_of_job_2_first(self):
+        def last_refused(readings):
+            job, found = 0, (0, 0)
+            for at, (number, place, _, _) in enumerate(readings, start=1):
+                if number:
+                    job, found = at, (number, place)
+            return job, *found
+
+        wrong = "first_refused", last_refused, self.refusal_pairs()
+        self.assertTrue(self.pair_seen(see_refused, *wrong))
+
+    def wrong_compare(self, change):
+        """compare with its answer changed by a wrong rule, which is told the list."""
+        right = planner.compare
+
+        def compare(old_bytes, new_bytes, room):
+            return change(room, *right(old_bytes, new_bytes, room))
+
+        return compare
+
+    def test_records_in_too_short_a_list(self):
+        def what_fits(room, job, number, place, count, after):
+            if number == 30:
+                after = [(1, 0, 0, 0)] * len(room)
+            return job, number, place, count, after
+
+        wrong = "compare", self.wrong_compare(what_fits)
+        self.assertTrue(self.pair_seen(see_room, *wrong))
+
+    def test_list_that_just_serves_refused(self):
+        def refused(room, job, number, place, count, after):
+            if number == 0 and 0 < count == len(room):
+                number, after = 30, room
+            return job, number, place, count, after
+
+        wrong = "compare", self.wrong_compare(refused)
+        self.assertTrue(self.pair_seen(see_room, *wrong))
+
+    def test_entries_beyond_in_zeros(self):
+        def zeros(room, job, number, place, count, after):
+            if number == 0:
+                after = after[:count] + [(0, 0, 0, 0)] * (len(room) - count)
+            return job, number, place, count, after
+
+        wrong = "compare", self.wrong_compare(zeros)
+        self.assertTrue(self.pair_seen(see_room, *wrong))
+
+    def test_30_without_the_number_needed(self):
+        def none(room, job, number, place, count, after):
+            return job, number, place, 0 if number == 30 else count, after
+
+        wrong = "compare", self.wrong_compare(none)
+        self.assertTrue(self.pair_seen(see_room, *wrong))
+
+    def test_refusal_that_changes_the_list(self):
+        def cleared(room, job, number, place, count, after):
+            if job:
+                after = [(0, 0, 0, 0)] * len(room)
+            return job, number, place, count, after
+
+        wrong = "compare", self.wrong_compare(cleared), self.refusal_pairs()
+        self.assertTrue(self.pair_seen(see_refused, *wrong))
 
     def test_gain_list_of_the_end(self):
         def not_kept(job, sides, move_files, move_gains):

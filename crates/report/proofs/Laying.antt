@@ -1,8 +1,8 @@
 -- Text laid into a room piece by piece. Assumes nothing.
 use mathlib.Core.Path.{_≡_, refl, sym, ap, _∙_}
-use Prim.Native.Nat.{ℕ, zero, suc, _+_, _≤_, _<_}
+use Prim.Native.Nat.{ℕ, zero, suc, _+_, _*_, _≤_, _<_}
 use mathlib.Core.List.{List, [], _∷_, _++_, append-nil, append-assoc}
-use native.Mathlib.Nat.{add-zero, zero-add}
+use native.Mathlib.Nat.{add-zero, zero-add, mul-le-mul-left}
 use native.Mathlib.Numerals.{add-one}
 use native.Mathlib.Omega.{arith}
 use lib.ListN.{length, getD, take, drop, set, length-append, take-append-drop}
@@ -126,6 +126,25 @@ module _ {piece : ℕ → List ℕ} {n at i next : ℕ} {room mid : List ℕ} (l
 
   pub growing-end : n ≤ i → Laid at (pieces piece (upTo n)) room next mid
   growing-end h = laying-end 0 l (rw (length-upTo n) h)
+
+-- ---- the same of pieces that are each at most so many bytes
+
+pub record Lining (bytes : ℕ) (piece : ℕ → List ℕ) (n at : ℕ) (room : List ℕ) (i next : ℕ) (after : List ℕ) : Type 0 where
+  pub laying : Laying piece (upTo n) at room i next after
+  pub short : next ≤ at + bytes * i
+
+pub lining-none : {bytes : ℕ} {piece : ℕ → List ℕ} {n at : ℕ} {room : List ℕ} → Lining bytes piece n at room 0 at room
+lining-none = record { laying = laying-none; short = omega arith }
+
+module _ {bytes : ℕ} {piece : ℕ → List ℕ} {n at i next : ℕ} {room mid : List ℕ} (x : Lining bytes piece n at room i next mid) where
+  pub lining-more : {p : ℕ} {after : List ℕ} → i < n → Laid next (piece i) mid p after → p ≤ next + bytes → Lining bytes piece n at room (i + 1) p after
+  lining-more h y s = record { laying = growing-more (x .laying) h y; short = omega (arith, x .short) }
+
+  pub lining-end : n ≤ i → Laid at (pieces piece (upTo n)) room next mid
+  lining-end h = growing-end (x .laying) h
+
+  pub lining-short : next ≤ at + bytes * n
+  lining-short = omega (arith, x .short, mul-le-mul-left bytes (growing-stop (x .laying)))
 
 -- ---- a text laid from the start on
 

@@ -4,4 +4,5 @@ pub mod Lines
 pub mod Gains
 pub mod Traces
 pub mod Printings
+pub mod Comparisons
 pub mod Unique

@@ -101,15 +101,15 @@ module _ (m n : ℕ) (t room : List ℕ) (e : n ≡ length t) (h : n ≤ m) (lon
       at-six true p z = omega (arith, z)
       at-six false p z = omega (arith, z)
 
+pub at-two : (b : Bool) → (refuseIf b 2 0 orElse done) .number ≢ 3
+at-two true z = omega (arith, z)
+at-two false z = omega (arith, z)
+
 pub lengths-enough : (most : ℕ) (sizes sides marks : List ℕ) {v : Verdict} → v ≡ lengthsVerdict most sizes sides marks
     → length sides ≡ length sizes → length marks ≡ length sizes → v .number ≢ 3
 unfolding lengthsVerdict
 lengths-enough most sizes sides marks e sided marked =
     rw (e, eq-eqb (length sides) (length sizes) sided, eq-eqb (length marks) (length sizes) marked) (at-two (ltb most (length sizes)))
-  where
-    at-two : (b : Bool) → (refuseIf b 2 0 orElse done) .number ≢ 3
-    at-two true z = omega (arith, z)
-    at-two false z = omega (arith, z)
 
 pub pass-enough : (most : ℕ) (sizes sides marks : List ℕ) (held : Bool) {v : Verdict} → v ≡ passVerdict most sizes sides marks held
     → length sides ≡ length sizes → length marks ≡ length sizes → held ≡ true → v .number ≢ 3

@@ -31,7 +31,7 @@ use Rattle.report.proofs.Laying.{grows, Laying, laying-none, growing-mo
 abbrev pub scanLine : Listing → ℕ → ℕ → List ℕ
 scanLine l a k = line "scan" (getD (l .recipes) (a + k) 0 ∷ getD (l .kinds) (a + k) 0 ∷ [])
 
-scan-pieces : (l : Listing) (a n : ℕ) → pieces (scanLine l a) (upTo n) ≡ scanLines l a n
+pub scan-pieces : (l : Listing) (a n : ℕ) → pieces (scanLine l a) (upTo n) ≡ scanLines l a n
 unfolding scanLines
 scan-pieces l a = grows (scanLine l a) (scanLines l a) refl (λ n. refl)
 
@@ -184,26 +184,6 @@ module _ {l : Listing} {n i first : ℕ} (x : Ending l n i first) where
 
     pub ending-end : n ≤ i → true ≡ (leb n (length (l .ends)) && not (someBelow (badEnd l) n))
     ending-end h = rw (le-leb n (length (l .ends)) all) (ap not (passed-no (x .passed) h))
-
--- ---- a loop over the scans of a move
-
--- the first k scans from a on are laid, at most so long
-pub record Scanning (l : Listing) (a n at : ℕ) (room : List ℕ) (k next : ℕ) (after : List ℕ) : Type 0 where
-  pub laying : Laying (scanLine l a) (upTo n) at room k next after
-  pub short : next ≤ at + scanBytes * k
-
-pub scanning-none : {l : Listing} {a n at : ℕ} {room : List ℕ} → Scanning l a n at room 0 at room
-scanning-none = record { laying = laying-none; short = omega arith }
-
-module _ {l : Listing} {a n at k next : ℕ} {room mid : List ℕ} (x : Scanning l a n at room k next mid) where
-  pub scanning-more : {p : ℕ} {after : List ℕ} → k < n → Laid next (scanLine l a k) mid p after → p ≤ next + scanBytes → Scanning l a n at room (k + 1) p after
-  scanning-more h y s = record { laying = growing-more (x .laying) h y; short = omega (arith, x .short) }
-
-  pub scanning-end : n ≤ k → Laid at (scanLines l a n) room next mid
-  scanning-end h = laid-as (scan-pieces l a n) (growing-end (x .laying) h)
-
-  pub scanning-short : next ≤ at + scanBytes * n
-  scanning-short = omega (arith, x .short, growing-stop (x .laying))
 
 -- ---- a loop over the moves
 

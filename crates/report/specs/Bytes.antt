@@ -13,6 +13,10 @@ scanBytes = 47
 abbrev pub moveBytes : ℕ
 moveBytes = 69
 
+-- the line of a difference: four numbers and the end of the line
+abbrev pub differenceBytes : ℕ
+differenceBytes = 84
+
 -- the first lines where some file could not be read: their words, two numbers and the ends of the lines
 abbrev pub firstBytes : ℕ
 firstBytes = 57

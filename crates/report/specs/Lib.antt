@@ -1,4 +1,5 @@
 pub mod Bytes
+pub mod Comparison
 pub mod Laying
 pub mod Steps
 pub mod Tracing

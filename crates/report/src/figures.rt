@@ -5,21 +5,13 @@ use crate::text::put_form;
 use crate::text::put_text;
 use job::Job;
 use rules::RunFigures;
-use rules::Verdict;
 ghost use mathlib.Core.Bool.{true};
 ghost use Prim.Native.Nat.{_≤_};
 ghost use lib.ListN.{length};
-ghost use Rattle.rules.specs.Report.{refusal, firstLines, figureLines, ofFiles};
-ghost use Rattle.report.specs.Bytes.{firstBytes, figureBytes, reportBytes};
+ghost use Rattle.rules.specs.Report.{firstLines, figureLines, ofFiles};
+ghost use Rattle.report.specs.Bytes.{firstBytes, reportBytes};
 ghost use Rattle.report.specs.Laying.{Near, Laid};
 ghost use Rattle.report.specs.Steps.{EachFile, settledLine};
-
-pub(crate) fn put_refusal(out: &mut [u8], v: Verdict) -> usize
-    ensures { λ r. ⌜ Laid 0 (refusal v) (now (out .entry)) r (now (out .exit)) ⌝ }
-    ensures { λ r. ⌜ r ≤ figureBytes ⌝ }
-{
-    put_form(out, 0, b"refused 0 1\n", &[v.number as u64, v.place as u64])
-}
 
 // `done` only where every file could be read; else `partial` and the two numbers.
 pub(crate) fn put_first(out: &mut [u8], unread: usize, holding: usize) -> usize

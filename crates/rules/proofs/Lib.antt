@@ -43,3 +43,5 @@ pub mod Balancing
 pub mod Unread
 pub mod Worked
 pub mod Wider
+pub mod Compare
+pub mod Comparing

@@ -17,3 +17,5 @@ pub mod Theorems
 pub mod RoundTrip
 pub mod Balancing
 pub mod Wider
+pub mod Compare
+pub mod Comparing

@@ -76,3 +76,18 @@ pub struct BalanceFigures {
     pub unread: usize,
     pub holding: usize,
 }
+
+// A difference of two jobs: what differs, its number, and the old and the new figure.
+pub struct Difference {
+    pub what: u16,
+    pub number: u16,
+    pub old: u16,
+    pub new: u16,
+}
+
+// The answer of a comparison: the number of differences; or a refusal and the job that it is of, 1 or 2, or 0 where the lent list is too short, and then the number of records needed.
+pub struct Compared {
+    pub job: usize,
+    pub verdict: Verdict,
+    pub count: usize,
+}

@@ -27,7 +27,7 @@ returns : tie.Need-returns
 returns c =
     let got = c .before .before .before .before .before .before .read-some in
     let a = c .before .before .before .before .before .before .before .before .before .args in
-    let e = drop-paste (a .room .now) (a .at) (take (got .result) (got .last .0)) (got .result) (omega arith) (omega arith) in
+    let e = drop-paste (a .room .now) (a .at) (take (got .result) (got .last .1 .0)) (got .result) (omega arith) (omega arith) in
     (search needs, cc e)
 
 pub take-block-spec : {M : Type 1} → statement M

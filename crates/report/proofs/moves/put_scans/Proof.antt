@@ -1,14 +1,15 @@
 use Prim.Native.Nat.{_-_}
 use native.Mathlib.Omega.{arith}
+use Rattle.report.specs.Bytes.{scanBytes}
 use Rattle.report.specs.Tracing.{scanLists}
-use Rattle.report.proofs.Traces.{Scanning, scanning-none, scanning-more, scanning-end, scanning-short}
-use Rattle.report.proofs.Laying.{laid-length}
+use Rattle.report.proofs.Traces.{scanLine, scan-pieces}
+use Rattle.report.proofs.Laying.{laid-length, laid-as, Lining, lining-none, lining-more, lining-end, lining-short}
 use borrow.Author.Needs.{needs}
 use Rattle.report.proofs.moves.put_scans.Statement.{statement}
 use Rattle.report.proofs.moves.put_scans.Tie as tie
 
 abbrev Inv-loop : tie.InvT-loop
-Inv-loop out₀ at recipes kinds first end a n next₀ k₀ out next k = Scanning (scanLists recipes kinds) a n at out₀ k next out
+Inv-loop out₀ at recipes kinds first end a n next₀ k₀ out next k = Lining scanBytes (scanLine (scanLists recipes kinds) a) n at out₀ k next out
 
 abbrev μ-loop : tie.MeasureT-loop
 μ-loop out₀ at recipes kinds first end a n next₀ k₀ out next k = n - k
@@ -20,7 +21,7 @@ cast-n : tie.Need-cast-n Inv-loop μ-loop
 cast-n c = search needs
 
 loop-holds : tie.Need-loop-holds Inv-loop μ-loop
-loop-holds c = scanning-none
+loop-holds c = lining-none
 
 add-put-scan : tie.Need-add-put-scan Inv-loop μ-loop
 add-put-scan c = search needs
@@ -50,13 +51,13 @@ loop-less : tie.Need-loop-less Inv-loop μ-loop
 loop-less c = search needs
 
 loop-again : tie.Need-loop-again Inv-loop μ-loop
-loop-again c = scanning-more (c .before .before .before .before .before .before .before .loop .inv) (c .before .before .before .before .before .before .loop-test .taken) (c .before .before .put-scan .ensures .0) (c .before .before .put-scan .ensures .1)
+loop-again c = lining-more (c .before .before .before .before .before .before .before .loop .inv) (c .before .before .before .before .before .before .loop-test .taken) (c .before .before .put-scan .ensures .0) (c .before .before .put-scan .ensures .1)
 
 same-length : tie.Need-same-length Inv-loop μ-loop
 same-length c = laid-length (c .before .loop .inv .laying .laid)
 
 returns : tie.Need-returns Inv-loop μ-loop
-returns c = (scanning-end (c .before .loop .inv) (c .loop-test .left), scanning-short (c .before .loop .inv))
+returns c = (laid-as (scan-pieces _ _ _) (lining-end (c .before .loop .inv) (c .loop-test .left)), lining-short (c .before .loop .inv))
 
 pub put-scans-spec : {M : Type 1} → statement M
 put-scans-spec =

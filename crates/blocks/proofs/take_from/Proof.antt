@@ -5,14 +5,14 @@ use lib.ListN.{length, drop}
 use lib.Seq.{drop-drop}
 use borrow.Author.Needs.{needs}
 use Rattle.blocks.proofs.Counted.{counts}
-use Rattle.blocks.proofs.take.Statement.{statement}
-use Rattle.blocks.proofs.take.Tie as tie
+use Rattle.blocks.proofs.take_from.Statement.{statement}
+use Rattle.blocks.proofs.take_from.Tie as tie
 
 abbrev Inv-loop : tie.InvT-loop
-Inv-loop room₀ most end at₀ room at = (length room ≡ length room₀) × (at ≤ end) × (drop at room ≡ drop at room₀)
+Inv-loop fd room₀ most end at₀ room at = (length room ≡ length room₀) × (at ≤ end) × (drop at room ≡ drop at room₀)
 
 abbrev μ-loop : tie.MeasureT-loop
-μ-loop room₀ most end at₀ room at = end - at
+μ-loop fd room₀ most end at₀ room at = end - at
 
 least-requires : tie.Need-least-requires Inv-loop μ-loop
 least-requires c κs = search needs
@@ -58,8 +58,8 @@ same-length-2 c = search needs
 returns-2 : tie.Need-returns-2 Inv-loop μ-loop
 returns-2 c = ((counts _ _ (omega arith), omega arith), c .before .loop .inv .2)
 
-pub take-spec : {M : Type 1} → statement M
-take-spec =
+pub take-from-spec : {M : Type 1} → statement M
+take-from-spec =
     tie.close
     (tie.spec
     Inv-loop
