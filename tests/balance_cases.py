@@ -19,13 +19,21 @@ import itertools
 import random
 from typing import NamedTuple
 
-from job_cases import CHAIN, FAULTS, FROM_7_ON, UNREAD_FILES, UP_TO_6, figures_and_lists
-from make_cases import SEED, bad_starts, large
+from job_cases import (
+    CHAIN,
+    EMPTY_VAULTS,
+    FAULTS,
+    FROM_7_ON,
+    UNREAD_FILES,
+    UP_TO_6,
+    figures_and_lists,
+)
+from make_cases import LAST_FREE, SEED, bad_starts, large
 from program_files import frame, heading, numbers
 
 import planner
 import samples
-from planner import A, B, FREE, PINNED, UNREAD
+from planner import A, B, FREE, MOST_FILES, PINNED, UNREAD
 
 # The most numbers of any list but the scratch, and of a scratch.
 MOST = 4097
@@ -198,9 +206,57 @@ def wider_randoms():
         yield Call(f"wider random {i}", job, lent(job))
 
 
+def vault_faults():
+    """Each fault beside 10, with a scratch that serves and one that does not; the ratio's
+    7 is a num of 0. A is to hold a twelfth: of 4 or 12 that is no more than smax."""
+    for number in BALANCE_FAULTS:
+        fields = {"num": 0} if number == 7 else BALANCE_FAULTS[number]
+        job = IN_A.changed(den=12).changed(**fields)
+        yield Call(f"fault {number} and 10", job, scratch_of(job))
+        yield Call(f"fault {number} and 10, short", job, used(len(scratch_of(job)) - 1))
+    yield from off("10", IN_A.changed(den=12), -1, 0, 1)
+    yield from off("10 from B", IN_B.changed(num=11, den=12), -1, 0, 1)
+
+
+def large_vaults():
+    """A thousandth of the largest job is more than one file, and less than two."""
+    for side, num in ((A, 1), (B, 999)):
+        for start, k in ((side, 1), (1 - side, 1), (1 - side, 2)):
+            job = large(4, sides=[start] * 1024, num=num, den=1000, k=k)
+            name = f"large at {num} of 1000, all in {'AB'[start]}, k is {k}"
+            yield from off(name, job, 0)
+
+
+def vault_randoms():
+    """Few files and a ratio near an end: of some a vault may just not be empty."""
+    rng = random.Random(SEED + 8)
+    for i, (k, side) in enumerate(itertools.product((1, 2, 3, 4), (A, B, None) * 3)):
+        files = rng.randint(4 * k, 12 * k)
+        job = samples.random_job(rng, files, files, top_size=2, den=rng.randint(3, 8))
+        sides = [rng.randint(A, B) if side is None else side for _ in range(files)]
+        job = job.changed(sides=sides, num=rng.choice([1, job.den - 1]), k=k)
+        yield Call(f"vault random {i}", job, lent(job))
+
+
+def past_10(calls):
+    """What these calls showed before order 8 where 10 now hides it, each past 10 with a
+    scratch as much longer than it must be. One has 1,024 files, and is below."""
+    for name, job, scratch in calls:
+        if planner.balance(job, scratch).number == 10 and job.files < MOST_FILES:
+            step = len(scratch) - planner.scratch_numbers(job)
+            past = samples.past_10(job)
+            yield Call(f"{name}, past 10", past, lent(past, step))
+
+
+def largest_past_10():
+    """One file is free, beside a pinned one in each vault."""
+    job = large(4, sides=[A] + [B] * 1023, marks=LAST_FREE)
+    yield from off("large, all but three unread", job, 0)
+
+
 # ---- The cases
 
-CASES = (
+OLDER_CASES = (
     *called("the chain", CHAIN, IN_A, IN_B),
     *called("two and three files", samples.two_files(), samples.three_files()),
     *of_samples(),
@@ -226,6 +282,17 @@ CASES = (
     *wider_randoms(),
 )
 
+CASES = (
+    *OLDER_CASES,
+    # Order 8.
+    *called("", *short(*EMPTY_VAULTS)),
+    *vault_faults(),
+    *large_vaults(),
+    *vault_randoms(),
+    *past_10(OLDER_CASES),
+    *largest_past_10(),
+)
+
 
 # ---- What the program reads, and what it must write
 
@@ -243,6 +310,8 @@ def line(told):
 
 def told(case):
     answer = planner.balance(case.job, case.scratch)
+    # Order 8: no vault is left empty.
+    assert answer.number or 0 < answer.size_a < case.job.total, case.name
     figures = (answer.number, answer.place, answer.moves)
     return (
         case.name

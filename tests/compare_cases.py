@@ -182,7 +182,7 @@ def both_refused():
 
 def read_up_to_6():
     """What only a run refuses is compared."""
-    for fault in faults.IN_ORDER[-3:]:
+    for fault in (*faults.IN_ORDER[-3:], faults.EMPTY_VAULT):
         (number, _), _ = fault
         data = faults.stored_chain([fault])
         yield from off(f"{number} in job 2", write_job(CHAIN), data, -1, 0, 1)
@@ -224,12 +224,13 @@ def nights():
     for name, job in (
         ("chain", CHAIN),
         ("partial chain", samples.partial_chain()),
+        # Before order 8, which refuses it as 10; and one of the same k that is planned.
         ("chain at 2", CHAIN.changed(k=2)),
+        ("held chain at 2", samples.held_chain(k=2)),
         ("mill at 53", mill().changed(num=53, den=100)),
     ):
-        old = write_job(job)
-        new, _ = planner.resettle(old)
-        yield from off(f"{name} and its night", old, new, -1, 0)
+        after = job.changed(sides=planner.all_passes(job)[-1].sides)
+        yield from jobs_off(f"{name} and its night", job, after, -1, 0)
     old = write_job(mill())
     new, _ = planner.balance_stored(old)
     yield from off("mill and its start", old, new, 0)

@@ -13,7 +13,7 @@ that hold one, of its measure.
 import sys
 from typing import NamedTuple
 
-from make_cases import large
+from make_cases import LAST_FREE, large
 from program_files import frame, heading, keep, numbers
 
 import planner
@@ -27,6 +27,8 @@ FLIPPED = CHAIN.changed(sides=[1, 0, 1, 0])
 # The largest job, its pins in recipes of four, and in four recipes.
 LARGE = large(4)
 LONG = large(1024)
+# As LAST_FREE: one pinned in A, one in B, and the first file is free.
+FIRST_FREE = [FREE, *[UNREAD] * 5, PINNED, *[UNREAD] * 4, PINNED, *[UNREAD] * 1012]
 
 
 class View(NamedTuple):
@@ -77,12 +79,12 @@ def lopsided(*rows):
     ]
 
 
-def heavy_first(*rows):
-    """1,024 files, the first of size 1,023 and the others of 1, all of these on the
+def heavy_first(*rows, size=1023):
+    """1,024 files, the first of this size and the others of 1, all of these on the
     other side but so many: its mark, its side, and how many."""
     return [
         LARGE.changed(
-            sizes=[1023] + [1] * 1023,
+            sizes=[size] + [1] * 1023,
             sides=[side] * (1 + beside) + [1 - side] * (1023 - beside),
             marks=[mark] + [0] * 1023,
         )
@@ -456,7 +458,7 @@ VIEWS = (
     *views(LONG.bounds, LONG.pins, 3, 4),
 )
 
-CASES = (
+OLDER_CASES = (
     UP_TO_6
     + FROM_7_ON
     + SEVERAL_FAULTS
@@ -465,6 +467,66 @@ CASES = (
     + UNREAD_FILES
     + WIDER_WINDOWS
 )
+
+# Order 8. Those before it that 10 refuses now stay, and are shown again past it.
+EMPTY_VAULTS = (
+    "no 10",
+    *(job for _, job in samples.vault_jobs().values()),
+    "both halves at each k",
+    *(job for _, job in samples.at_each_k(samples.vault_edges).values()),
+    *(job for _, _, job in samples.at_each_k(samples.vault_starts).values()),
+    "10 and a fault",
+    # The chain, of which A is to hold a quarter: 10 stands after 8 and before 9.
+    *(faulty(number, den=4) for number in FAULTS if number != 7),
+    *ratios((0, 4), (4, 4), (5, 4), (0, 0), (1, 1001)),
+    *(faulty(number, num=3, den=4) for number in (6, 8)),
+    CHAIN.changed(num=3, den=4, sides=[1, 1, 1, 1]),
+    *samples.at_each(samples.ANY_K, CHAIN.changed(den=4)),
+    "10 in the largest job",
+    # W is 1,024, and a thousandth of it more than one file and less than two.
+    *(
+        LARGE.changed(sizes=[size] * 1024, num=num, den=1000, k=k)
+        for size in (1, 65535)
+        for num in (1, 999)
+        for k in (1, 2)
+    ),
+    # A file of 1,022 up to 1,024, and 1,023 of 1: both halves missed by 1, hit, and
+    # within by 1.
+    *(job for size in (1022, 1023, 1024) for job in heavy_first((0, 0, 2), size=size)),
+)
+
+
+def past_10(cases):
+    """What these calls showed before order 8 where 10 now hides it, behind a heading for
+    each of theirs. Those of 1,024 files have no room for more: they are below."""
+    section = None
+    for case in cases:
+        if isinstance(case, str):
+            section = case
+        elif isinstance(case, planner.Job) and hidden_by_10(case):
+            if section:
+                yield f"{section}, past 10"
+                section = None
+            yield samples.past_10(case)
+
+
+def hidden_by_10(job):
+    return planner.check(job) == (10, 0) and job.files < planner.MOST_FILES
+
+
+SHOWN_AGAIN = (
+    *past_10(OLDER_CASES),
+    "largest, past 10",
+    # The heavy file is less by 1 than all others.
+    *heavy_first((0, 0, 2), (0, 1, 2), size=1022),
+    # The last of two files of 65,535, of which the other is pinned in A.
+    LARGE.changed(sizes=[1] * 1022 + [65535] * 2, marks=[FREE] * 1022 + [PINNED, FREE]),
+    # The first file alone is free, or the last, beside a pinned one in each vault.
+    LARGE.changed(marks=FIRST_FREE),
+    LARGE.changed(marks=LAST_FREE),
+)
+
+CASES = OLDER_CASES + EMPTY_VAULTS + SHOWN_AGAIN
 
 
 # ---- What the program reads, and what it must write

@@ -5,6 +5,8 @@
     python3 tests/make_cases.py --write DIR      DIR/NAME.job and DIR/NAME.report of all
     python3 tests/make_cases.py --examples DIR   the same of the examples alone
     python3 tests/make_cases.py --program DIR    DIR/stdin and DIR/stdout of the program `cases`
+    python3 tests/make_cases.py --check DIR      whether these are as made here, and whether the
+                     reports and the jobs show what order 8 asks of them
     python3 tests/make_cases.py --compare PROGRAM
                      run the program on every job and compare what it prints
     python3 tests/make_cases.py --compare-traces PROGRAM
@@ -377,12 +379,13 @@ def stored_starts(jobs):
 
 
 def then_run(jobs):
-    """Those of which files are moved, with the balanced sides: none is refused."""
+    """Those of which files are moved, with the balanced sides: none is refused but as
+    10, by which the balancing refuses it too."""
     for name, job in jobs.items():
-        answer = planner.balance(job)
-        if answer.moves:
-            after = job.changed(sides=answer.sides)
-            assert planner.check(after) == (0, 0), f"{name} is not balanced"
+        after = job.changed(sides=samples.sides_in_window(job))
+        if after.sides != job.sides:
+            number, _ = planner.check(after)
+            assert number == planner.balance(job).number, f"{name} is not balanced"
             yield f"{name}_then_run", write_job(after)
 
 
@@ -558,10 +561,75 @@ def wider_windows():
     yield from large_wider_jobs()
 
 
+def vault_pairs():
+    """Order 8's fault of the chain beside each other one."""
+    for fault in faults.BEFORE_10:
+        name = f"vault_pair_{fault_name(fault)}_and_10_at_0"
+        yield name, faults.stored_chain([fault, faults.EMPTY_VAULT])
+    for fault in faults.AFTER_10:
+        name = f"vault_pair_10_at_0_and_{fault_name(fault)}"
+        yield name, faults.stored_chain([faults.EMPTY_VAULT, fault])
+
+
+@functools.cache
+def vault_starts():
+    """Starts to be balanced where a vault may just not be empty, by name."""
+    found = samples.at_each_k(samples.vault_starts)
+    return {f"vault_start_{name}": job for name, (_, _, job) in found.items()}
+
+
+def large_vaults():
+    """One file of many in A, and in B: a thousandth of W is smax, and more than it."""
+    for side, num in ((A, 1), (B, 999)):
+        name = "ab"[side]
+        for files in (1000, 1001):
+            sides = [side] + [1 - side] * (files - 1)
+            job = wide(files, sides=sides, num=num, den=1000, cap=1)
+            yield f"vault_{name}_of_{files}", write_job(job)
+        sides = [side] + [1 - side] * 1023
+        for size, k in ((1, 1), (1, 2), (65535, 1), (65535, 2)):
+            fields = {"sizes": [size] * 1024, "num": num, "den": 1000, "k": k}
+            job = large(4, sides=sides, cap=1, **fields)
+            yield f"large_vault_{name}_of_{size}_at_{k}", write_job(job)
+
+
+def vaults():
+    """Order 8: no vault may be emptied."""
+    named = {**samples.vault_jobs(), **samples.at_each_k(samples.vault_edges)}
+    for name, (_, job) in named.items():
+        yield f"vault_{name}", write_job(job)
+    yield from vault_pairs()
+    yield from stored_starts(vault_starts())
+    yield from then_run(vault_starts())
+    yield from large_vaults()
+
+
+def refused_as_10(data):
+    """The job in these bytes, if 10 is what a run answers."""
+    number, _, _, job = planner.read_job(data)
+    return job if number == 0 and planner.check(job) == (10, 0) else None
+
+
+# Three readable files in recipes of their own: one pinned in A, one in B, the last free.
+LAST_FREE = [PINNED, *[UNREAD] * 4, PINNED, *[UNREAD] * 1017, FREE]
+# Where there is no room for a file more.
+PAST_10 = {"large_unread_but_one": large(4, marks=LAST_FREE)}
+
+
+def shown_again():
+    """What a case from before order 8 showed of a pass or a refusal, where 10 now hides
+    it: the same past 10."""
+    for name, data in older_cases().items():
+        job = refused_as_10(data)
+        if job is not None:
+            past = PAST_10.get(name) or samples.past_10(job)
+            yield f"{name}_past_10", write_job(past)
+
+
 EXAMPLES = ("chain", "mill", "mill_at_53")
 
 
-GROUPS = (
+OLDER_GROUPS = (
     own_cases,
     limits,
     refusals,
@@ -581,15 +649,29 @@ GROUPS = (
     unread,
     wider_windows,
 )
+GROUPS = (vaults, shown_again)
+
+
+def named_by(groups):
+    """Every name of these groups with its bytes, in a fixed order."""
+    found = {}
+    for name, data in itertools.chain.from_iterable(group() for group in groups):
+        assert name not in found, f"two cases are named {name}"
+        found[name] = data
+    return found
+
+
+@functools.cache
+def older_cases():
+    """Those from before order 8."""
+    return named_by(OLDER_GROUPS)
 
 
 def cases():
     """Every name with its bytes, in a fixed order."""
-    found = {}
-    for name, data in itertools.chain.from_iterable(group() for group in GROUPS):
-        assert name not in found, f"two cases are named {name}"
-        found[name] = data
-    return found
+    older, newer = older_cases(), named_by(GROUPS)
+    assert not older.keys() & newer.keys(), "two cases have one name"
+    return {**older, **newer}
 
 
 def write(folder, named):
@@ -604,11 +686,102 @@ def framed(name, data):
     return frame(name.encode()) + frame(data)
 
 
+def reports(named):
+    return {name: planner.run_stored(data) for name, data in named.items()}
+
+
+def program(named, told):
+    """What the program `cases` reads, and what it must write of it: by file."""
+    return {
+        "stdin": b"".join(framed(*case) for case in named.items()),
+        "stdout": "".join(f"{name}\n{report}" for name, report in told.items()).encode(),
+    }
+
+
 def write_program(folder, named):
-    """What the program `cases` reads, and what it must write of it."""
-    (folder / "stdin").write_bytes(b"".join(framed(*case) for case in named))
-    told = [f"{name}\n{planner.run_stored(data)}" for name, data in named]
-    (folder / "stdout").write_text("".join(told))
+    for file, data in program(named, reports(named)).items():
+        (folder / file).write_bytes(data)
+
+
+# ---- What order 8 asks of the cases
+
+
+def sizes_of(report):
+    """The sizes that a report shows, or none where it is a refusal."""
+    lines = [line.split() for line in report.splitlines()]
+    return [int(size) for head, *sizes in lines if head == "size" for size in sizes]
+
+
+def see_no_empty_vault(told):
+    """ "In no case of the run does a report show a size of 0." """
+    shown = {name: sizes_of(report) for name, report in told.items()}
+    assert [name for name, sizes in shown.items() if 0 in sizes] == [], "an empty vault"
+    assert all(len(sizes) in (0, 2) for sizes in shown.values()), "not two sizes"
+    return sum(1 for sizes in shown.values() if sizes)
+
+
+def see_both_halves(named):
+    """num·W against den·k·smax, and the same of B's share: at each k less by 1, equal and
+    more by 1, each alone and with the answer that is asked for; and both equal at once."""
+    seen = set()
+    for data in named.values():
+        number, _, _, job = planner.read_job(data)
+        if number or planner.refusal(job, True, 8) != (0, 0):
+            continue
+        slack = job.den * job.k * job.largest
+        off_a = job.num * job.total - slack
+        off_b = (job.den - job.num) * job.total - slack
+        assert (planner.check(job) == (10, 0)) == (min(off_a, off_b) <= 0), "10 is wrong"
+        seen |= {(job.k, "a", off_a)} if off_b > 1 else set()
+        seen |= {(job.k, "b", off_b)} if off_a > 1 else set()
+        seen |= {(job.k, "both", off_a)} if off_a == off_b else set()
+    for k in (1, *samples.WIDER):
+        for half, off in itertools.product("ab", (-1, 0, 1)):
+            assert (k, half, off) in seen, (k, half, off)
+        assert {(k, "both", 0), (k, "both", 1)} <= seen, (k, "both")
+
+
+def planned(job):
+    """What a run shows of a job when 10 is not asked: its number, or all but the sizes
+    and the sides of the files that stand behind the job's own."""
+    if planner.find_9(job, True) is not None:
+        return 9
+    answers = planner.all_passes(job)
+    return [
+        (one.cut_before, one.cut_after, one.kept, one.scans, one.visits)
+        + (one.move_files[: one.tried], one.move_gains[: one.tried])
+        + (one.move_cuts[: one.tried], one.scan_recipes, one.scan_kinds)
+        for one in answers
+    ]
+
+
+def see_shown_again(named):
+    """Each older case that is refused as 10 has one beside it that is not, and that shows
+    what it would have shown."""
+    count = 0
+    for name, data in older_cases().items():
+        job = refused_as_10(data)
+        if job is not None:
+            _, _, _, past = planner.read_job(named[f"{name}_past_10"])
+            assert planner.check(past) in ((0, 0), (9, 0)), name
+            assert planned(past) == planned(job), name
+            count += 1
+    return count
+
+
+def check(folder, named):
+    """What the script exits with."""
+    told = reports(named)
+    made = program(named, told).items()
+    wrong = [file for file, data in made if (folder / file).read_bytes() != data]
+    for file in wrong:
+        print(f"{folder / file}: differs")
+    runs = see_no_empty_vault(told)
+    see_both_halves(named)
+    again = see_shown_again(named)
+    print(f"{len(named)} stored jobs, {runs} of them planned, and no vault empty")
+    print(f"{again} from before order 8 are refused as 10, and shown again past it")
+    return min(len(wrong), 1)
 
 
 def shown(name, data):
@@ -663,7 +836,9 @@ def main(words):
     elif words[0] == "--examples":
         write(pathlib.Path(words[1]), [(name, named[name]) for name in EXAMPLES])
     elif words[0] == "--program":
-        write_program(pathlib.Path(words[1]), named.items())
+        write_program(pathlib.Path(words[1]), named)
+    elif words[0] == "--check":
+        return check(pathlib.Path(words[1]), named)
     elif words[0] in COMPARED:
         return min(compare(words[1], named.items(), COMPARED[words[0]]), 1)
     else:

@@ -31,7 +31,7 @@ from program_files import frame, heading, keep
 
 import planner
 from planner import FREE, PINNED, UNREAD
-from samples import ANY_K, at_each
+from samples import ANY_K, at_each, vault_jobs
 
 # What every byte of an output list is before the call.
 FILLED = b"\xa5"
@@ -184,6 +184,12 @@ CASES = (
     *off(CHAIN.changed(k=2), -512, -1, 1, 2, 512),
     *off(CHAIN.changed(k=5), -512, -1, 1, 512),
     *off(TWO_FILE_BLOCKS.changed(k=4), -512, 0, 512),
+    # Order 8.
+    "jobs that a run refuses as 10",
+    *called(*(job for number, job in vault_jobs().values() if number == 10)),
+    *called(*(faulty(number, den=4) for number in (6, 8, 9))),
+    *called(*at_each((4, 5), CHAIN.changed(den=4))),
+    *off(CHAIN.changed(den=4), -1, 1),
 )
 
 

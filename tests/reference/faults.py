@@ -70,6 +70,14 @@ IN_ORDER = (
 )
 
 
+# Order 8: A is to hold a quarter, and may hold 0. It stands between 8 and 9. Beside it the
+# ratio's 7 is a num of 0, since one of 2 is below this den.
+EMPTY_VAULT = ((10, 0), lambda blocks: blocks.set_value(0, 4, 4))
+NO_NUM = ((7, 0), lambda blocks: blocks.set_value(0, 3, 0))
+BEFORE_10 = tuple(NO_NUM if fault[0] == (7, 0) else fault for fault in IN_ORDER[:-1])
+AFTER_10 = IN_ORDER[-1:]
+
+
 # Order 6: a header with seven values that holds no k, which is 22 of block 0.
 WRONG_SEVENTH = ((22, 0), lambda blocks: blocks.set_value(0, 6, 5))
 

@@ -211,20 +211,41 @@ def find_9(job, lent_ok):
     return place_if(not balanced(job, size_of_a(job, job.sides)))
 
 
-FINDERS = (find_1, find_2, find_3, find_4, find_5, find_6, find_7, find_8, find_9)
+def find_10(job, lent_ok):
+    """ "A job whose window would allow a vault of size 0", A or B."""
+    goal, slack = job.num * job.total, job.den * job.tolerance
+    return place_if(goal <= slack or goal + slack >= job.den * job.total)
+
+
+# By number, in the order in which they run: 10 "stands after 8 and before 9".
+FINDERS = {
+    1: find_1,
+    2: find_2,
+    3: find_3,
+    4: find_4,
+    5: find_5,
+    6: find_6,
+    7: find_7,
+    8: find_8,
+    10: find_10,
+    9: find_9,
+}
 
 
 def refusal(job, lent_ok, last):
-    """ "Checks run in the order 1 to 9 and the first that applies is the answer." """
-    for number, find in enumerate(FINDERS[:last], start=1):
+    """Checks run in this order, up to the one numbered last, "and the first that
+    applies is the answer"."""
+    for number, find in FINDERS.items():
         place = find(job, lent_ok)
         if place is not None:
             return number, place
+        if number == last:
+            break
     return 0, 0
 
 
 def check(job, lent_ok=True):
-    """The number 0 to 9 and its place. lent_ok: the lists lent have their lengths."""
+    """The number 0 to 10 and its place. lent_ok: the lists lent have their lengths."""
     return refusal(job, lent_ok, 9)
 
 
@@ -557,8 +578,23 @@ def choose_from(job, sides, side):
     return max(files, key=lambda file: (gains[file], -file))
 
 
+def balancing_moves(job):
+    """The sides, and the number of moves made, where some start is balanced.
+
+    "While A is too large ...; while A is too small, the same from B."
+    """
+    sides = list(job.sides)
+    moves = 0
+    for side, off in ((A, too_large), (B, too_small)):
+        while off(job, size_of_a(job, sides)):
+            file = choose_from(job, sides, side)
+            sides[file] = 1 - side
+            moves += 1
+    return sides, moves
+
+
 def balance(job, scratch=None):
-    """ "Source 001's special first pass": "refusals are 1 to 8 as before, and 9".
+    """ "Source 001's special first pass": "refusals are 1 to 8 as before", 10, "and 9".
 
     "It is lent the job and a pass's scratch, which holds zeros afterwards as
     there": the numbers named are 0, "any beyond stay". Without a scratch it is
@@ -566,20 +602,14 @@ def balance(job, scratch=None):
     """
     named = scratch_numbers(job)
     lent = [0] * named if scratch is None else list(scratch)
-    number, place = refusal(job, len(lent) >= named, 8)
+    # "The balancing call gives 10 too; for jobs past it, its 9 keeps its meaning."
+    number, place = refusal(job, len(lent) >= named, 10)
     if number == 0 and no_start_is_balanced(job):
         number = 9
     if number:
         # "No lent list changes."
         return BalanceAnswer(number, place, sides=list(job.sides), scratch=lent)
-    sides = list(job.sides)
-    moves = 0
-    # "While A is too large ...; while A is too small, the same from B."
-    for side, off in ((A, too_large), (B, too_small)):
-        while off(job, size_of_a(job, sides)):
-            file = choose_from(job, sides, side)
-            sides[file] = 1 - side
-            moves += 1
+    sides, moves = balancing_moves(job)
     return BalanceAnswer(
         moves=moves,
         cut_after=cut(job, sides),

@@ -1,8 +1,11 @@
 """Jobs for tests: those that the documents give, those at the edges of the window,
-those with unread files, those with a wider window, those to be compared, and random
-ones."""
+those with unread files, those with a wider window, those to be compared, those whose
+window reaches an empty vault or just not, and random ones."""
 
-from planner import A, B, FREE, PINNED, UNREAD, Job, balance, size_of_a
+from math import gcd
+
+from planner import A, B, FREE, PINNED, UNREAD, Job
+from planner import balancing_moves, no_start_is_balanced, refusal, size_of_a
 
 
 def chain(cap=0):
@@ -169,9 +172,9 @@ def unbalanced_jobs():
         "too_small_by_one": (0, 1, in_a_row([], under)),
         "all_in_a": (0, 6, in_a_row([], all_on(A, ones))),
         "all_in_b": (0, 6, in_a_row([], all_on(B, ones))),
-        # |A| at most 1, and at least 13.
-        "too_large_by_much": (0, 13, in_a_row([], all_on(A, ones), 1, 1000)),
-        "too_small_by_much": (0, 13, in_a_row([], all_on(B, ones), 999, 1000)),
+        # |A| at most 1, and at least 13: 10 since order 8.
+        "too_large_by_much": (10, 0, in_a_row([], all_on(A, ones), 1, 1000)),
+        "too_small_by_much": (10, 0, in_a_row([], all_on(B, ones), 999, 1000)),
         # The pinned file leaves |A| at 9 and more, or at 5 and less.
         "impossible_from_above": (9, 0, in_a_row([(9, A)], all_on(B, [1] * 5))),
         "impossible_from_below": (9, 0, in_a_row([(9, B)], all_on(A, [1] * 5))),
@@ -210,8 +213,8 @@ def unbalanced_jobs():
         "gains_that_change_in_b": (0, 3, ring_and_row(B)),
         # The same: 2, 3 and 4 move, whose gain is 0.
         "files_on_no_recipe": (0, 3, few_in_recipes()),
-        # |A| at most 11 of 21: file 0 of size 1, and then 1 of size 9.
-        "small_file_first": (0, 2, in_a_row([], all_on(A, [1, 9, 1, 1, 9]), 1, 10)),
+        # |A| at most 11 of 21, and 0 is in the window too: 10 since order 8.
+        "small_file_first": (10, 0, in_a_row([], all_on(A, [1, 9, 1, 1, 9]), 1, 10)),
         # File 0, pinned, has a gain as great as any: those from the last on move.
         "pinned_file_first": (0, 6, in_a_row([(1, A)], all_on(A, [1] * 13))),
         # |A| at most 60,124.
@@ -308,8 +311,9 @@ def unread_jobs():
         # No recipe has two readable files; in the second all of these lie in B.
         "every_other": (0, 6, 11, with_unread(in_pairs, *range(0, 12, 2))),
         "every_other_in_a": (9, 6, 11, with_unread(row, *range(0, 12, 2))),
-        "all_but_the_first": (0, 11, 11, with_unread(row, *range(1, 12))),
-        "all_but_the_last": (0, 11, 11, with_unread(row, *range(11))),
+        # W is smax: 10 since order 8.
+        "all_but_the_first": (10, 11, 11, with_unread(row, *range(1, 12))),
+        "all_but_the_last": (10, 11, 11, with_unread(row, *range(11))),
         # The recipe of five: how many of its files can be read, and where they lie.
         "recipe_whole": (0, 0, 0, five),
         "recipe_with_3": (0, 2, 2, with_unread(five, 0, 3)),
@@ -317,17 +321,18 @@ def unread_jobs():
         "recipe_with_2_together": (0, 3, 2, with_unread(five, 0, 1, 3)),
         "recipe_with_1": (0, 4, 2, with_unread(five, 0, 1, 2, 3)),
         "recipe_with_none": (0, 5, 3, with_unread(five, 0, 1, 2, 3, 4)),
-        # Alone on its side of a recipe, which is not cut then; and alone in its vault.
+        # Alone on its side of a recipe, which is not cut then; and alone in its vault,
+        # which may be empty of readable ones by its ratio: 10 since order 8.
         "alone_in_a": (0, 1, 1, with_unread(all_free(around, [A, B, B, A, A]), 0)),
         "alone_in_b": (0, 1, 1, with_unread(all_free(around, [B, A, A, B, B]), 0)),
         "alone_in_vault_a": (
-            0,
+            10,
             1,
             1,
             with_unread(in_a_row([], [(7, A)] + [(1, B)] * 4, 1, 10), 0),
         ),
         "alone_in_vault_b": (
-            0,
+            10,
             1,
             1,
             with_unread(in_a_row([], [(7, B)] + [(1, A)] * 4, 9, 10), 0),
@@ -336,8 +341,8 @@ def unread_jobs():
         "archive_in_a": (0, 1, 1, archive_in_a),
         "archive_in_b": (0, 1, 1, archive_in_b),
         "archive_beside_b": (9, 1, 1, beside_b),
-        # The ratio that would suit if the archive counted.
-        "archive_at_its_ratio": (9, 1, 1, archive_in_a.changed(num=992, den=1000)),
+        # The ratio that would suit if the archive counted: 9, and 10 since order 8.
+        "archive_at_its_ratio": (10, 1, 1, archive_in_a.changed(num=992, den=1000)),
         "archives_both": (0, 2, 2, with_unread(archives, 0, 1)),
         "archives_one": (9, 1, 2, with_unread(archives, 1)),
         "archive_of_65535": (0, 1, 2, with_unread(heavy, 6)),
@@ -354,7 +359,8 @@ def unread_jobs():
         ),
         "all": (8, 4, 3, chained.changed(marks=[UNREAD] * 4)),
         "all_or_pinned": (8, 2, 3, chained.changed(marks=[1, 2, 1, 2])),
-        "all_or_pinned_but_one": (0, 2, 3, chained.changed(marks=[1, 2, 2, 0])),
+        # W is 2 and smax 1: 10 since order 8.
+        "all_or_pinned_but_one": (10, 2, 3, chained.changed(marks=[1, 2, 2, 0])),
     }
 
 
@@ -379,7 +385,8 @@ def unread_starts():
         # 9 of 13 are pinned in A; without that file W is 5.
         "heavy_pinned": (9, 0, with_unread(pinned_in_a, 5)),
         "heavy_unread": (0, 2, with_unread(pinned_in_a, 0)),
-        "one_free": (0, 0, with_unread(in_a, *range(13))),
+        # 10 since order 8.
+        "one_free": (10, 0, with_unread(in_a, *range(13))),
         "none_free": (8, 0, with_unread(in_a, *range(14))),
     }
 
@@ -465,14 +472,15 @@ def wider_jobs():
     beside_unread = with_unread(in_a_row([], beside), 0)
     # 0.984·W is 60,024, and |A| is 276 more.
     beside_pinned = in_a_row(beside[:1], beside[5:] + [(100, B)] * 4, 984, 1000)
-    # W is 18 without the unread file, and smax 3: |A| is 16, and may be 15 at k = 2.
+    # W is 18 without the unread file, and smax 3: |A| is 16, and may be 15 at k = 2. At
+    # 3 it may be 18.
     mixed = every_mark(PINNED, UNREAD, FREE, FREE, PINNED, FREE)
     mixed = mixed.changed(sizes=[8, 50, 3, 3, 2, 2], sides=[A, B, A, A, B, A])
     return {
-        # 0 and 4 are not balanced at k = 1: now the chain may end in one vault.
-        **{f"chain_at_{job.k}": (0, job) for job in at_each(WIDER, chain())},
-        "chain_in_a_at_2": (0, in_a.changed(k=2)),
-        "chain_in_b_at_2": (0, in_b.changed(k=2)),
+        # 0 and 4 are not balanced at k = 1, and are from 2 on: 10 since order 8.
+        **{f"chain_at_{job.k}": (10, job) for job in at_each(WIDER, chain())},
+        "chain_in_a_at_2": (10, in_a.changed(k=2)),
+        "chain_in_b_at_2": (10, in_b.changed(k=2)),
         # Twice 10 is 7 more than 13, and 2k is 4, 6 and 8.
         "archive_at_2": (9, archive().changed(k=2)),
         "archive_at_3": (9, archive().changed(k=3)),
@@ -482,8 +490,8 @@ def wider_jobs():
         "beside_pinned_at_2": (9, beside_pinned.changed(k=2)),
         "beside_pinned_at_3": (0, beside_pinned.changed(k=3)),
         "every_mark_at_2": (9, mixed.changed(k=2)),
-        "every_mark_at_3": (0, mixed.changed(k=3)),
-        "every_mark_capped_at_3": (0, mixed.changed(k=3, cap=1)),
+        "every_mark_at_3": (10, mixed.changed(k=3)),
+        "every_mark_capped_at_3": (10, mixed.changed(k=3, cap=1)),
     }
 
 
@@ -803,6 +811,178 @@ def changed_often(rng, job, times):
     return job
 
 
+# ---- Order 8: no vault may be emptied
+
+
+def pinned_files(size, side):
+    """Pinned files on a side, as (size, side, mark), of so much in all."""
+    whole, rest = divmod(size, 65535)
+    sizes = [65535] * whole + [rest] * (rest > 0)
+    return [(size, side, PINNED) for size in sizes]
+
+
+def past_10(job):
+    """A job that 10 refuses, and beside its files pinned ones on no recipe, as few units
+    in its ratio as take it past 10.
+
+    den·|A| less num·W is what it was, and so is smax: the same sides are balanced, and
+    every gain, move, scan and cut is as it would be without 10.
+    """
+    part = gcd(job.num, job.den)
+    in_a, in_b = job.num // part, (job.den - job.num) // part
+    slack = job.den * job.tolerance
+    goal_a, goal_b = job.num * job.total, (job.den - job.num) * job.total
+    units = 1 + max(
+        (slack - goal_a) // (job.den * in_a), (slack - goal_b) // (job.den * in_b)
+    )
+    more = pinned_files(units * in_a, A) + pinned_files(units * in_b, B)
+    return with_files(job, *more)
+
+
+def held_chain(**fields):
+    """The chain with a pinned file of 4 on no recipe in each vault, past 10 at each k."""
+    return with_files(chain(), (4, A, PINNED), (4, B, PINNED)).changed(**fields)
+
+
+def turned(job):
+    """The same with the vaults changed for one another."""
+    sides = [1 - side for side in job.sides]
+    return job.changed(sides=sides, num=job.den - job.num)
+
+
+def on_both_sides(found):
+    """Jobs about A by name, and beside each the one that says the same of B."""
+    both = {}
+    for name, (*told, job) in found.items():
+        both |= {f"a_{name}": (*told, job), f"b_{name}": (*told, turned(job))}
+    return both
+
+
+def third_in_a(files):
+    """So many free files of 1, one of them in A, which is to hold a third."""
+    return in_a_row([], [(1, A)] + [(1, B)] * (files - 1), 1, 3)
+
+
+def seven_of_1000(total, largest):
+    """Two free files of this size, one in each vault, and a pinned one in B: so much in
+    all, of which A is to hold seven thousandths."""
+    rest = total - 2 * largest
+    return in_a_row([(rest, B)], [(largest, A), (largest, B)], 7, 1000)
+
+
+# By k, W and smax such that 7·W is 1,000·k·smax less 1, just that, and 1 more.
+FINE_VAULTS = {
+    1: ((857, 6), (1000, 7), (143, 1)),
+    2: ((857, 3), (2000, 7), (1143, 4)),
+    3: ((857, 2), (3000, 7), (2143, 5)),
+    4: ((2857, 5), (4000, 7), (1143, 2)),
+}
+
+
+def vault_edges(k):
+    """Both halves of the test for 10, met and missed by 1, by name, each with the number
+    of its refusal, or 0."""
+    within, hit, missed = (seven_of_1000(*sizes) for sizes in FINE_VAULTS[k])
+    archive = 60000, A, UNREAD
+    halves = {
+        # W against 3k.
+        "within_by_1": (10, third_in_a(3 * k - 1)),
+        "hit": (10, third_in_a(3 * k)),
+        "missed_by_1": (0, third_in_a(3 * k + 1)),
+        # With pinned files in W; and unread ones, which are neither in W nor in smax.
+        "pinned_within_by_1": (10, within),
+        "pinned_hit": (10, hit),
+        "pinned_missed_by_1": (0, missed),
+        "unread_hit": (10, with_files(third_in_a(3 * k), archive)),
+        "unread_missed_by_1": (0, with_files(third_in_a(3 * k + 1), archive)),
+        # The pinned file is more than A may hold, whatever the free ones do: 9 but for
+        # 10, also from the balancing. W is 10k + 4, of which a tenth is at most 2k.
+        "pinned_too_large": (10, in_a_row([(10 * k, A)], [(2, B)] * 2, 1, 10)),
+        # This 9 the balancing would have mended: W is 4k, and all of it lies in A.
+        "all_there": (10, in_a_row([], [(1, A)] * 4 * k, 1, 4)),
+    }
+    # W is 2k and 2k + 1. Of 1/2 both halves of the test are one; m5 is the first at 1.
+    found = {
+        "both_hit": (10, in_a_row([], in_turn(1, 2 * k))),
+        "both_missed_by_1": (0, in_a_row([], in_turn(1, 2 * k + 1))),
+    }
+    return all_at(k, {**on_both_sides(halves), **found})
+
+
+def at_each_k(kind):
+    """What this makes of each k."""
+    return {
+        f"{name}_at_{k}": told for k in (1, *WIDER) for name, told in kind(k).items()
+    }
+
+
+def wide_products(files, last):
+    """So many free files of 65,535 and a last one, A and B in turn, under one pass."""
+    job = in_a_row([], in_turn(65535, files) + [(last, B)], 500, 1000)
+    return job.changed(cap=1)
+
+
+def vault_jobs():
+    """By name, with the number that a run refuses each as, or 0."""
+    m5 = two_files()
+    pinned_in_a = with_files(m5, (1, A, PINNED))
+    archive_in_a = with_files(m5, (60000, A, UNREAD))
+    by_ratio = in_a_row([(10, A)], [(1, B)] * 3, 10, 13)
+    return {
+        "m5": (10, m5),
+        **{f"m5_at_{job.k}": (10, job) for job in at_each(WIDER, m5)},
+        "m5_in_a": (10, m5.changed(sides=[A, A])),
+        "m5_in_b": (10, m5.changed(sides=[B, B])),
+        "m5_capped": (10, m5.changed(cap=1)),
+        "m5_at_1_of_1000": (10, m5.changed(den=1000)),
+        "m5_at_999_of_1000": (10, m5.changed(num=999, den=1000)),
+        # W is twice smax, and 1 more.
+        "half_in_one_file": (10, in_a_row([], [(2, A), (1, B), (1, B)])),
+        "less_than_half": (0, in_a_row([], [(3, A), (2, B), (2, B)])),
+        # A pinned file is in W: the two files may lie in one vault, and none is empty.
+        "pinned_in_w": (0, pinned_in_a),
+        "pinned_in_w_of_b": (0, turned(pinned_in_a)),
+        # And not in smax: with 10 for it 130 would be the edge, which is hit.
+        "pinned_not_in_smax": (0, by_ratio),
+        "pinned_not_in_smax_at_2": (0, by_ratio.changed(k=2)),
+        "archive": (9, archive()),
+        # It is the window that is asked: here no vault could be emptied.
+        "pinned_in_both": (10, in_a_row([(1, A), (1, B)], [(4, A)])),
+        # An unread file is not in W, where it would take m5 past 10.
+        "unread_not_in_w": (10, archive_in_a),
+        "unread_not_in_w_of_b": (10, turned(archive_in_a)),
+        # And not in smax, where it would take the chain to 10.
+        "unread_not_in_smax": (0, with_files(chain(), (60000, A, UNREAD))),
+        "pinned_and_unread": (0, with_files(pinned_in_a, (60000, B, UNREAD))),
+        # 8 stands before: also where W is 0, and where all files would be in smax.
+        "no_8_pinned": (8, m5.changed(marks=[PINNED] * 2)),
+        "no_8_unread": (8, m5.changed(marks=[UNREAD] * 2)),
+        "no_8_both": (8, m5.changed(marks=[PINNED, UNREAD], k=4)),
+        "no_8_pinned_in_a": (8, m5.changed(marks=[PINNED] * 2, sides=[A, A])),
+        # 7 stands before, for the ratio.
+        "no_7": (7, m5.changed(num=2)),
+        # 500·W is 2 to the 32nd and 204 more, and 1,000·W that and 704 more.
+        "num_w_over_32_bits": (0, wide_products(131, 4850)),
+        "den_w_over_32_bits": (0, wide_products(65, 35193)),
+    }
+
+
+def vault_starts(k):
+    """Starts to be balanced at k, by name: the number that balancing refuses each as,
+    or 0, its moves, and the job.
+
+    Of 3k + 1 A may hold from 1 up to 2k, and of 3k from 0 on.
+    """
+    missed, hit = third_in_a(3 * k + 1), third_in_a(3 * k)
+    in_a, in_b = (missed.changed(sides=[side] * missed.files) for side in (A, B))
+    found = {
+        "all_here": (0, k + 1, in_a),
+        "none_here": (0, 1, in_b),
+        "none_here_hit": (10, 0, hit.changed(sides=[B] * hit.files)),
+    }
+    return all_at(k, on_both_sides(found))
+
+
 # ---- Random jobs
 
 
@@ -847,6 +1027,17 @@ def wide_window_sides(rng, job):
         # since the band is at least as wide as two files.
         if sides[file] == (B if job.den * size_a < goal else A):
             sides[file] = 1 - sides[file]
+    return sides
+
+
+def sides_in_window(job):
+    """Balanced sides where there are any, also in a window that allows an empty vault.
+
+    The jobs from before order 8 go by it so that they stay what they were.
+    """
+    if refusal(job, True, 8) != (0, 0) or no_start_is_balanced(job):
+        return list(job.sides)
+    sides, _ = balancing_moves(job)
     return sides
 
 
@@ -897,7 +1088,7 @@ def unread_job(rng, files, recipes, part, **more):
     marks = [UNREAD if rng.random() < part else mark for mark in job.marks]
     marks[rng.randrange(files)] = FREE
     job = job.changed(marks=marks)
-    return job.changed(sides=balance(job).sides)
+    return job.changed(sides=sides_in_window(job))
 
 
 def wider_job(rng, files, recipes, k, **more):
@@ -906,4 +1097,4 @@ def wider_job(rng, files, recipes, k, **more):
     job = unread_job(rng, files, recipes, rng.choice([0, 0, 0.2]), **more)
     sides = [rng.choice((A, B)) for _ in range(files)]
     job = job.changed(sides=sides, num=rng.randint(1, job.den - 1), k=k)
-    return job.changed(sides=balance(job).sides)
+    return job.changed(sides=sides_in_window(job))

@@ -21,12 +21,22 @@ from planner import A, B, FREE, PINNED, UNREAD
 RANDOM_JOBS = 300
 
 
+def opened(job):
+    """The job, or where 10 refuses it the same past 10."""
+    return samples.past_10(job) if planner.check(job) == (10, 0) else job
+
+
+def sound_jobs(of_seed):
+    """So many of those that a run takes, without those that need many files for it."""
+    jobs = map(opened, map(of_seed, itertools.count()))
+    sound = (job for job in jobs if planner.check(job) == (0, 0) and job.files < 40)
+    return list(itertools.islice(sound, RANDOM_JOBS))
+
+
 @functools.cache
 def small_jobs():
     """Random sound jobs from two files up, of many shapes; always the same ones."""
-    jobs = map(random_of_seed, itertools.count())
-    sound = (job for job in jobs if planner.check(job) == (0, 0))
-    return list(itertools.islice(sound, RANDOM_JOBS))
+    return sound_jobs(random_of_seed)
 
 
 def random_of_seed(seed):
@@ -47,9 +57,7 @@ def random_of_seed(seed):
 @functools.cache
 def unread_jobs():
     """Random sound jobs with unread files, from few up to all but one."""
-    jobs = map(unread_of_seed, itertools.count())
-    sound = (job for job in jobs if planner.check(job) == (0, 0))
-    return list(itertools.islice(sound, RANDOM_JOBS))
+    return sound_jobs(unread_of_seed)
 
 
 def unread_of_seed(seed):
@@ -69,9 +77,7 @@ def unread_of_seed(seed):
 @functools.cache
 def wider_jobs():
     """Random sound jobs at each k over 1, most of which are not balanced at 1."""
-    jobs = map(wider_of_seed, itertools.count())
-    sound = (job for job in jobs if planner.check(job) == (0, 0))
-    return list(itertools.islice(sound, RANDOM_JOBS))
+    return sound_jobs(wider_of_seed)
 
 
 def wider_of_seed(seed):
@@ -322,7 +328,7 @@ class Chain(unittest.TestCase):
 
 
 class Marked(unittest.TestCase):
-    """m3 to m9; m1 and m2 are the chain's own tests."""
+    """m3 to m9; m1 and m2 are the chain's own tests, and m5 is one of order 8."""
 
     def test_m3_gains_after_the_first_move(self):
         job = samples.chain()
@@ -333,14 +339,6 @@ class Marked(unittest.TestCase):
         job = samples.chain()
         found = [planner.balanced(job, size_a) for size_a in range(5)]
         self.assertEqual(found, [False, True, True, True, False])
-
-    def test_m5_two_files(self):
-        job = samples.two_files()
-        first = planner.one_pass(job, job.sides)
-        self.assertEqual((first.move_files[0], first.move_cuts[0]), (0, 0))
-        answer = planner.run(job)
-        self.assertEqual((answer.cut_after, answer.passes, answer.visits), (0, 2, 12))
-        self.assertTrue(answer.settled)
 
     def kinds(self, moves):
         """The scan kinds of moves that are given and not chosen."""
@@ -551,8 +549,8 @@ class Refusals(unittest.TestCase):
         job = samples.chain()
         found = (0, 0, 3, 2, 0, 0)
         self.assertEqual(planner.measure(job), found)
-        # It needs no ratio, no free file and no balance.
-        for fields in (dict(num=0), dict(marks=[PINNED] * 4)):
+        # It needs no ratio, no free file and no balance, and may leave a vault empty.
+        for fields in (dict(num=0), dict(marks=[PINNED] * 4), dict(den=4)):
             self.assertEqual(planner.measure(job.changed(**fields)), found)
         in_a = job.changed(sides=[A] * 4)
         self.assertEqual(planner.measure(in_a), (0, 0, 0, 4, 0, 0))
@@ -573,7 +571,8 @@ class Refusals(unittest.TestCase):
         self.assertEqual(planner.view([7, 6], pins, 0), [])
 
 
-# One fault of each number, on fields that leave the other faults standing.
+# One fault of each number, on fields that leave the other faults standing; that of 10,
+# which stands after 8, does not leave this 7 standing, and has its own tests.
 JOB_FAULTS = {
     1: dict(bounds=[0]),
     2: dict(pins=[0] * 4097),
@@ -722,7 +721,8 @@ class Stored(unittest.TestCase):
         self.assertEqual(self.answer(self.rechecked(1, 7, 1)), (22, 1))
 
     def test_reading_stops_after_6(self):
-        for fields in (dict(num=0), dict(marks=[PINNED] * 4), dict(sides=[A] * 4)):
+        late = dict(num=0), dict(marks=[PINNED] * 4), dict(sides=[A] * 4), dict(den=4)
+        for fields in late:
             data = planner.write_job(self.job.changed(**fields))
             self.assertEqual(self.answer(data), (0, 0))
         for number in (4, 5, 6):
@@ -736,9 +736,9 @@ class Stored(unittest.TestCase):
             room = tuple(n - (i == k) for i, n in enumerate(needed))
             self.assertEqual(self.answer(self.data, room), (3, 0))
 
-    def test_program_adds_7_to_9(self):
-        for number in (7, 8, 9):
-            data = planner.write_job(self.job.changed(**JOB_FAULTS[number]))
+    def test_program_adds_7_to_10(self):
+        for number, fields in ((10, dict(den=4)), *list(JOB_FAULTS.items())[-3:]):
+            data = planner.write_job(self.job.changed(**fields))
             self.assertEqual(planner.run_stored(data), f"refused {number} 0\n")
             self.assertEqual(planner.trace(data), f"refused {number} 0\n")
 
@@ -819,11 +819,12 @@ class Written(unittest.TestCase):
                 self.assertEqual(planner.write(job, bytes(len(data))), (0, 0, data))
         self.assertGreater(accepted, 200)
 
-    def test_7_to_9_are_never_given(self):
+    def test_7_to_10_are_never_given(self):
         """ "The ratio and cap are carried as they are, good or bad." """
         job = samples.chain()
         for fields in (
             *(JOB_FAULTS[number] for number in (7, 8, 9)),
+            dict(den=4),
             dict(num=0, den=0),
             dict(num=65535, den=65535, cap=65535),
             dict(num=5, den=1001, marks=[PINNED] * 4, sides=[A] * 4),
@@ -950,14 +951,20 @@ class Window(unittest.TestCase):
 
 
 @functools.cache
-def bad_starts():
-    """Random jobs of few files, two in three of which a run refuses as 9."""
+def any_starts():
+    """Random jobs of few files, about half of which a run refuses as 10."""
     rng = random.Random(3)
     sides = itertools.cycle((A, B, None))
     return [
         samples.unbalanced_job(rng, rng.randint(2, 10), rng.randint(1, 12), side)
         for side in itertools.islice(sides, RANDOM_JOBS)
     ]
+
+
+@functools.cache
+def bad_starts():
+    """The same past 10: two in three of them a run refuses as 9."""
+    return list(map(opened, any_starts()))
 
 
 def assignments(job):
@@ -1076,9 +1083,11 @@ class Balanced(unittest.TestCase):
         """Six files in a row, all in A, to B: 0 and then its neighbour, and so on."""
         job = samples.in_a_row([], [(1, A)] * 6, num=1, den=6)
         # W is 6 and smax 1: |A| from 0 up to 2.
-        answer = planner.balance(job)
-        self.assertEqual(answer.sides, [B, B, B, B, A, A])
-        self.assertEqual((answer.moves, answer.cut_after, answer.size_a), (4, 1, 2))
+        self.assertEqual(planner.balance(job).number, 10)
+        # The same with a pinned file of 1 in A, and one of 5 in B.
+        answer = planner.balance(samples.past_10(job))
+        self.assertEqual(answer.sides, [B, B, B, B, A, A, A, B])
+        self.assertEqual((answer.moves, answer.cut_after, answer.size_a), (4, 1, 3))
 
     def see_refused(self, job, scratch, refused):
         """No number but those of the refusal, and no lent list is changed."""
@@ -1214,7 +1223,7 @@ def see_start_taken_out(job, start):
 
 
 @functools.cache
-def unread_starts():
+def any_unread_starts():
     """Few files, most not balanced, some unread; a recipe of two others is left."""
     rng = random.Random(5)
     jobs = []
@@ -1226,6 +1235,12 @@ def unread_starts():
         if FREE in job.marks and taken_out(job)[2]:
             jobs.append(job)
     return jobs
+
+
+@functools.cache
+def unread_starts():
+    """The same past 10."""
+    return list(map(opened, any_unread_starts()))
 
 
 class Unread(unittest.TestCase):
@@ -1259,13 +1274,14 @@ class Unread(unittest.TestCase):
             self.assertEqual([whole.last.sides[i] for i in files], last.sides)
 
     def test_checks_without_them(self):
-        """1 to 9 of a job is that of the job without them, where a recipe is left."""
+        """1 to 10 of a job is that of the job without them, where a recipe is left."""
         numbers = []
-        for job in unread_starts():
+        for job in (*any_unread_starts(), *unread_starts()):
             rest, _, _ = taken_out(job)
             self.assertEqual(planner.check(job), planner.check(rest))
             numbers.append(planner.check(job)[0])
-        self.assertGreater(min(numbers.count(0), numbers.count(9)), 50)
+        for number in (0, 9, 10):
+            self.assertGreater(numbers.count(number), 50)
 
     def test_starts_without_them(self):
         for job in unread_starts():
@@ -1332,10 +1348,11 @@ class Unread(unittest.TestCase):
         self.assertNotIn("scan 0 ", planner.trace(planner.write_job(job)))
 
     def test_visits_count_the_whole_recipe(self):
-        """m5 with an unread file in its recipe: six scans of three files."""
+        """m5 with an unread file in its recipe, past 10: six scans of three files."""
         job = samples.with_unread(samples.three_files(), 1)
         self.assertEqual((job.sides[0], job.sides[2]), (A, B))
-        answer = planner.run(job)
+        self.assertEqual(planner.check(job), (10, 0))
+        answer = planner.run(samples.past_10(job))
         self.assertEqual((answer.cut_after, answer.passes), (0, 2))
         self.assertEqual((answer.scans, answer.visits), (6, 18))
 
@@ -1347,8 +1364,8 @@ class Unread(unittest.TestCase):
             self.assertEqual(planner.run(job).unread, counted)
 
     def test_zeros_when_refused(self):
-        """Measure gives them where only 7 to 9 refuse."""
-        for number, fields in JOB_FAULTS.items():
+        """Measure gives them where only 7 to 10 refuse."""
+        for number, fields in (*JOB_FAULTS.items(), (10, dict(den=4))):
             if number in (3, 8):
                 continue
             job = samples.partial_chain(**fields)
@@ -1467,9 +1484,12 @@ def see_round_trip(job, start):
     assert writable(read) == (0, 0, data), "other bytes"
 
 
+@functools.cache
 def bad_starts_at(k):
-    """Jobs of few files, most of them not balanced, at this k."""
-    return [job.changed(k=k) for job in (*bad_starts(), *unread_starts())]
+    """Jobs of few files, most of them not balanced, at this k and past 10."""
+    jobs = [opened(job.changed(k=k)) for job in (*any_starts(), *any_unread_starts())]
+    # Of large files and a ratio near an end, some would need over 1,024 files for it.
+    return [job for job in jobs if job.files < 200]
 
 
 class Wider(unittest.TestCase):
@@ -1510,7 +1530,8 @@ class Wider(unittest.TestCase):
             self.assertEqual(planner.check(job), (number, 0), name)
 
     def test_the_chain_in_one_vault(self):
-        """After file 1 file 3 may go to A too: both are kept, and B is empty."""
+        """After file 1 file 3 may go to A too: both are kept, and B would be empty. The
+        run is refused, and is made with a pinned file in each vault."""
         job = samples.chain().changed(k=2)
         first = planner.one_pass(job, job.sides)
         self.assertEqual(first.move_files, [1, 3, 0, 2])
@@ -1520,10 +1541,11 @@ class Wider(unittest.TestCase):
         second = planner.one_pass(job, first.sides)
         self.assertEqual(second.move_files, [0, 1, 2, 3])
         self.assertEqual((second.move_cuts, second.kept), ([1, 1, 1, 0], 0))
+        self.assertEqual(planner.run_stored(planner.write_job(job)), "refused 10 0\n")
         self.assertEqual(
-            planner.run_stored(planner.write_job(job)),
-            "done\ncut 3 0\nsize 4 0\npasses 2\nsettled yes\n"
-            "kept 2\nvisits 36\nsides AAAA\n",
+            planner.run_stored(planner.write_job(samples.past_10(job))),
+            "done\ncut 3 0\nsize 5 1\npasses 2\nsettled yes\n"
+            "kept 2\nvisits 36\nsides AAAAAB\n",
         )
 
     def test_facts_of_every_pass(self):
@@ -1535,23 +1557,25 @@ class Wider(unittest.TestCase):
 
     def test_every_window_holds_the_one_before(self):
         for job in (*small_jobs(), *unread_jobs()):
-            for wider in samples.at_each(samples.WIDER, job):
+            for wider in map(opened, samples.at_each(samples.WIDER, job)):
                 self.assertEqual(planner.check(wider), (0, 0))
                 see_moves(wider, wider.sides)
 
     def test_any_other_k_is_7(self):
-        """Also where the ratio is wrong, where no file is free and where 9 would be."""
-        for fields in ({}, *(JOB_FAULTS[number] for number in (7, 8, 9))):
+        """Also where the ratio is wrong, where no file is free and where 9 or 10 would
+        be."""
+        late = *(JOB_FAULTS[number] for number in (7, 8, 9)), dict(den=4)
+        for fields in ({}, *late):
             faulty = samples.chain().changed(**fields)
             for job in samples.at_each(samples.WRONG_K, faulty):
                 self.assertEqual(planner.check(job), (7, 0))
                 self.assertEqual(planner.run(job), planner.RunAnswer(7, 0))
                 answer = planner.balance(job)
                 self.assertEqual((answer.number, answer.place, answer.moves), (7, 0, 0))
-        for job in samples.at_each(ALL_K, samples.chain()):
+        for job in samples.at_each(ALL_K, samples.held_chain()):
             self.assertEqual(planner.check(job), (0, 0))
             self.assertEqual(planner.check(job.changed(num=2)), (7, 0))
-            self.assertEqual(planner.check(job.changed(marks=[PINNED] * 4)), (8, 0))
+            self.assertEqual(planner.check(job.changed(marks=[PINNED] * 6)), (8, 0))
 
     def test_7_stands_after_6(self):
         for number in range(1, 7):
@@ -1633,7 +1657,7 @@ class Wider(unittest.TestCase):
         self.assertEqual(planner.read_job(short, (0,) * 5)[:2], (22, 0))
 
     def test_faults_of_a_seven_value_job(self):
-        """Each as in one of six; but all in A is balanced."""
+        """Each as in one of six; but all in A is balanced, and so is an empty vault."""
         *before_9, _ = faults.IN_ORDER
         for k, fault in itertools.product(samples.WIDER, before_9):
             (number, place), _ = fault
@@ -1644,13 +1668,19 @@ class Wider(unittest.TestCase):
             self.assertEqual(planner.resettle(data), (b"", refused))
             self.assertEqual(planner.balance_stored(data), (b"", refused))
         data = faults.stored_chain(faults.IN_ORDER[-1:], 2)
-        self.assertTrue(planner.run_stored(data).startswith("done\n"))
+        self.assertEqual(planner.run_stored(data), "refused 10 0\n")
+        _, _, _, job = planner.read_job(data)
+        past = planner.write_job(samples.past_10(job))
+        self.assertTrue(planner.run_stored(past).startswith("done\n"))
 
     def test_no_stored_job_gives_7_for_k(self):
         for k in samples.ANY_K:
             told = planner.run_stored(of_header(*SIX, k))
-            first = "done" if k in samples.WIDER else "refused 22 0"
+            first = "refused 10 0" if k in samples.WIDER else "refused 22 0"
             self.assertEqual(told.splitlines()[0], first)
+        for job in samples.at_each(samples.WIDER, samples.held_chain()):
+            told = planner.run_stored(planner.write_job(job))
+            self.assertEqual(told.splitlines()[0], "done")
 
     def test_the_writer(self):
         """7 "last", and "it still carries any ratio"."""
@@ -1738,11 +1768,11 @@ class Wider(unittest.TestCase):
                 self.assertEqual(planner.read_job(data)[3], job.changed(sides=sides))
 
     def test_a_start_that_is_9_at_1(self):
-        """One move at k = 1, none at 2: |A| may be 4."""
-        job = samples.chain().changed(sides=[A] * 4)
+        """One move at k = 1, none at 2: of 12 |A| may be 8."""
+        job = samples.held_chain(sides=[A] * 5 + [B])
         self.assertEqual((planner.check(job), planner.balance(job).moves), ((9, 0), 1))
         data = planner.write_job(job.changed(k=2))
-        told = "done\nmoves 0\ncut 0\nsize 4 0\n"
+        told = "done\nmoves 0\ncut 0\nsize 8 4\n"
         self.assertEqual(planner.balance_stored(data), (data, told))
 
 
@@ -2034,14 +2064,15 @@ class Compared(unittest.TestCase):
             self.assertEqual(told, (1, number, place, 0, []))
 
     def test_read_up_to_6(self):
-        """What only a run refuses is compared: 7, 8 and 9 of the chain."""
+        """What only a run refuses is compared: 7 to 10 of the chain."""
         chain = faults.stored_chain([])
         expected = {
             7: [(4, 0, 1, 2)],
             8: [(10, file, 0, 1) for file in range(4)],
             9: [(9, 1, 1, 0), (9, 3, 1, 0)],
+            10: [(5, 0, 2, 4)],
         }
-        for fault in faults.IN_ORDER[-3:]:
+        for fault in (*faults.IN_ORDER[-3:], faults.EMPTY_VAULT):
             (number, _), _ = fault
             data, records = faults.stored_chain([fault]), expected[number]
             self.assertTrue(planner.run_stored(data).startswith(f"refused {number} "))
@@ -2171,6 +2202,221 @@ class Compared(unittest.TestCase):
         other = planner.write_job(mill().changed(num=53, den=100, k=2))
         printed = b"4 0 11 53\n5 0 20 100\n7 0 1 2\n"
         self.assertEqual(planner.compare_program(old, other), printed)
+
+
+# ---- Order 8: no vault may be emptied
+
+
+def see_10(job, start):
+    """10 exactly if all readable files may lie in one vault, as far as the window goes;
+    from the check, the run and the balancing alike."""
+    job = job.changed(sides=start)
+    empty = any(in_window(job, [side] * job.files) for side in (A, B))
+    assert (planner.check(job) == (10, 0)) == empty, "10 is wrong"
+    assert (planner.run(job) == planner.RunAnswer(10, 0)) == empty, "the run's is"
+    assert (planner.balance(job).number == 10) == empty, "the balancing's is"
+
+
+def see_no_empty_vault(job, start):
+    """Of a job past 10: no balanced sides leave a vault empty, and no answer does."""
+    job = job.changed(sides=start)
+    for sides in assignments(job):
+        if in_window(job, sides):
+            assert 0 < planner.size_of_a(job, sides) < job.total, "an empty vault"
+    for answer in (planner.run(job), planner.balance(job)):
+        if answer.number == 0:
+            assert 0 < answer.size_a < job.total, "an answer with an empty vault"
+
+
+def see_past_10(job, start):
+    """A job and what samples.past_10 makes of it have the same balanced sides, passes
+    and balancings, but for the sizes."""
+    job = job.changed(sides=start)
+    past = samples.past_10(job)
+    assert planner.check(past) in ((0, 0), (9, 0)), "not past 10"
+    rest = past.sides[job.files :]
+    for sides in assignments(job):
+        assert in_window(job, sides) == in_window(past, [*sides, *rest]), "the window"
+    if in_window(job, start):
+        for one, two in zip(planner.all_passes(job), planner.all_passes(past)):
+            assert one.sides == two.sides[: job.files], "other sides"
+            for name in ("scan_recipes", "scan_kinds", "visits", "kept", "cut_after"):
+                assert getattr(one, name) == getattr(two, name), f"another {name}"
+            for name in ("move_files", "move_gains", "move_cuts", "move_scans"):
+                part = getattr(two, name)[: job.files]
+                assert getattr(one, name) == part, f"another {name}"
+    if not planner.no_start_is_balanced(job):
+        sides, moves = planner.balancing_moves(job)
+        answer = planner.balance(past)
+        told = answer.number, answer.moves, answer.sides
+        assert told == (0, moves, [*sides, *rest]), "another balancing"
+
+
+@functools.cache
+def any_windows():
+    """Jobs of few files at each k, and those that are worked out by hand."""
+    found = [*any_starts(), *any_unread_starts()]
+    jobs = [job.changed(k=k) for k, job in zip(itertools.cycle(ALL_K), found)]
+    for kind in (samples.vault_edges, samples.vault_starts):
+        jobs += [job for *_, job in samples.at_each_k(kind).values()]
+    return [job for job in jobs if FREE in job.marks]
+
+
+class NoEmptyVault(unittest.TestCase):
+    """Order 8: "no vault may be emptied"."""
+
+    def test_m5(self):
+        """Two files of size 1, A and B, ratio 1/2: the worked case of this order."""
+        job = samples.two_files()
+        self.assertEqual((job.total, job.largest), (2, 1))
+        self.assertEqual(planner.check(job), (10, 0))
+        self.assertEqual(planner.run(job), planner.RunAnswer(10, 0))
+        answer = planner.balance(job, [7] * 50)
+        self.assertEqual((answer.number, answer.place, answer.moves), (10, 0, 0))
+        # "No lent list changes."
+        self.assertEqual((answer.sides, answer.scratch), ([A, B], [7] * 50))
+        data = planner.write_job(job)
+        self.assertEqual(planner.run_stored(data), "refused 10 0\n")
+        self.assertEqual(planner.trace(data), "refused 10 0\n")
+        self.assertEqual(planner.resettle(data), (b"", "refused 10 0\n"))
+        self.assertEqual(planner.balance_stored(data), (b"", "refused 10 0\n"))
+
+    def test_what_m5_showed(self):
+        """With a pinned file of 1 in each vault file 0 moves: cut 0, two passes, 12
+        visits."""
+        job = samples.past_10(samples.two_files())
+        self.assertEqual((job.sizes, job.sides), ((1, 1, 1, 1), (A, B, A, B)))
+        first = planner.one_pass(job, job.sides)
+        self.assertEqual((first.move_files[0], first.move_cuts[0]), (0, 0))
+        answer = planner.run(job)
+        self.assertEqual((answer.cut_after, answer.passes, answer.visits), (0, 2, 12))
+        self.assertTrue(answer.settled)
+        self.assertEqual((answer.size_a, job.total), (1, 4))
+
+    def test_measure_reader_writer_and_compare_never_give_it(self):
+        found = {**samples.vault_jobs(), **samples.at_each_k(samples.vault_edges)}
+        chain = planner.write_job(samples.chain())
+        for name, (number, job) in found.items():
+            self.assertEqual(planner.measure(job)[:2], (0, 0), name)
+            see_round_trip(job, job.sides)
+            data = planner.write_job(job)
+            for pair in ((data, data), (chain, data), (data, chain)):
+                told = planner.compare(*pair, [(0, 0, 0, 0)] * 1000)
+                self.assertEqual(told[:3], (0, 0, 0), name)
+
+    def test_vault_jobs(self):
+        for name, (number, job) in samples.vault_jobs().items():
+            self.assertEqual(planner.check(job), (number, 0), name)
+            self.assertEqual(planner.run(job).number, number, name)
+            # A 9 that the balancing does not mend, and all others.
+            self.assertEqual(planner.balance(job).number, number, name)
+
+    def test_both_halves_at_each_k(self):
+        """Each less by 1, equal and more by 1, in num·W and in what B is to hold."""
+        off = {"within_by_1": -1, "hit": 0, "missed_by_1": 1}
+        for k in ALL_K:
+            seen = []
+            for name, (number, job) in samples.vault_edges(k).items():
+                self.assertEqual(planner.check(job), (number, 0), (name, k))
+                slack = job.den * k * job.largest
+                shares = job.num * job.total, (job.den - job.num) * job.total
+                for end, by in off.items():
+                    if name.endswith(end):
+                        half = shares[name.startswith("b_")]
+                        self.assertEqual(half - slack, by, (name, k))
+                        self.assertEqual(number, 0 if by == 1 else 10)
+                        seen.append((name[:2], by))
+            for half, by in itertools.product(("a_", "b_"), off.values()):
+                self.assertGreaterEqual(seen.count((half, by)), 2)
+            self.assertEqual({by for half, by in seen if half == "bo"}, {0, 1})
+
+    def test_what_is_missed_at_k_is_met_at_the_next(self):
+        for k in (1, 2, 3):
+            for name, (number, job) in samples.vault_edges(k).items():
+                wider = planner.check(job.changed(k=k + 1))
+                self.assertEqual(wider, (10, 0), name)
+
+    def test_10_by_the_window(self):
+        for job in any_windows():
+            see_10(job, job.sides)
+        numbers = [planner.check(job)[0] for job in any_windows()]
+        for number in (0, 9, 10):
+            self.assertGreater(numbers.count(number), 40)
+
+    def test_no_vault_is_emptied(self):
+        past = [job for job in any_windows() if planner.check(job) != (10, 0)]
+        for job in (*past, *bad_starts(), *unread_starts(), *bad_starts_at(3)):
+            see_no_empty_vault(job, job.sides)
+        for job in (*small_jobs(), *unread_jobs(), *wider_jobs()):
+            for one in planner.all_passes(job):
+                self.assertTrue(0 < one.size_a < job.total)
+
+    def test_jobs_made_past_10(self):
+        refused = [job for job in any_windows() if planner.check(job) == (10, 0)]
+        self.assertGreater(len(refused), 200)
+        for job in refused:
+            see_past_10(job, job.sides)
+
+    def test_it_stands_after_8(self):
+        """Also where W is 0, which no test of the window passes."""
+        for marks in ([PINNED] * 2, [UNREAD] * 2, [PINNED, UNREAD]):
+            for job in samples.at_each(ALL_K, samples.two_files().changed(marks=marks)):
+                self.assertEqual(planner.check(job), (8, 0))
+                self.assertEqual(planner.balance(job).number, 8)
+
+    def test_it_stands_before_9(self):
+        """Starts off the window, from above and from below, and past all mending."""
+        were_9 = 0
+        for k in ALL_K:
+            for name, (number, job) in samples.vault_edges(k).items():
+                if number == 10 and not in_window(job, job.sides):
+                    were_9 += 1
+                    self.assertEqual(planner.balance(job).number, 10)
+                    mended = not planner.no_start_is_balanced(job)
+                    self.assertEqual(mended, name[2:] == "all_there", name)
+        self.assertEqual(were_9, 16)
+
+    def test_stored_order(self):
+        """The fault beside each other one, planted before it and after it."""
+        for fault in (*faults.BEFORE_10, *faults.AFTER_10):
+            first = faults.EMPTY_VAULT if fault in faults.AFTER_10 else fault
+            (number, place), _ = first
+            refused = f"refused {number} {place}\n"
+            for pair in ((fault, faults.EMPTY_VAULT), (faults.EMPTY_VAULT, fault)):
+                data = faults.stored_chain(pair)
+                self.assertEqual(planner.run_stored(data), refused)
+                self.assertEqual(planner.trace(data), refused)
+                self.assertEqual(planner.resettle(data), (b"", refused))
+                self.assertEqual(planner.balance_stored(data), (b"", refused))
+
+    def test_starts(self):
+        for k in ALL_K:
+            for name, (number, moves, job) in samples.vault_starts(k).items():
+                answer = planner.balance(job)
+                told = answer.number, answer.moves
+                self.assertEqual(told, (number, moves), (name, k))
+                if number == 0:
+                    see_balance(job, job.sides)
+                    self.assertEqual(planner.check(job), (9, 0))
+                    after = job.changed(sides=answer.sides)
+                    self.assertEqual(planner.check(after), (0, 0))
+
+    def test_pinned_files_in_w_and_not_in_smax(self):
+        m5 = samples.two_files()
+        for side, size in itertools.product((A, B), (1, 60000)):
+            pinned = samples.with_files(m5, (size, side, PINNED))
+            unread = samples.with_files(m5, (size, side, UNREAD))
+            free = samples.with_files(m5, (size, side, FREE))
+            self.assertEqual((pinned.total, pinned.largest), (2 + size, 1))
+            self.assertEqual(planner.check(pinned)[0], 0 if size == 1 else 9)
+            self.assertEqual(planner.check(unread), (10, 0))
+            self.assertEqual(planner.check(free)[0], 0 if size == 1 else 10)
+
+    def test_the_examples_are_planned(self):
+        for job in (samples.chain(), mill().changed(num=53, den=100)):
+            self.assertEqual(planner.check(job), (0, 0))
+        self.assertEqual(planner.check(mill()), (9, 0))
+        self.assertEqual(planner.balance(mill()).number, 0)
 
 
 class Mill(unittest.TestCase):
@@ -2609,6 +2855,64 @@ class CanFail(unittest.TestCase):
 
         wrong = "compare", self.wrong_compare(cleared), self.refusal_pairs()
         self.assertTrue(self.pair_seen(see_refused, *wrong))
+
+    def finder_seen(self, wrong, see=see_10):
+        """Whether a test of 10 sees another finder of it."""
+        with mock.patch.dict(planner.FINDERS, {10: wrong}):
+            return fails(see, any_windows())
+
+    def find_10_of(self, allowed):
+        """A finder by num·W, den·k·smax and den·W."""
+
+        def find(job, lent_ok):
+            goal, slack = job.num * job.total, job.den * job.tolerance
+            return planner.place_if(allowed(goal, slack, job.den * job.total))
+
+        return find
+
+    def test_halves_of_10(self):
+        """The right one, each half alone, and each with an edge that is not in it, or
+        with 1 more than the edge."""
+        right = self.find_10_of(lambda a, s, w: a <= s or a + s >= w)
+        self.assertFalse(self.finder_seen(right))
+        for wrong in (
+            lambda a, s, w: a <= s,
+            lambda a, s, w: a + s >= w,
+            lambda a, s, w: a <= s and a + s >= w,
+            lambda a, s, w: a < s or a + s >= w,
+            lambda a, s, w: a <= s or a + s > w,
+            lambda a, s, w: a <= s + 1 or a + s >= w,
+            lambda a, s, w: a <= s or a + s + 1 >= w,
+        ):
+            self.assertTrue(self.finder_seen(self.find_10_of(wrong)))
+
+    def test_10_of_another_job(self):
+        """At k = 1; with pinned or unread files in smax; with unread ones in W, and
+        without pinned ones."""
+
+        def marked(job, old, new):
+            marks = [new if mark == old else mark for mark in job.marks]
+            return job.changed(marks=marks)
+
+        for other in (
+            lambda job: job.changed(k=1),
+            lambda job: marked(job, PINNED, FREE),
+            lambda job: marked(job, UNREAD, FREE),
+            lambda job: marked(job, UNREAD, PINNED),
+            lambda job: marked(job, PINNED, UNREAD),
+        ):
+            right = planner.find_10
+            self.assertTrue(self.finder_seen(lambda job, ok: right(other(job), ok)))
+
+    def test_10_at_its_wrong_place(self):
+        """After 9, and not at all."""
+        late = dict(sorted(planner.FINDERS.items()))
+        none = {number: find for number, find in late.items() if number != 10}
+        for finders in (late, none):
+            with mock.patch.object(planner, "FINDERS", finders):
+                self.assertTrue(fails(see_10, any_windows()))
+        with mock.patch.object(planner, "FINDERS", none):
+            self.assertTrue(fails(see_no_empty_vault, any_windows()))
 
     def test_gain_list_of_the_end(self):
         def not_kept(job, sides, move_files, move_gains):

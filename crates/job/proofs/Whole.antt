@@ -7,13 +7,13 @@ use borrow.Author.Tests.{eq-eqb, ne-eqb}
 use Rattle.rules.specs.declared.Verdict.{Verdict}
 use Rattle.rules.specs.Job.{Job, Limits, recipes, files, fileCount}
 use Rattle.rules.specs.Split.{cut, unreadFiles, unreadRecipes, weight, smax, sizeOn, sizeA, tolerance, largeEnough, smallEnough, balanced}
-use Rattle.rules.specs.Check.{isDone, refuseIf, _orElse_, check1, check2, check3, check4, badPin, check5, check6, check7, check8, check9, check4to6, check1to6, check7to9, check, measure}
-use Rattle.rules.specs.Balance.{tooLarge, tooSmall, leastA, mostA, noneBalanced, check1to8, balanceCheck}
-use Rattle.rules.proofs.Verdicts.{zero-of, or-three}
+use Rattle.rules.specs.Check.{isDone, refuseIf, _orElse_, check1, check2, check3, check4, badPin, check5, check6, check7, check8, check10, check9, check4to6, check1to6, check7and8and10, check7to10, check, measure}
+use Rattle.rules.specs.Balance.{tooLarge, tooSmall, leastA, mostA, noneBalanced, check1to8and10, balanceCheck}
+use Rattle.rules.proofs.Verdicts.{zero-of, or-assoc}
 use Rattle.job.specs.declared.Job.{Job as Figures}
 use Rattle.job.specs.declared.figures.Totals.{Totals}
 use Rattle.job.specs.Parts.{ofLists, ofFigures}
-use Rattle.job.specs.Totals.{totalsOf, reaches, Has, nineFor}
+use Rattle.job.specs.Totals.{totalsOf, reaches, mayEmptyBy, Has, nineFor}
 use Rattle.job.specs.Survey.{checkFor, surveyOf}
 
 -- 1 to 6 ask for no ratio and no cap
@@ -30,9 +30,9 @@ passes-done {v} {w} e z = eq-eqb (w .number) 0 (zero-of e z)
 
 -- the check as one chain, whosever its 9
 pub nine-last : (balancing : Bool) (most : Limits) (job : Job) (lent : Bool)
-    → checkFor balancing most job lent ≡ (check1to6 most job lent orElse check7 most job orElse check8 job orElse nineFor balancing job)
-unfolding check check7to9 balanceCheck check1to8
-nine-last true most job lent = or-three (check1to6 most job lent) (check7 most job) (check8 job) (refuseIf (noneBalanced job) 9 0)
+    → checkFor balancing most job lent ≡ (check1to6 most job lent orElse check7and8and10 most job orElse nineFor balancing job)
+unfolding check check7to10 balanceCheck check1to8and10
+nine-last true most job lent = or-assoc (check1to6 most job lent) (check7and8and10 most job) (refuseIf (noneBalanced job) 9 0)
 nine-last false most job lent = refl
 
 not-both : (a b : Bool) → not (a && b) ≡ (not b || not a)
@@ -62,6 +62,11 @@ module _ {job : Job} {figures : Figures} {t : Totals} (has : Has job figures t) 
   pub free-is : refuseIf (eqb (t .free) 0) 8 0 ≡ check8 job
   unfolding totalsOf files check8
   free-is = ap (λ (u : Totals). refuseIf (eqb (u .free) 0) 8 0) (has .totals)
+
+  pub empties-is : refuseIf (mayEmptyBy figures t) 10 0 ≡ check10 job
+  unfolding totalsOf weight smax files check10
+  empties-is =
+      ap (λ (j : Job). refuseIf (mayEmptyBy (figuresOf j) t) 10 0) (sym (has .job-is)) ∙ ap (λ (u : Totals). refuseIf (mayEmptyBy (figuresOf job) u) 10 0) (has .totals)
 
   -- the test of 9, of this least and most
   reaches-is : (least most : Totals → ℕ)
@@ -93,7 +98,7 @@ module _ (most : Limits) (job : Job) {v : Verdict} where
     unfolding measure
     measure-done x h t z p r q = rw (e, p, r, size-is job t q, unread-is job t q, passes-done e z, measure)
 
-  module _ (balancing lent : Bool) (e : v ≡ (check1to6 most job lent orElse check7 most job orElse check8 job orElse nineFor balancing job)) where
+  module _ (balancing lent : Bool) (e : v ≡ (check1to6 most job lent orElse check7and8and10 most job orElse nineFor balancing job)) where
     told : v ≡ checkFor balancing most job lent
     told = e ∙ sym (nine-last balancing most job lent)
 

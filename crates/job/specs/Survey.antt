@@ -7,7 +7,7 @@ use Rattle.rules.specs.Split.{cut, unreadFiles, unreadRecipes, weight, toleranc
 use Rattle.rules.specs.Check.{isDone, check}
 use Rattle.rules.specs.Balance.{balanceCheck}
 
--- 1 to 8, and then the 9 of the balancing or that of a pass
+-- 1 to 8 and 10, and then the 9 of the balancing or that of a pass
 abbrev pub checkFor : Bool → Limits → Job → Bool → Verdict
 checkFor balancing most job lent = cond balancing (balanceCheck most job lent) (check most job lent)
 

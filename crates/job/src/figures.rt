@@ -16,7 +16,7 @@ ghost use lib.ListN.{length};
 ghost use Rattle.rules.specs.Job.{readIn, recipes};
 ghost use Rattle.rules.specs.Split.{countOn, isCut, «cut», unreadRecipes};
 ghost use Rattle.job.specs.Parts.{ofFiles, ofMarks, ofMarked};
-ghost use Rattle.job.specs.Totals.{weightOf, withFile, Within, Added, toleranceBy, reaches};
+ghost use Rattle.job.specs.Totals.{weightOf, withFile, Within, Added, toleranceBy, reaches, mayEmptyBy};
 
 // W, smax, |A|, the least and the most that it can be, and the numbers of free and of unread files.
 pub(crate) struct Totals {
@@ -105,6 +105,17 @@ pub(crate) fn is_balanced(job: Job, t: Totals, least: u64, most: u64) -> bool
     let w = num * t.weight;
     let m = den * tolerance(job, t);
     (w <= den * most + m) & (den * least <= w + m)
+}
+
+// Whether the window would allow a vault of size 0.
+pub(crate) fn may_empty(job: Job, t: Totals) -> bool
+    requires { do ⌜ Within t ((← ⟦Job::MOST_FILES⟧) * 65535) ⌝ }
+    ensures { λ r. ⌜ r ≡ mayEmptyBy job t ⌝ }
+{
+    let den = long(job.den);
+    let w = long(job.num) * t.weight;
+    let m = den * tolerance(job, t);
+    (w <= m) | (den * t.weight <= w + m)
 }
 
 // How many numbers of the list have u at their place in the table: a recipe's files on a side, a file's recipes with a count. A place beyond the table reads as 0.

@@ -26,7 +26,7 @@ pub use verdict::bad_k;
 pub use verdict::check1;
 pub use verdict::check1to6;
 pub use verdict::check2;
-use verdict::check7to9;
+use verdict::check7to10;
 pub use verdict::or_else;
 pub use verdict::refuse_if;
 ghost use mathlib.Core.Path.{_≡_};
@@ -80,7 +80,7 @@ pub fn view<'a, 'b>(bounds: &'b [u16], pins: &'a [u16], j: usize) -> &'a [u16]
     &pins[a..b]
 }
 
-// 1 to 9.
+// 1 to 10.
 pub fn check(
     job: Job,
     sizes: &[u16],
@@ -95,7 +95,7 @@ pub fn check(
     if v.number != 0 {
         return v;
     }
-    check7to9(job, totals_of(sizes, sides, marks), false)
+    check7to10(job, totals_of(sizes, sides, marks), false)
 }
 
 // 1 to 6, else the cut, |A| and what could not be read.
@@ -129,7 +129,7 @@ pub fn measure(
     }
 }
 
-// 1 to 9, where `lent` says that the lent lists have the right lengths and `balancing` whose 9 it is, and the figures that a pass, a run or the balancing starts from.
+// 1 to 10, where `lent` says that the lent lists have the right lengths and `balancing` whose 9 it is, and the figures that a pass, a run or the balancing starts from.
 pub fn survey(
     job: Job,
     sizes: &[u16],
@@ -155,7 +155,7 @@ pub fn survey(
         };
     }
     let t = totals_of(sizes, sides, marks);
-    let verdict = check7to9(job, t, balancing);
+    let verdict = check7to10(job, t, balancing);
     if verdict.number != 0 {
         return Survey {
             verdict,

@@ -1,9 +1,10 @@
-// Numbers for no: checks 1 to 9, each by its number, and the chains of them.
+// Numbers for no: checks 1 to 10, each by its number, and the chains of them.
 use crate::Job;
 use crate::bounds::first_short;
 use crate::bounds::recipe_count;
 use crate::figures::Totals;
 use crate::figures::is_balanced;
+use crate::figures::may_empty;
 use crate::files::first_bad_file;
 use crate::numbers::wide;
 use crate::pins::first_bad_pin;
@@ -14,7 +15,7 @@ ghost use lib.ListN.{length};
 ghost use Rattle.rules.specs.Job.{limitsOf};
 ghost use Rattle.rules.specs.Check.{refuseIf, _orElse_, badK, check1Of, check2Of, «check3», «check4», «check5», «check6», «check7», «check4to6», «check1to6»};
 ghost use Rattle.job.specs.Parts.{ofFiles, ofRecipes, ofPins, ofLists, ofFigures};
-ghost use Rattle.job.specs.Totals.{Within, Gives9, Gives7to9};
+ghost use Rattle.job.specs.Totals.{Within, Gives9, Gives7to10};
 
 // Refused with this number and place, if the test passes; else done.
 pub fn refuse_if(test: bool, number: usize, place: usize) -> Verdict
@@ -166,12 +167,13 @@ fn check9(job: Job, t: Totals, balancing: bool) -> Verdict
     refuse_if(!is_balanced(job, t, t.size, t.size), 9, 0)
 }
 
-// 8 and 9 need no list, only what its files add up to.
-pub(crate) fn check7to9(job: Job, t: Totals, balancing: bool) -> Verdict
+// 8, 10 and 9, in this order, need no list, only what its files add up to.
+pub(crate) fn check7to10(job: Job, t: Totals, balancing: bool) -> Verdict
     requires { do ⌜ Within t ((← ⟦Job::MOST_FILES⟧) * 65535) ⌝ }
-    ensures { λ r. do ⌜ Gives7to9 balancing (limitsOf (← ⟦Job::MOST_FILES⟧ .entry) (← ⟦Job::MOST_RECIPES⟧ .entry) (← ⟦Job::MOST_PINS⟧ .entry) (← ⟦Job::MOST_DEN⟧ .entry)) job t r ⌝ }
+    ensures { λ r. do ⌜ Gives7to10 balancing (limitsOf (← ⟦Job::MOST_FILES⟧ .entry) (← ⟦Job::MOST_RECIPES⟧ .entry) (← ⟦Job::MOST_PINS⟧ .entry) (← ⟦Job::MOST_DEN⟧ .entry)) job t r ⌝ }
 {
     let v7 = check7(job);
     let v8 = refuse_if(t.free == 0, 8, 0);
-    or_else(v7, or_else(v8, check9(job, t, balancing)))
+    let v10 = refuse_if(may_empty(job, t), 10, 0);
+    or_else(v7, or_else(v8, or_else(v10, check9(job, t, balancing))))
 }

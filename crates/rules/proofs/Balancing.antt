@@ -2,41 +2,41 @@
 use mathlib.Core.Path.{_≡_, refl, sym, ap, ap₂, _∙_}
 use mathlib.Core.Logic.{_≢_}
 use Prim.Native.Nat.{ℕ, _≤_, _<_}
-use mathlib.Core.Bool.{Bool, true, false, not, _||_}
+use mathlib.Core.Bool.{Bool, true, false, not}
 use mathlib.Core.List.{List, []}
 use mathlib.Core.Option.{Option, none, some}
 use native.Mathlib.Decide.{ℕ-discrete}
 use native.Mathlib.Omega.{arith}
-use lib.Dec.{eqb, leb, ltb}
+use lib.Dec.{eqb, leb}
 use lib.ListN.{length, getD, take}
 use lib.Seq.{take-length}
 use borrow.Author.Tests.{eqb-false, leb-true, le-leb, le-ltb, eq-eqb, ne-eqb}
 use Rattle.rules.specs.declared.Verdict.{Verdict}
 use Rattle.rules.specs.declared.BalanceFigures.{BalanceFigures}
-use Rattle.rules.specs.Lists.{count, listed}
+use Rattle.rules.specs.Lists.{listed}
 use Rattle.rules.specs.Job.{Job, Limits, fileCount, recipeCount, pinCount, files, recipes, scratchFor}
 use Rattle.rules.specs.Split.{sideOf, cut, gain, isFree, weight, smax, sizeOn, sizeA, balanced}
-use Rattle.rules.specs.Check.{done, refuseIf, _orElse_, badRatio, badK, check2Of, check2, check7, check8, check9, check1to6, check7to9, check}
+use Rattle.rules.specs.Check.{done, refuseIf, _orElse_, badRatio, badK, noneFree, mayEmpty, check2Of, check2, check7, check8, check10, check9, check1to6, check7and8and10, check7to10, check}
 use Rattle.rules.specs.Move.{stepsBy, State, start, moved, after, Frees, greater, movesBy}
 use Rattle.rules.specs.Stored.{jobOf, readVerdict}
 use Rattle.rules.specs.Report.{refusal, sizeLine, ofFiles, intoRoom, allRoom, allLent}
-use Rattle.rules.specs.Refusals.{rows1to6}
+use Rattle.rules.specs.Refusals.{rows7and8and10, rows1to6}
 use Rattle.rules.specs.Writing.{headerFor, blocksOf, checkWritten, withSides, HandedOut, handsOut}
-use Rattle.rules.specs.Balance.{heavy, freeOn, greatestOn, balanceChoice, balanceMoves, balanceSides, noneBalanced, check1to8, balanceCheck, balanceVerdict, Balancing, balancingOf, balanceFigures, noBalanceFigures, balancing, balanceLines, balanceReport, balanceReporting, balances}
+use Rattle.rules.specs.Balance.{heavy, freeOn, greatestOn, balanceChoice, balanceMoves, balanceSides, noneBalanced, check1to8and10, balanceCheck, balanceVerdict, Balancing, balancingOf, balanceFigures, noBalanceFigures, balancing, balanceLines, balanceReport, balanceReporting, balances}
 use Rattle.rules.specs.Theorems.{Sound, Sides, stateAt}
 use Rattle.rules.specs.Balancing.{balancedTo, Assignment, BalanceHolds, lastRows, balanceRows, BalanceRows, NineExactly, BalanceAnswers, balancesVerdict, BalanceProgram}
 use Rattle.rules.proofs.Tests.{clash, contra'}
-use Rattle.rules.proofs.Verdicts.{chain-stop, passes-both, or-assoc, or-three, never-chain, not-refused, Plain, plain-if, plain-chain}
+use Rattle.rules.proofs.Verdicts.{chain-stop, passes-both, or-assoc, never-chain, not-refused, Plain, plain-if, plain-chain}
 use Rattle.rules.proofs.Count.{count-le}
 use Rattle.rules.proofs.Fits.{long-enough}
 use Rattle.rules.proofs.Entries.{listed-holds}
 use Rattle.rules.proofs.First.{first-none}
-use Rattle.rules.proofs.SoundJob.{ok7, sound}
+use Rattle.rules.proofs.SoundJob.{ok7, ok-before, sound}
 use Rattle.rules.proofs.MovesEnd.{StateLong, moves-stop, moves-each, moves-keep, moves-same, moves-free, moves-end, locked-stays}
 use Rattle.rules.proofs.Proved.{moves-hold, given-sides, lent-six, check-writes}
 use Rattle.rules.proofs.Checking.{check-holds}
 use Rattle.rules.proofs.OtherSides.{sound-again}
-use Rattle.rules.proofs.Refusals.{answerOf, answer-append, lacks, first-given, never-given, or-done, rows-six}
+use Rattle.rules.proofs.Refusals.{answer-append, lacks, first-given, never-given, rows-six, rows-before, rows-last}
 use Rattle.rules.proofs.Reading.{read-holds}
 use Rattle.rules.proofs.CutOff.{cut-same}
 use Rattle.rules.proofs.Reports.{telling-refusal, telling-made}
@@ -141,79 +141,76 @@ module _ (most : Limits) (job : Job) (s : Sound most job) (wide : 1 ≤ job .k) 
 
 -- ---- the table of its check
 
-last-rows : (most : Limits) (job : Job) → (check7 most job orElse check8 job orElse refuseIf (noneBalanced job) 9 0) ≡ answerOf (lastRows most job)
-unfolding check7 check8 answerOf
-last-rows most job =
-    or-assoc (refuseIf (badRatio most job) 7 0) (refuseIf (badK (job .k)) 7 0) (check8 job orElse refuseIf (noneBalanced job) 9 0)
-    ∙ ap (λ (v : Verdict). refuseIf (badRatio most job) 7 0 orElse refuseIf (badK (job .k)) 7 0 orElse check8 job orElse v) (or-done (noneBalanced job) 8 0)
-
 pub balance-rows : (most : Limits) (job : Job) (lent : Bool) → BalanceRows most job lent
-unfolding balanceCheck check1to8 lacks
+unfolding balanceCheck check1to8and10 lacks
 balance-rows most job lent =
     first-given (balanceRows most job lent) refl
-    (or-three (check1to6 most job lent) (check7 most job) (check8 job) (refuseIf (noneBalanced job) 9 0)
-    ∙ ap₂ (λ (v w : Verdict). v orElse w) (rows-six job most lent) (last-rows most job)
+    (or-assoc (check1to6 most job lent) (check7and8and10 most job) (refuseIf (noneBalanced job) 9 0)
+    ∙ ap₂ (λ (v w : Verdict). v orElse w) (rows-six job most lent) (rows-last job most (noneBalanced job))
     ∙ sym (answer-append (rows1to6 most job lent) (lastRows most job)))
 
 -- ---- 9 exactly if impossible
 
 module _ (most : Limits) (job : Job) (lent : Bool) where
-  eight-numbers : check1to8 most job lent .number ≤ 8
-  unfolding check1to8 check7 check8
-  eight-numbers =
-      few-or (check1to6 most job lent) (check7 most job orElse check8 job) 8 (omega (arith, few-numbers most job lent))
-      (few-or (check7 most job) (check8 job) 8
-      (few-or (refuseIf (badRatio most job) 7 0) (refuseIf (badK (job .k)) 7 0) 8 (few-if (badRatio most job) 7 0 8 (omega arith)) (few-if (badK (job .k)) 7 0 8 (omega arith)))
-      (few-if (eqb (count (isFree job) (files job)) 0) 8 0 8 (omega arith)))
+  before-numbers : (check1to8and10 most job lent .number ≤ 10) × (check1to8and10 most job lent .number ≢ 9)
+  unfolding check1to8and10 check7and8and10 check7 check8 check10 lacks
+  before-numbers = (
+    few-or (check1to6 most job lent) (check7and8and10 most job) 10 (omega (arith, few-numbers most job lent))
+        (few-or (check7 most job) (check8 job orElse check10 job) 10
+        (few-or (refuseIf (badRatio most job) 7 0) (refuseIf (badK (job .k)) 7 0) 10 (few-if (badRatio most job) 7 0 10 (omega arith)) (few-if (badK (job .k)) 7 0 10 (omega arith)))
+        (few-or (check8 job) (check10 job) 10 (few-if (noneFree job) 8 0 10 (omega arith)) (few-if (mayEmpty job) 10 0 10 (omega arith)))),
+    never-chain 9 (check1to6 most job lent) (check7and8and10 most job) (λ e. omega (arith, few-numbers most job lent))
+        (λ _. rw (rows-before job most) (never-given 9 (rows7and8and10 most job) refl (omega arith))),
+  )
 
-  eight-sound : check1to8 most job lent .number ≡ 0 → Sound most job
-  unfolding check1to8
-  eight-sound z = sound most job lent (passes-both (check1to6 most job lent) (check7 most job orElse check8 job) z .0)
+  before-sound : check1to8and10 most job lent .number ≡ 0 → Sound most job
+  unfolding check1to8and10
+  before-sound z = sound most job lent (passes-both (check1to6 most job lent) (check7and8and10 most job) z .0)
 
-  eight-wide : check1to8 most job lent .number ≡ 0 → 1 ≤ job .k
-  unfolding check1to8
-  eight-wide z =
-      let q = passes-both (check1to6 most job lent) (check7 most job orElse check8 job) z in
-      ok7 most job (passes-both (check7 most job) (check8 job) (q .1) .0) .1 .0
+  before-wide : check1to8and10 most job lent .number ≡ 0 → 1 ≤ job .k
+  unfolding check1to8and10
+  before-wide z =
+      let q = passes-both (check1to6 most job lent) (check7and8and10 most job) z in
+      ok7 most job (ok-before most job (q .1) .0) .1 .0
 
-  -- after 1 to 8 it is the 9 of its own
-  after-eight : check1to8 most job lent .number ≡ 0 → balanceCheck most job lent ≡ refuseIf (noneBalanced job) 9 0
+  -- after 1 to 8 and 10 it is the 9 of its own
+  then-nine : check1to8and10 most job lent .number ≡ 0 → balanceCheck most job lent ≡ refuseIf (noneBalanced job) 9 0
   unfolding balanceCheck
-  after-eight z = rw (eq-eqb (check1to8 most job lent .number) 0 z) refl
+  then-nine z = rw (eq-eqb (check1to8and10 most job lent .number) 0 z) refl
 
-  stops-before : check1to8 most job lent .number ≢ 0 → balanceCheck most job lent ≡ check1to8 most job lent
+  stops-before : check1to8and10 most job lent .number ≢ 0 → balanceCheck most job lent ≡ check1to8and10 most job lent
   unfolding balanceCheck
-  stops-before z = rw (ne-eqb (check1to8 most job lent .number) 0 z) refl
+  stops-before z = rw (ne-eqb (check1to8and10 most job lent .number) 0 z) refl
 
-  impossible : check1to8 most job lent .number ≡ 0 → ((sides : List ℕ) → Assignment job sides → balanced job (sizeA job sides) ≡ false) → noneBalanced job ≡ true
+  impossible : check1to8and10 most job lent .number ≡ 0 → ((sides : List ℕ) → Assignment job sides → balanced job (sizeA job sides) ≡ false) → noneBalanced job ≡ true
   impossible z f =
-      let s = eight-sound z in
-      let w = eight-wide z in
+      let s = before-sound z in
+      let w = before-wide z in
       contra' (noneBalanced job) (λ b. clash (sym (balance-holds most job s w .balances b) ∙ f (balanceSides job) (assigned most job s w)))
 
-  passed-nine : balanceCheck most job lent .number ≡ 0 → (check1to8 most job lent .number ≡ 0) × (noneBalanced job ≡ false)
+  passed-nine : balanceCheck most job lent .number ≡ 0 → (check1to8and10 most job lent .number ≡ 0) × (noneBalanced job ≡ false)
   unfolding balanceCheck
   passed-nine z =
-      let q = passes-both (check1to8 most job lent) (refuseIf (noneBalanced job) 9 0) z in
+      let q = passes-both (check1to8and10 most job lent) (refuseIf (noneBalanced job) 9 0) z in
       (q .0, not-refused (noneBalanced job) 8 0 (q .1))
 
   nine-given : balanceCheck most job lent .number ≡ 9 → noneBalanced job ≡ true
-  nine-given z = elim (ℕ-discrete (check1to8 most job lent .number) 0) [
-    | yes e ↦ contra' (noneBalanced job) (λ b. omega (arith, sym z ∙ ap (λ (v : Verdict). v .number) (after-eight e ∙ ap (λ (t : Bool). refuseIf t 9 0) b)))
-    | no n ↦ absurd (omega (arith, eight-numbers, sym z ∙ ap (λ (v : Verdict). v .number) (stops-before n)))
+  nine-given z = elim (ℕ-discrete (check1to8and10 most job lent .number) 0) [
+    | yes e ↦ contra' (noneBalanced job) (λ b. omega (arith, sym z ∙ ap (λ (v : Verdict). v .number) (then-nine e ∙ ap (λ (t : Bool). refuseIf t 9 0) b)))
+    | no n ↦ absurd (before-numbers .1 (sym (ap (λ (v : Verdict). v .number) (stops-before n)) ∙ z))
   ]
 
   pub nine-exactly : NineExactly most job lent
   nine-exactly = record {
     given = λ z sides w. none-balanced job sides (nine-given z) w;
-    exactly = λ z f. after-eight z ∙ ap (λ (t : Bool). refuseIf t 9 0) (impossible z f);
+    exactly = λ z f. then-nine z ∙ ap (λ (t : Bool). refuseIf t 9 0) (impossible z f);
     possible = λ z.
         let q = passed-nine z in
-        let s = eight-sound (q .0) in
-        let w = eight-wide (q .0) in
+        let s = before-sound (q .0) in
+        let w = before-wide (q .0) in
         (assigned most job s w, balance-holds most job s w .balances (q .1));
-    before = unfold check check7to9 check1to8 in sym (or-three (check1to6 most job lent) (check7 most job) (check8 job) (check9 job));
-    numbers = eight-numbers;
+    before = unfold check check7to10 check1to8and10 in sym (or-assoc (check1to6 most job lent) (check7and8and10 most job) (check9 job));
+    numbers = before-numbers;
     first = stops-before;
   }
 
@@ -224,11 +221,9 @@ module _ (most : Limits) (job : Job) (s : Sound most job) (sides : List ℕ) (w 
   resided-six = check-holds most (withSides job sides) true .soundPasses (sound-again job sides s w) refl
 
   -- of the later checks only 9 looks at the sides
-  resided-nine : (check7 most job orElse check8 job) ≡ done → balanced job (sizeA job sides) ≡ true → check most (withSides job sides) true ≡ done
-  unfolding check check7to9 check7 check8 check9 balanced weight smax sizeOn files
-  resided-nine e b =
-      rw resided-six
-      (sym (or-assoc (check7 most job) (check8 job) (refuseIf (not (balanced job (sizeA job sides))) 9 0)) ∙ rw (e, b) refl)
+  resided-nine : check7and8and10 most job ≡ done → balanced job (sizeA job sides) ≡ true → check most (withSides job sides) true ≡ done
+  unfolding check check7to10 check7and8and10 check7 check8 check10 check9 balanced weight smax sizeOn files
+  resided-nine e b = rw resided-six (rw (e, b) refl)
 
 -- ---- the call
 
@@ -238,27 +233,27 @@ module _ (most : Limits) (job : Job) (scratch : List ℕ) where
 
   plain-balance : Plain (balanceVerdict most job scratch)
   unfolding balanceCheck
-  plain-balance = plain-chain (check1to8 most job lent) (refuseIf (noneBalanced job) 9 0) (plain-if (noneBalanced job) 8 0)
+  plain-balance = plain-chain (check1to8and10 most job lent) (refuseIf (noneBalanced job) 9 0) (plain-if (noneBalanced job) 8 0)
 
   -- of a job that is let through
   module _ (z : balanceVerdict most job scratch .number ≡ 0) where
     through : Sound most job
-    through = eight-sound most job lent (passed-nine most job lent z .0)
+    through = before-sound most job lent (passed-nine most job lent z .0)
 
     wide : 1 ≤ job .k
-    wide = eight-wide most job lent (passed-nine most job lent z .0)
+    wide = before-wide most job lent (passed-nine most job lent z .0)
 
     long-scratch : scratchFor job ≤ length scratch
-    unfolding check1to8
+    unfolding check1to8and10
     long-scratch =
         leb-true (scratchFor job) (length scratch)
-        (lent-six most job lent (passes-both (check1to6 most job lent) (check7 most job orElse check8 job) (passed-nine most job lent z .0) .0))
+        (lent-six most job lent (passes-both (check1to6 most job lent) (check7and8and10 most job) (passed-nine most job lent z .0) .0))
 
-    seven-eight : (check7 most job orElse check8 job) ≡ done
-    unfolding check1to8 check8
-    seven-eight =
-        plain-chain (check7 most job) (check8 job) (plain-if (eqb (count (isFree job) (files job)) 0) 7 0)
-        (passes-both (check1to6 most job lent) (check7 most job orElse check8 job) (passed-nine most job lent z .0) .1)
+    before-nine : check7and8and10 most job ≡ done
+    unfolding check1to8and10 check7and8and10 check10
+    before-nine =
+        plain-chain (check7 most job) (check8 job orElse check10 job) (plain-chain (check8 job) (check10 job) (plain-if (mayEmpty job) 9 0))
+        (passes-both (check1to6 most job lent) (check7and8and10 most job) (passed-nine most job lent z .0) .1)
 
     made-equal : balancing most job scratch ≡ balancingOf (balanceFigures job done) (balanceSides job) (listed (scratchFor job) 0 [] scratch)
     unfolding balancing
@@ -273,7 +268,7 @@ module _ (most : Limits) (job : Job) (scratch : List ℕ) where
     left-even = nine-exactly most job lent .possible z .1
 
     left-checked : check most (withSides job (balanceSides job)) true ≡ done
-    left-checked = resided-nine most job through (balanceSides job) (balance-holds most job through wide .sides) seven-eight left-even
+    left-checked = resided-nine most job through (balanceSides job) (balance-holds most job through wide .sides) before-nine left-even
 
   refused-equal : balanceVerdict most job scratch .number ≢ 0
       → balancing most job scratch ≡ balancingOf (noBalanceFigures (balanceVerdict most job scratch)) (job .sides) scratch
@@ -378,12 +373,12 @@ module _ (most : Limits) (input : List ℕ) where
 
   -- the scratch that it lends is long enough for a job that was read
   never-three : readVerdict most input (allRoom most) .number ≡ 0 → balanceVerdict most read own .number ≢ 3
-  unfolding balanceCheck check1to8 lacks
+  unfolding balanceCheck check1to8and10 lacks
   never-three z =
       let s : Sound most read = read-holds most input (allRoom most) .sound z in
       let lends : leb (scratchFor read) (length own) ≡ true
       = le-leb (scratchFor read) (length own) (long-enough read (allLent most read) (lends-enough most input .lent read (few-of most read s)) .scratch) in
-      rw (check-holds most read (leb (scratchFor read) (length own)) .soundPasses s lends, or-assoc (check7 most read) (check8 read) (refuseIf (noneBalanced read) 9 0), last-rows most read)
+      rw (check-holds most read (leb (scratchFor read) (length own)) .soundPasses s lends, rows-last read most (noneBalanced read))
       (never-given 3 (lastRows most read) refl (omega arith))
 
 pub program-holds : (most : Limits) (input : List ℕ) → BalanceProgram most input

@@ -11,7 +11,7 @@ use Rattle.rules.specs.declared.Verdict.{Verdict}
 use Rattle.rules.specs.Lists.{count, someBelow, upTo}
 use Rattle.rules.specs.Job.{Job, Limits, fileCount, recipeCount, pinCount, bound, pin, files}
 use Rattle.rules.specs.Split.{sizeOf, sizeA, balanced}
-use Rattle.rules.specs.Check.{done, short, repeatsIn, badPin, badFile, badK, check4to6, check7to9, check1to6, check}
+use Rattle.rules.specs.Check.{done, short, repeatsIn, badPin, badFile, badK, mayEmpty, check4to6, check7to10, check1to6, check}
 use Rattle.rules.specs.Refusals.{row, rowAt}
 use Rattle.rules.specs.Theorems.{Sound, Accepted, CheckHolds}
 use Rattle.rules.proofs.Count.{count-here}
@@ -65,7 +65,7 @@ module _ (most : Limits) (job : Job) where
     passes-six = first-three most job (s .someFile) (s .someRecipe) (s .fewFiles) (s .fewRecipes) (s .fewPins) (s .sidesLong) (s .marksLong) ∙ passes-four
 
   module _ (a : Accepted most job) where
-    passes-seven : check7to9 most job ≡ done
+    passes-seven : check7to10 most job ≡ done
     unfolding answerOf files
     passes-seven =
         let n : job .num ≢ 0 = λ e. omega (arith, a .ratio .0) in
@@ -77,6 +77,7 @@ module _ (most : Limits) (job : Job) where
         ∙ row-go (row 7 (eqb (job .num) 0 || leb (job .den) (job .num) || ltb (most .den) (job .den)) 0) _ ratio
         ∙ row-go (row 7 (badK (job .k)) 0) _ (fine-k (job .k) (a .wide))
         ∙ row-go (row 8 (eqb (count free (upTo (fileCount job))) 0) 0) _ (ne-eqb (count free (upTo (fileCount job))) 0 some)
+        ∙ row-go (row 10 (mayEmpty job) 0) _ (a .filled)
         ∙ row-go (row 9 (not (balanced job (sizeA job (job .sides)))) 0) _ (ap not (a .balanced))
 
     passes-nine : check most job true ≡ done

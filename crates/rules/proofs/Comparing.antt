@@ -14,8 +14,7 @@ use Rattle.rules.specs.declared.Difference.{Difference}
 use Rattle.rules.specs.Lists.{inTurn, onto, allBelow}
 use Rattle.rules.specs.Job.{Job, Limits, fileCount, recipeCount, bound, viewOf, view}
 use Rattle.rules.specs.Check.{done, isDone}
-use Rattle.rules.specs.Stored.{headerOf, blockCount, jobOf}
-use Rattle.rules.specs.Refusals.{rows4to6, readRows}
+use Rattle.rules.specs.Stored.{jobOf}
 use Rattle.rules.specs.Report.{text, spaced, digits, line, allRoom}
 use Rattle.rules.specs.Theorems.{Sound, mostBytes}
 use Rattle.rules.specs.Compare.{same, headDifferences, fileDifferences, recipeDifferences, differences, readFor, Comparing, compared, comparingOf, comparingJobs, comparing, differenceLine, differenceLines, refusedOf, compares}
@@ -23,7 +22,7 @@ use Rattle.rules.specs.Comparing.{shown, recordAt, Told, Has, Difference
 use Rattle.rules.proofs.Tests.{contra'}
 use Rattle.rules.proofs.Views.{none-past}
 use Rattle.rules.proofs.SoundJob.{view-is, view-length}
-use Rattle.rules.proofs.Refusals.{lacks, never-given, further-lacks, rows-read}
+use Rattle.rules.proofs.Refusals.{never-read}
 use Rattle.rules.proofs.Reading.{read-holds}
 use Rattle.rules.proofs.CutOff.{cut-same}
 use Rattle.rules.proofs.RoundTrip.{back-holds}
@@ -163,12 +162,7 @@ differences-hold most old new s t = record {
 
 -- reading never gives 30
 read-never : (most : Limits) (bytes : List ℕ) → readFor most bytes .number ≢ 30
-unfolding lacks
-read-never most bytes =
-    rw (rows-read most bytes (allRoom most))
-    (never-given 30 (readRows most bytes (allRoom most))
-    (further-lacks (headerOf bytes) bytes 30 (omega arith) (omega arith) 1 (blockCount (headerOf bytes) - 1) (rows4to6 (jobOf bytes)) refl)
-    (omega arith))
+read-never most bytes = never-read most bytes (allRoom most) 30 (omega arith) (omega arith) (omega arith) (omega arith)
 
 module _ (most : Limits) (old new : List ℕ) (room : List Difference) where
   abbrev found : List Difference

@@ -16,7 +16,7 @@ use Rattle.rules.specs.declared.RunFigures.{RunFigures}
 use Rattle.rules.specs.Job.{Job, Limits, fileCount, recipeCount, pinCount, scratchFor, scratchNumbers, fits}
 use Rattle.rules.specs.Check.{done, refuseIf, badK, check2Of, check}
 use Rattle.rules.specs.Stored.{headerOf, blockCount, jobOf, roomy, layoutVerdict, readVerdict}
-use Rattle.rules.specs.Refusals.{Row, row, rows1and2, rows4to6, rows7to9, blockRows, furtherRows}
+use Rattle.rules.specs.Refusals.{Row, row, rows1and2, rows4to6, rows7to10, blockRows, furtherRows}
 use Rattle.rules.specs.Pass.{pass, leaves}
 use Rattle.rules.specs.Run.{run, lastOf, figuresOf, runFiguresOf, Ended}
 use Rattle.rules.specs.Report.{report, allRoom, allLent, prints}
@@ -104,7 +104,7 @@ module _ (most : Limits) where
           let r = read-holds most input (allRoom most) in
           let s = r .sound ok in
           rw (lent-enough (jobOf input) (s .fewFiles) (s .fewRecipes) (s .fewPins), r .adds ok, rows-seven (jobOf input) most)
-          (unfold lacks in never-given 3 (rows7to9 most (jobOf input)) refl (omega arith));
+          (unfold lacks in never-given 3 (rows7to10 most (jobOf input)) refl (omega arith));
     }
 
     -- what the programs print of a job that is read and accepted

@@ -43,5 +43,6 @@ pub mod Balancing
 pub mod Unread
 pub mod Worked
 pub mod Wider
+pub mod Emptied
 pub mod Compare
 pub mod Comparing

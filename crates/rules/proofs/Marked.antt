@@ -6,7 +6,7 @@ use borrow.Author.Tests.{le-ltb}
 use Rattle.rules.specs.Lists.{total, count, those, largest, upTo, lowest, bestUpTo, onto, padded, diff}
 use Rattle.rules.specs.Job.{Job, Limits, limitsOf, viewOf, files, views, readIn, recipes}
 use Rattle.rules.specs.Split.{countOn, isCut, cut, times, alone, together, gain, unreadFiles, unreadRecipes, weight, smax, sizeOn, balanced}
-use Rattle.rules.specs.Check.{done, check1, check2, check3, check4, badPin, check5, check6, check7, check8, check9, check4to6, check7to9, check1to6, check, checkJob}
+use Rattle.rules.specs.Check.{done, check1, check2, check3, check4, badPin, check5, check6, check7, check8, check10, check9, check4to6, check7and8and10, check7to10, check1to6, check, checkJob}
 use Rattle.rules.specs.Move.{moved, stepsBy, sizeAfter, legal, distAfter, challenge, firstBelow, choose, movesBy, moves, fileOn, kindsIn, kindsOf, scansFrom, scans, endsFrom, visits}
 use Rattle.rules.specs.Pass.{gainsWhen, cutsAfter, cutAt, keeps, standing, gainsAfter, passOf, leaves}
 use Rattle.rules.specs.Run.{passesBy, mostPasses, passes, lastOf, figuresOf, runFiguresOf}
@@ -14,7 +14,7 @@ use Rattle.rules.specs.Stored.{weigh, blockCheck, headerOf, laidOut, blo
 use Rattle.rules.specs.Report.{text, digitsIn, spaced, line, refusal, firstLines, sizeLine, sidesLine, figureLines, report, allRoom, prints}
 use Rattle.rules.specs.Writing.{valueBytes, contents}
 use Rattle.rules.specs.Trace.{signed, gainWords, scanLines, moveLines, movesLines, passLines, trace, traces}
-use Rattle.rules.specs.Marked.{chain, pair, archive, chainBytes, pairBytes, Marked}
+use Rattle.rules.specs.Marked.{chain, archive, chainBytes, Marked}
 use Rattle.rules.proofs.Lending.{runText, passText, prints-run, traces-pass, read-same}
 
 -- ---- from bytes to bytes, of a stored job that the programs accept under these limits
@@ -35,32 +35,17 @@ chain-stored = refl
 
 module _ (most : Limits) (f : 4 ≤ most .files) (r : 3 ≤ most .recipes) (p : 6 ≤ most .pins) (d : 2 ≤ most .den) where
   chain-read : readVerdict most chainBytes (allRoom most) ≡ done
-  unfolding upTo lowest padded contents valueBytes weigh blockCheck headerOf laidOut blockVerdict blocksVerdict jobOf layoutVerdict readVerdict check1 check2 check3 check4 badPin check5 check6 check7 check8 check9 check4to6 check7to9 check1to6 check
+  unfolding upTo lowest padded contents valueBytes weigh blockCheck headerOf laidOut blockVerdict blocksVerdict jobOf layoutVerdict readVerdict check1 check2 check3 check4 badPin check5 check6 check7 check8 check10 check9 check4to6 check7and8and10 check7to10 check1to6 check
   chain-read = read-same most (limitsOf 4 3 6 2) chainBytes (rw (le-ltb (most .files) 4 f, le-ltb (most .recipes) 3 r, le-ltb (most .pins) 6 p) refl) refl
 
   chain-checked : checkJob most chain ≡ done
-  unfolding total count largest upTo lowest bestUpTo diff viewOf files views readIn recipes those countOn isCut cut times alone together gain weight smax sizeOn balanced check1 check2 check3 check4 badPin check5 check6 check7 check8 check9 check4to6 check7to9 check1to6 check
+  unfolding total count largest upTo lowest bestUpTo diff viewOf files views readIn recipes those countOn isCut cut times alone together gain weight smax sizeOn balanced check1 check2 check3 check4 badPin check5 check6 check7 check8 check10 check9 check4to6 check7and8and10 check7to10 check1to6 check
   chain-checked = rw (le-ltb (most .files) 4 f, le-ltb (most .recipes) 3 r, le-ltb (most .pins) 6 p, le-ltb (most .den) 2 d) refl
-
--- ---- the pair
-
-pair-stored : jobOf pairBytes ≡ pair
-unfolding upTo padded contents valueBytes jobOf headerOf
-pair-stored = refl
-
-module _ (most : Limits) (f : 2 ≤ most .files) (r : 1 ≤ most .recipes) (p : 2 ≤ most .pins) (d : 2 ≤ most .den) where
-  pair-read : readVerdict most pairBytes (allRoom most) ≡ done
-  unfolding upTo lowest padded contents valueBytes weigh blockCheck headerOf laidOut blockVerdict blocksVerdict jobOf layoutVerdict readVerdict check1 check2 check3 check4 badPin check5 check6 check7 check8 check9 check4to6 check7to9 check1to6 check
-  pair-read = read-same most (limitsOf 2 1 2 2) pairBytes (rw (le-ltb (most .files) 2 f, le-ltb (most .recipes) 1 r, le-ltb (most .pins) 2 p) refl) refl
-
-  pair-checked : checkJob most pair ≡ done
-  unfolding total count largest upTo lowest bestUpTo diff viewOf files views readIn recipes those countOn isCut cut times alone together gain weight smax sizeOn balanced check1 check2 check3 check4 badPin check5 check6 check7 check8 check9 check4to6 check7to9 check1to6 check
-  pair-checked = rw (le-ltb (most .files) 2 f, le-ltb (most .recipes) 1 r, le-ltb (most .pins) 2 p, le-ltb (most .den) 2 d) refl
 
 -- ---- the archive of order 2
 
 archive-checked : (most : Limits) → 4 ≤ most .files → 2 ≤ most .recipes → 4 ≤ most .pins → 2 ≤ most .den → checkJob most archive ≡ record { number = 9; place = 0 }
-unfolding total count largest upTo lowest viewOf files views readIn recipes those weight smax sizeOn balanced check1 check2 check3 check4 badPin check5 check6 check7 check8 check9 check4to6 check7to9 check1to6 check
+unfolding total count largest upTo lowest viewOf files views readIn recipes those weight smax sizeOn balanced check1 check2 check3 check4 badPin check5 check6 check7 check8 check10 check9 check4to6 check7and8and10 check7to10 check1to6 check
 archive-checked m f r p d = rw (le-ltb (m .files) 4 f, le-ltb (m .recipes) 2 r, le-ltb (m .pins) 4 p, le-ltb (m .den) 2 d) refl
 
 pub marked : Marked
@@ -75,10 +60,6 @@ marked = record {
   m2 = refl;
   m3 = refl;
   m4 = refl;
-  m5·moves = refl;
-  m5·stored = pair-stored;
-  m5·prints = λ m f r p d. prints-whole m pairBytes pair pair-stored (pair-read m f r p d) (pair-checked m f r p d);
-  m5·traces = λ m f r p d. traces-whole m pairBytes pair pair-stored (pair-read m f r p d) (pair-checked m f r p d);
   m6·kinds = refl;
   m6·visits = refl;
   m6·three = refl;

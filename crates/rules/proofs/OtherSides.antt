@@ -59,7 +59,7 @@ module _ (job : Job) (sides : List ℕ) where
 
   -- from such sides, balanced, the same job passes its check again
   pub check-again : (most : Limits) (lent : Bool) → check most job lent .number ≡ 0 → Sides job sides → balanced job (sizeA job sides) ≡ true → checkJob most next ≡ done
-  unfolding views recipes readIn
+  unfolding views recipes readIn weight smax files
   check-again most lent ok w b =
       let a : Accepted most job = accepted most job lent ok in
       check-holds most next true .acceptedPasses
@@ -69,6 +69,7 @@ module _ (job : Job) (sides : List ℕ) where
         ratio = a .ratio;
         wide = a .wide;
         free = a .free;
+        filled = a .filled;
         balanced = same-balance (sizeA next sides) ∙ ap (balanced job) (same-size 0 sides) ∙ b;
       })
       refl

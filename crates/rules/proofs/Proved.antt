@@ -15,7 +15,7 @@ use Rattle.rules.specs.declared.Verdict.{Verdict}
 use Rattle.rules.specs.Lists.{count, upTo, lowest, someBelow}
 use Rattle.rules.specs.Job.{Job, Limits, fileCount, recipeCount, files, views, recipes, Lent, scratchFor, fits}
 use Rattle.rules.specs.Split.{sideOf, cut, unreadFiles, unreadRecipes, sizeA, balanced}
-use Rattle.rules.specs.Check.{refuseIf, _orElse_, badK, check1, check2, check3, check4, check5, badFile, check6, check7, check8, check9, check4to6, check1to6, check7to9, check, measure}
+use Rattle.rules.specs.Check.{refuseIf, _orElse_, badK, check1, check2, check3, check4, check5, badFile, check6, check8, check9, check4to6, check1to6, check7and8and10, check7to10, check, measure}
 use Rattle.rules.specs.Move.{stepsBy, State, start, free, moved, after, Frees, sizeAfter, legal, Scan, scans, endsFrom}
 use Rattle.rules.specs.Pass.{cutAt, keeps, gainsAfter, startGains, Pass, passOf, tries, pass, leaves}
 use Rattle.rules.specs.Run.{mostPasses, passes, run, lastOf, figuresOf, runFiguresOf, leftBy, passEnds, runEnds}
@@ -28,7 +28,7 @@ use Rattle.rules.proofs.Entries.{beyond, listed-more, listed-holds}
 use Rattle.rules.proofs.GainKept.{frees-take, after-binary, keptUp, kept-length, kept-more, gain-kept-at, gains-kept, gains-pinned, gains-chosen, replay-within, replay-listed, told-more, cut-kept, start-fresh}
 use Rattle.rules.proofs.FourScans.{recipe-scans, all-scans, all-visits}
 use Rattle.rules.proofs.Sizes.{sizes-kept, gain-range}
-use Rattle.rules.proofs.SoundJob.{fine-k, ok7, sound, recipes-distinct, views-length, recipes-length, views-total}
+use Rattle.rules.proofs.SoundJob.{fine-k, ok7, ok-before, sound, recipes-distinct, views-length, recipes-length, views-total}
 use Rattle.rules.proofs.Choice.{chosen-one}
 use Rattle.rules.proofs.MovesEnd.{StateLong, after-long, pass-free, pass-each, pass-end, locked-stays, frees-once, frees-few}
 use Rattle.rules.proofs.Fits.{long-enough}
@@ -38,22 +38,23 @@ use Rattle.rules.proofs.Runs.{keeps-le, keeps-least, keeps-shortest, on
 -- ---- an accepted job
 
 pub accepted : (most : Limits) (job : Job) (lent : Bool) → check most job lent .number ≡ 0 → Accepted most job
-unfolding check check7to9 check8 check9 files
+unfolding check check7to10 check7and8and10 check8 check9 files
 accepted most job lent ok =
-    let a = passes-both (check1to6 most job lent) (check7to9 most job) ok in
+    let a = passes-both (check1to6 most job lent) (check7to10 most job) ok in
     let s = sound most job lent (a .0) in
     let none = eqb (count (λ f. eqb (getD (job .marks) f 0) 0) (upTo (fileCount job))) 0 in
     let start = balanced job (sizeA job (job .sides)) in
-    let b = passes-both (check7 most job) (refuseIf none 8 0 orElse refuseIf (not start) 9 0) (a .1) in
-    let c = passes-both (refuseIf none 8 0) (refuseIf (not start) 9 0) (b .1) in
-    let t = count-some (λ f. eqb (getD (job .marks) f 0) 0) (fileCount job) (eqb-false (count (λ f. eqb (getD (job .marks) f 0) 0) (upTo (fileCount job))) 0 (not-refused none 7 0 (c .0))) in
+    let b = passes-both (check7and8and10 most job) (refuseIf (not start) 9 0) (a .1) in
+    let c = ok-before most job (b .0) in
+    let t = count-some (λ f. eqb (getD (job .marks) f 0) 0) (fileCount job) (eqb-false (count (λ f. eqb (getD (job .marks) f 0) 0) (upTo (fileCount job))) 0 (not-refused none 7 0 (c .1))) in
     record {
       sound = s;
       distinct = recipes-distinct most job s;
-      ratio = ok7 most job (b .0) .0;
-      wide = ok7 most job (b .0) .1;
+      ratio = ok7 most job (c .0) .0;
+      wide = ok7 most job (c .0) .1;
       free = (t .0, t .1, eqb-true (getD (job .marks) (t .0) 0) 0 (t .2));
-      balanced = not-no start (not-refused (not start) 8 0 (c .1));
+      filled = c .2;
+      balanced = not-no start (not-refused (not start) 8 0 (b .1));
     }
 
 -- ---- any moves of files then free
@@ -195,7 +196,7 @@ module _ (most : Limits) (job : Job) (s : Sound most job) where
 
   -- what holds of the sides given, and of those that a pass leaves if it holds of those that it starts from
   module _ {ℓ} (good : List ℕ → Type ℓ) (begin : good (job .sides)) (keep : (sides : List ℕ) → good sides → good (pass job sides .sidesAfter)) where
-    each-start : (i : ℕ) → good (startSides job i)
+    pub each-start : (i : ℕ) → good (startSides job i)
     unfolding startSides
     each-start zero = begin
     each-start (suc i) = keep (startSides job i) (each-start i)
@@ -275,10 +276,9 @@ module _ (most : Limits) (job : Job) (s : Sound most job) where
 -- ---- the answers
 
 pub plain-check : (most : Limits) (job : Job) (lent : Bool) → Plain (check most job lent)
-unfolding check check7to9 check7 check8 check9
+unfolding check check7to10 check9
 plain-check most job lent =
-    plain-chain (check1to6 most job lent) (check7to9 most job)
-    (plain-chain (check7 most job) (check8 job orElse check9 job) (plain-chain (check8 job) (check9 job) (plain-if (not (balanced job (sizeA job (job .sides)))) 8 0)))
+    plain-chain (check1to6 most job lent) (check7to10 most job) (plain-chain (check7and8and10 most job) (check9 job) (plain-if (not (balanced job (sizeA job (job .sides)))) 8 0))
 
 pub plain-later : (job : Job) → Plain (check4to6 job)
 unfolding check4to6 check6
@@ -303,14 +303,14 @@ lent-six most job lent ok =
 
 pub lent-fits : (most : Limits) (job : Job) (lent : Bool) → check most job lent .number ≡ 0 → lent ≡ true
 unfolding check
-lent-fits most job lent ok = lent-six most job lent (passes-both (check1to6 most job lent) (check7to9 most job) ok .0)
+lent-fits most job lent ok = lent-six most job lent (passes-both (check1to6 most job lent) (check7to10 most job) ok .0)
 
--- what passes 1 to 9 can be written
+-- what passes 1 to 10 can be written
 pub check-writes : (most : Limits) (job : Job) (lent : Bool) → check most job lent .number ≡ 0 → checkWritten most job lent .number ≡ 0
-unfolding check check7to9
+unfolding check check7to10
 check-writes most job lent ok =
-    let a = passes-both (check1to6 most job lent) (check7to9 most job) ok in
-    let k = ok7 most job (passes-both (check7 most job) (check8 job orElse check9 job) (a .1) .0) .1 in
+    let a = passes-both (check1to6 most job lent) (check7to10 most job) ok in
+    let k = ok7 most job (ok-before most job (passes-both (check7and8and10 most job) (check9 job) (a .1) .0) .0) .1 in
     both-pass (check1to6 most job lent) (refuseIf (badK (job .k)) 7 0) (a .0) (ap (λ (b : Bool). refuseIf b 7 0 .number) (fine-k (job .k) k))
 
 pub answers : (most : Limits) (job : Job) (l : Lent) → Answers most job l

@@ -1,5 +1,5 @@
 -- The check and the reader answer by their tables: the first row that is given. Assumes nothing.
-use mathlib.Core.Path.{_≡_, refl, sym, ap, _∙_}
+use mathlib.Core.Path.{_≡_, refl, sym, ap, ap₂, _∙_}
 use mathlib.Core.Logic.{_≢_}
 use Prim.Native.Nat.{ℕ, zero, suc, _-_, _*_, _<_}
 use mathlib.Core.Bool.{Bool, true, false, not, cond, _&&_}
@@ -12,10 +12,9 @@ use Rattle.rules.specs.declared.Verdict.{Verdict}
 use Rattle.rules.specs.declared.Header.{Header}
 use Rattle.rules.specs.Lists.{lowest, someBelow}
 use Rattle.rules.specs.Job.{Job, Limits, fileCount, recipeCount, pinCount, bound}
-use Rattle.rules.specs.Split.{sizeA, balanced}
-use Rattle.rules.specs.Check.{done, refuseIf, refuseAt, _orElse_, short, badFile, badRatio, badK, check1Of, check2Of, check1, check2, check3, check4, check5, check6, check7, check8, check9, check4to6, check7to9, check1to6, check}
+use Rattle.rules.specs.Check.{done, refuseIf, refuseAt, _orElse_, short, badFile, badRatio, badK, mayEmpty, badStart, check1Of, check2Of, check1, check2, check3, check4, check5, check6, check7, check8, check10, check9, check4to6, check7and8and10, check7to10, check1to6, check}
 use Rattle.rules.specs.Stored.{word, blockAt, kindOf, valuesIn, blockCheck, laidOut, headerOf, blockCount, blockVerdict, blocksVerdict, jobOf, Room, roomy, layoutVerdict, readVerdict}
-use Rattle.rules.specs.Refusals.{Row, row, saidBy, rowOf, rows4to6, rows7to9, rows1to6, rows1to9, blockRows, furtherRows, layoutRows, readRows}
+use Rattle.rules.specs.Refusals.{Row, row, saidBy, rowOf, rows4to6, rows7and8and10, rows7to10, rows1to6, rows1to10, blockRows, furtherRows, layoutRows, readRows}
 use Rattle.rules.specs.Theorems.{FirstRow, FirstGiven}
 use Rattle.rules.proofs.Tests.{clash, and-yes}
 use Rattle.rules.proofs.Verdicts.{or-assoc, or-three}
@@ -140,28 +139,39 @@ module _ (job : Job) where
       orElse refuseIf (not (eqb (bound job (recipeCount job)) (pinCount job))) 4 (recipeCount job)
       orElse check5 job orElse v) (or-done (someBelow (badFile job) (fileCount job)) 5 (lowest (badFile job) (fileCount job)))
 
-  pub rows-seven : (most : Limits) → check7to9 most job ≡ answerOf (rows7to9 most job)
-  unfolding check7to9 check7 check8 check9 answerOf
-  rows-seven most =
-      or-assoc (refuseIf (badRatio most job) 7 0) (refuseIf (badK (job .k)) 7 0) (check8 job orElse check9 job)
-      ∙ ap (λ (v : Verdict). refuseIf (badRatio most job) 7 0 orElse refuseIf (badK (job .k)) 7 0 orElse check8 job orElse v) (or-done (not (balanced job (sizeA job (job .sides)))) 8 0)
+  -- what stands before 9
+  pub rows-before : (most : Limits) → check7and8and10 most job ≡ answerOf (rows7and8and10 most job)
+  unfolding check7and8and10 check7 check8 check10 answerOf
+  rows-before most =
+      or-assoc (refuseIf (badRatio most job) 7 0) (refuseIf (badK (job .k)) 7 0) (check8 job orElse check10 job)
+      ∙ ap (λ (v : Verdict). refuseIf (badRatio most job) 7 0 orElse refuseIf (badK (job .k)) 7 0 orElse check8 job orElse v) (or-done (mayEmpty job) 9 0)
+
+  -- and then a 9, that of a pass or that of the balancing
+  pub rows-last : (most : Limits) (b : Bool) → (check7and8and10 most job orElse refuseIf b 9 0) ≡ answerOf (rows7and8and10 most job ++ (row 9 b 0 ∷ []))
+  unfolding answerOf
+  rows-last most b =
+      ap₂ (λ (v w : Verdict). v orElse w) (rows-before most) (or-done b 8 0) ∙ sym (answer-append (rows7and8and10 most job) (row 9 b 0 ∷ []))
+
+  pub rows-seven : (most : Limits) → check7to10 most job ≡ answerOf (rows7to10 most job)
+  unfolding check7to10 check9
+  rows-seven most = rows-last most (badStart job)
 
   pub rows-six : (most : Limits) (lent : Bool) → check1to6 most job lent ≡ answerOf (rows1to6 most job lent)
   unfolding check1to6 check1 check2 check3 answerOf
   rows-six most lent = ap (λ (v : Verdict). check1 job orElse check2 most job orElse check3 job lent orElse v) rows-four
 
-  rows-nine : (most : Limits) (lent : Bool) → check most job lent ≡ answerOf (rows1to9 most job lent)
+  rows-nine : (most : Limits) (lent : Bool) → check most job lent ≡ answerOf (rows1to10 most job lent)
   unfolding check
   rows-nine most lent =
-      rw (rows-six most lent, rows-seven most) (sym (answer-append (rows1to6 most job lent) (rows7to9 most job)))
+      rw (rows-six most lent, rows-seven most) (sym (answer-append (rows1to6 most job lent) (rows7to10 most job)))
 
   pub six-rows : (most : Limits) (lent : Bool) → FirstGiven (rows1to6 most job lent) (check1to6 most job lent)
   unfolding lacks
   six-rows most lent = first-given (rows1to6 most job lent) refl (rows-six most lent)
 
-  pub check-rows : (most : Limits) (lent : Bool) → FirstGiven (rows1to9 most job lent) (check most job lent)
+  pub check-rows : (most : Limits) (lent : Bool) → FirstGiven (rows1to10 most job lent) (check most job lent)
   unfolding lacks
-  check-rows most lent = first-given (rows1to9 most job lent) refl (rows-nine most lent)
+  check-rows most lent = first-given (rows1to10 most job lent) refl (rows-nine most lent)
 
 -- ---- the table of the reader
 
@@ -203,6 +213,17 @@ module _ (most : Limits) (bytes : List ℕ) (room : Room) where
   pub rows-read : readVerdict most bytes room ≡ answerOf (readRows most bytes room)
   unfolding readVerdict
   rows-read = rw (rows-layout, rows-four (jobOf bytes)) (sym (answer-append (layoutRows most bytes room) (rows4to6 (jobOf bytes))))
+
+  -- reading gives 1 to 6 and 20 to 22, and no other number
+  pub never-read : (k : ℕ) → 6 < k → 20 ≢ k → 21 ≢ k → 22 ≢ k → readVerdict most bytes room .number ≢ k
+  unfolding lacks
+  never-read k l p q r =
+      let four : lacks k (rows4to6 (jobOf bytes)) ≡ true = rw (ne-eqb 4 k (λ e. omega arith), ne-eqb 5 k (λ e. omega arith), ne-eqb 6 k (λ e. omega arith)) refl in
+      rw rows-read
+      (never-given k (readRows most bytes room)
+      (rw (ne-eqb 1 k (λ e. omega arith), ne-eqb 2 k (λ e. omega arith), ne-eqb 3 k (λ e. omega arith), ne-eqb 20 k p, ne-eqb 21 k q, ne-eqb 22 k r)
+      (further-lacks (headerOf bytes) bytes k q r 1 (blockCount (headerOf bytes) - 1) (rows4to6 (jobOf bytes)) four))
+      (λ e. omega arith))
 
   pub read-rows : FirstGiven (readRows most bytes room) (readVerdict most bytes room)
   unfolding lacks

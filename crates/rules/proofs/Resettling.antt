@@ -11,7 +11,7 @@ use Rattle.rules.specs.declared.RunFigures.{RunFigures}
 use Rattle.rules.specs.Lists.{allBelow}
 use Rattle.rules.specs.Job.{Job, Limits, TwoByte, fits}
 use Rattle.rules.specs.Split.{cut, balanced}
-use Rattle.rules.specs.Check.{done, refuseIf, _orElse_, check1to6, check7to9, check, checkJob}
+use Rattle.rules.specs.Check.{done, refuseIf, _orElse_, check1to6, check7to10, check, checkJob}
 use Rattle.rules.specs.Pass.{Pass, tries, pass}
 use Rattle.rules.specs.Run.{settles, mostPasses, passes, run, lastOf, figuresOf, runFiguresOf, Ended, leftBy}
 use Rattle.rules.specs.Stored.{jobOf, readVerdict}
@@ -122,13 +122,13 @@ module _ (most : Limits) (input : List ℕ) (read : readVerdict most input (allR
         rw (eq-eqb ((readVerdict most input (allRoom most) orElse ran) .number) 0 both, resettles)
         (ap (λ (x : Ended RunFigures). record { output = blocksOf (withSides (jobOf input) (x .sides)); errors = [] }) e)
 
-    -- the new job passes 1 to 9, and so its blocks are read and run
+    -- the new job passes 1 to 10, and so its blocks are read and run
     passes-nine : checkJob most new .number ≡ 0
     passes-nine = ap (λ (v : Verdict). v .number) (resettled-holds most (jobOf input) ok .accepted)
 
     passes-six : check1to6 most new true .number ≡ 0
     unfolding check
-    passes-six = passes-both (check1to6 most new true) (check7to9 most new) passes-nine .0
+    passes-six = passes-both (check1to6 most new true) (check7to10 most new) passes-nine .0
 
     new-blocks : BlocksHold most new
     new-blocks = blocks-hold most new (check-writes most new true passes-nine)

@@ -14,7 +14,7 @@ use borrow.Author.Tests.{ltb-false, leb-false, eqb-true, eqb-false, ne-eqb, lt-l
 use Rattle.rules.specs.Lists.{total, count, upTo, lowest, someBelow}
 use Rattle.rules.specs.Job.{Job, Limits, fileCount, recipeCount, pinCount, bound, pin, view, views, readIn, recipes}
 use Rattle.rules.specs.Split.{sizeOf, times}
-use Rattle.rules.specs.Check.{refuseIf, refuseAt, _orElse_, short, repeatsIn, badPin, badFile, badRatio, badK, check1Of, check2Of, check1, check2, check3, check4, check5, check6, check7, check4to6, check1to6}
+use Rattle.rules.specs.Check.{refuseIf, refuseAt, _orElse_, short, repeatsIn, badPin, badFile, badRatio, badK, check1Of, check2Of, check1, check2, check3, check4, check5, check6, check7, check8, mayEmpty, check10, check4to6, check1to6, check7and8and10}
 use Rattle.rules.specs.Theorems.{Distinct, Sound}
 use Rattle.rules.proofs.Count.{total-map, total-upTo, getD-mapped, getD-tabled, length-tabled, times-once}
 use Rattle.rules.proofs.Tests.{or-no, and-yes, and-no, not-no}
@@ -131,6 +131,14 @@ ok7 most job h =
     let q = or-no (eqb (job .num) 0) (leb (job .den) (job .num)) (r .0) in
     let z : job .num ≢ 0 = eqb-false (job .num) 0 (q .0) in
     ((omega arith, leb-false (job .den) (job .num) (q .1), ltb-false (most .den) (job .den) (r .1)), good-k (job .k) 6 (both .1))
+
+-- 7, 8 and 10, which stand before 9
+pub ok-before : (most : Limits) (job : Job) → check7and8and10 most job .number ≡ 0 → (check7 most job .number ≡ 0) × (check8 job .number ≡ 0) × (mayEmpty job ≡ false)
+unfolding check7and8and10 check10
+ok-before most job h =
+    let a = passes-both (check7 most job) (check8 job orElse check10 job) h in
+    let b = passes-both (check8 job) (check10 job) (a .1) in
+    (a .0, b .0, not-refused (mayEmpty job) 9 0 (b .1))
 
 -- a job for which the check gives none of 1 to 6
 pub sound : (most : Limits) (job : Job) (lent : Bool) → check1to6 most job lent .number ≡ 0 → Sound most job

@@ -14,7 +14,7 @@ use Rattle.rules.specs.declared.Verdict.{Verdict}
 use Rattle.rules.specs.Lists.{total, count, largest, upTo, lowest}
 use Rattle.rules.specs.Job.{Job, Limits, files}
 use Rattle.rules.specs.Split.{weight, smax, sizeOn, balanced}
-use Rattle.rules.specs.Check.{refuseIf, _orElse_, badK, check1, check2, check3, check4, badPin, check5, check6, check7, check8, check9, check4to6, check1to6, check7to9, check}
+use Rattle.rules.specs.Check.{refuseIf, _orElse_, badK, check1, check2, check3, check4, badPin, check5, check6, check7, check8, check10, check9, check4to6, check1to6, check7and8and10, check7to10, check}
 use Rattle.rules.specs.Stored.{blockAt, value, headerOf, headerValues, valuesIn, laidOut, badCheck, badLayout, underOne, blockVerdict, Room, layoutVerdict, readVerdict, jobOf}
 use Rattle.rules.specs.Wider.{countRead, HeaderCounts, OneAsBefore, WiderWorked}
 use Rattle.rules.proofs.Verdicts.{passes-both, not-refused}
@@ -23,7 +23,7 @@ use Rattle.rules.proofs.SoundJob.{good-k}
 use Rattle.rules.proofs.Words.{laid-out}
 
 pub worked : WiderWorked
-unfolding total count largest upTo lowest files weight smax sizeOn balanced check1 check2 check3 check4 badPin check5 check6 check7 check8 check9 check4to6 check7to9 check1to6 check
+unfolding total count largest upTo lowest files weight smax sizeOn balanced check1 check2 check3 check4 badPin check5 check6 check7 check8 check10 check9 check4to6 check7and8and10 check7to10 check1to6 check
 worked = record { one = refl; two = refl; three = refl; checked = refl }
 
 pub one-as-before : (job : Job) → OneAsBefore job

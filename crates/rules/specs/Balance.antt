@@ -11,7 +11,7 @@ use Rattle.rules.specs.declared.BalanceFigures.{BalanceFigures}
 use Rattle.rules.specs.Lists.{bit, total, listed}
 use Rattle.rules.specs.Job.{Job, Limits, fileCount, files, recipes, scratchFor}
 use Rattle.rules.specs.Split.{onSide, cut, gain, isFree, weighs, unreadFiles, unreadRecipes, weight, tolerance, sizeA, largeEnough, smallEnough}
-use Rattle.rules.specs.Check.{isDone, refuseIf, _orElse_, check7, check8, check1to6}
+use Rattle.rules.specs.Check.{isDone, refuseIf, _orElse_, check1to6, check7and8and10}
 use Rattle.rules.specs.Move.{State, start, moved, after, greater, firstBelow, movesBy}
 use Rattle.rules.specs.Stored.{jobOf, readVerdict}
 use Rattle.rules.specs.Report.{line, firstLines, sizeLine, tells, ofFiles, Printing, telling, allRoom, allLent}
@@ -52,7 +52,7 @@ balanceMoves job = movesBy (balanceChoice job) moved (fileCount job) (start job 
 abbrev pub balanceSides : Job → List ℕ
 balanceSides job = after (start job (job .sides)) (balanceMoves job) .sides
 
--- ---- its check: 1 to 8 as before, and a 9 of its own
+-- ---- its check: 1 to 8 and 10 as before, and a 9 of its own
 
 -- the least that |A| can be: all free files in B
 unfoldable pub leastA : Job → ℕ
@@ -66,11 +66,11 @@ mostA job = total (λ f. bit (isFree job f || onSide (job .sides) 0 f) * weighs 
 unfoldable pub noneBalanced : Job → Bool
 noneBalanced job = tooLarge job (leastA job) || tooSmall job (mostA job)
 
-unfoldable pub check1to8 : Limits → Job → Bool → Verdict
-check1to8 most job lent = check1to6 most job lent orElse check7 most job orElse check8 job
+unfoldable pub check1to8and10 : Limits → Job → Bool → Verdict
+check1to8and10 most job lent = check1to6 most job lent orElse check7and8and10 most job
 
 unfoldable pub balanceCheck : Limits → Job → Bool → Verdict
-balanceCheck most job lent = check1to8 most job lent orElse refuseIf (noneBalanced job) 9 0
+balanceCheck most job lent = check1to8and10 most job lent orElse refuseIf (noneBalanced job) 9 0
 
 -- ---- the call: it is lent the job, whose sides change, and a pass's scratch
 

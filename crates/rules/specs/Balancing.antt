@@ -14,11 +14,11 @@ use Rattle.rules.specs.Split.{sideOf, cut, gain, isFree, sizeA, balanced
 use Rattle.rules.specs.Check.{done, _orElse_, check9, check}
 use Rattle.rules.specs.Move.{start, after, Frees}
 use Rattle.rules.specs.Stored.{jobOf, readVerdict}
-use Rattle.rules.specs.Refusals.{Row, row, rows7and8, rows1to6}
+use Rattle.rules.specs.Refusals.{Row, row, rows7and8and10, rows1to6}
 use Rattle.rules.specs.Report.{refusal, allRoom, allLent}
 use Rattle.rules.specs.Writing.{blocksOf, withSides}
 use Rattle.rules.specs.Marked.{small, archive}
-use Rattle.rules.specs.Balance.{tooLarge, tooSmall, heavy, freeOn, balanceChoice, balanceMoves, balanceSides, noneBalanced, check1to8, balanceCheck, balanceVerdict, balancingOf, balanceFigures, noBalanceFigures, balancing, balanceLines, balances}
+use Rattle.rules.specs.Balance.{tooLarge, tooSmall, heavy, freeOn, balanceChoice, balanceMoves, balanceSides, noneBalanced, check1to8and10, balanceCheck, balanceVerdict, balancingOf, balanceFigures, noBalanceFigures, balancing, balanceLines, balances}
 use Rattle.rules.specs.Theorems.{Sides, stateAt, MovesHold, Listed, FirstGiven, mostBytes}
 
 -- ---- the two tests are the halves of the balance test (Balance `halves`, of any job and any |A|)
@@ -78,7 +78,7 @@ pub record BalanceHolds (job : Job) : Type 0 where
 
 -- 9: no assignment of the free files is balanced; the other rows are those of the check of a job
 abbrev pub lastRows : Limits → Job → List Row
-lastRows most job = rows7and8 most job ++ (row 9 (noneBalanced job) 0 ∷ [])
+lastRows most job = rows7and8and10 most job ++ (row 9 (noneBalanced job) 0 ∷ [])
 
 abbrev pub balanceRows : Limits → Job → Bool → List Row
 balanceRows most job lent = rows1to6 most job lent ++ lastRows most job
@@ -91,15 +91,15 @@ BalanceRows most job lent = FirstGiven (balanceRows most job lent) (balanceCheck
 pub record NineExactly (most : Limits) (job : Job) (lent : Bool) : Type 0 where
   -- where it is given, none is
   pub given : balanceCheck most job lent .number ≡ 9 → (sides : List ℕ) → Assignment job sides → balanced job (sizeA job sides) ≡ false
-  -- where none is, it is given, after 1 to 8
-  pub exactly : check1to8 most job lent .number ≡ 0 → ((sides : List ℕ) → Assignment job sides → balanced job (sizeA job sides) ≡ false)
+  -- where none is, it is given, after 1 to 8 and 10
+  pub exactly : check1to8and10 most job lent .number ≡ 0 → ((sides : List ℕ) → Assignment job sides → balanced job (sizeA job sides) ≡ false)
       → balanceCheck most job lent ≡ record { number = 9; place = 0 }
   -- where the job passes, one is: the sides that the moves leave
   pub possible : balanceCheck most job lent .number ≡ 0 → Assignment job (balanceSides job) × (balanced job (sizeA job (balanceSides job)) ≡ true)
-  -- 1 to 8 are those of the check of a job, as before; it ends in a 9 of its own
-  pub before : check most job lent ≡ (check1to8 most job lent orElse check9 job)
-  pub numbers : check1to8 most job lent .number ≤ 8
-  pub first : check1to8 most job lent .number ≢ 0 → balanceCheck most job lent ≡ check1to8 most job lent
+  -- 1 to 8 and 10 are those of the check of a job, as before; it ends in a 9 of its own
+  pub before : check most job lent ≡ (check1to8and10 most job lent orElse check9 job)
+  pub numbers : (check1to8and10 most job lent .number ≤ 10) × (check1to8and10 most job lent .number ≢ 9)
+  pub first : check1to8and10 most job lent .number ≢ 0 → balanceCheck most job lent ≡ check1to8and10 most job lent
 
 -- ---- the call (Balancing `balance-answers`, of any input)
 

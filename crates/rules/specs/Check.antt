@@ -1,5 +1,5 @@
--- Document 01, "Numbers for no": the check of a job, 1 to 9 in their order, each with its place. Assumes nothing.
-use Prim.Native.Nat.{ℕ, suc, _+_}
+-- Document 01, "Numbers for no": the check of a job, 1 to 8, 10 and 9 in this order, each with its place. Assumes nothing.
+use Prim.Native.Nat.{ℕ, suc, _+_, _*_}
 use mathlib.Core.Bool.{Bool, true, false, not, cond, _&&_, _||_}
 use lib.ListN.{length, getD}
 use lib.Dec.{leb, ltb, eqb}
@@ -7,7 +7,7 @@ use Rattle.rules.specs.declared.Verdict.{Verdict}
 use Rattle.rules.specs.declared.Measure.{Measure}
 use Rattle.rules.specs.Lists.{count, lowest, someBelow}
 use Rattle.rules.specs.Job.{Job, Limits, fileCount, recipeCount, pinCount, bound, pin, files, recipes}
-use Rattle.rules.specs.Split.{sizeOf, isFree, unreadFiles, unreadRecipes, sizeA, balanced, cut}
+use Rattle.rules.specs.Split.{sizeOf, isFree, unreadFiles, unreadRecipes, weight, tolerance, sizeA, balanced, cut}
 
 abbrev pub done : Verdict
 done = record { number = 0; place = 0 }
@@ -118,6 +118,18 @@ noneFree job = eqb (count (isFree job) (files job)) 0
 unfoldable pub check8 : Job → Verdict
 check8 job = refuseIf (noneFree job) 8 0
 
+-- ---- 10: the window would allow a vault of size 0 (document 02, order 8)
+
+-- num·W at most den·m, or num·W + den·m at least den·W, where m is the tolerance, k·smax
+abbrev pub allowsEmpty : ℕ → ℕ → ℕ → ℕ → Bool
+allowsEmpty num den w m = leb (num * w) (den * m) || leb (den * w) (num * w + den * m)
+
+abbrev pub mayEmpty : Job → Bool
+mayEmpty job = allowsEmpty (job .num) (job .den) (weight job) (tolerance job)
+
+unfoldable pub check10 : Job → Verdict
+check10 job = refuseIf (mayEmpty job) 10 0
+
 -- ---- 9: the start is not balanced
 
 abbrev pub badStart : Job → Bool
@@ -126,20 +138,24 @@ badStart job = not (balanced job (sizeA job (job .sides)))
 unfoldable pub check9 : Job → Verdict
 check9 job = refuseIf (badStart job) 9 0
 
--- ---- in the order 1 to 9
+-- ---- in their order: 10 stands after 8 and before 9
 
 unfoldable pub check4to6 : Job → Verdict
 check4to6 job = check4 job orElse check5 job orElse check6 job
 
-unfoldable pub check7to9 : Limits → Job → Verdict
-check7to9 most job = check7 most job orElse check8 job orElse check9 job
+-- 7, 8 and 10, which stand before the 9 of a pass and before that of the balancing
+unfoldable pub check7and8and10 : Limits → Job → Verdict
+check7and8and10 most job = check7 most job orElse check8 job orElse check10 job
+
+unfoldable pub check7to10 : Limits → Job → Verdict
+check7to10 most job = check7and8and10 most job orElse check9 job
 
 unfoldable pub check1to6 : Limits → Job → Bool → Verdict
 check1to6 most job lent = check1 job orElse check2 most job orElse check3 job lent orElse check4to6 job
 
--- a pass and a run give 1 to 9; the check of a job, as a call of its own, the same with nothing lent
+-- a pass and a run give 1 to 10; the check of a job, as a call of its own, the same with nothing lent
 unfoldable pub check : Limits → Job → Bool → Verdict
-check most job lent = check1to6 most job lent orElse check7to9 most job
+check most job lent = check1to6 most job lent orElse check7to10 most job
 
 abbrev pub checkJob : Limits → Job → Verdict
 checkJob most job = check most job true

@@ -17,5 +17,6 @@ pub mod Theorems
 pub mod RoundTrip
 pub mod Balancing
 pub mod Wider
+pub mod Emptied
 pub mod Compare
 pub mod Comparing

@@ -1,10 +1,10 @@
--- Document 01's marked table, m1 to m9, and the worked cases of document 02's orders, as one statement about the definitions (Marked `marked` of proofs/).
+-- Document 01's marked table, m1 to m9, and order 2's worked case, as one statement about the definitions (Marked `marked` of proofs/). Order 8 took m5 out of it: specs/Emptied.antt has its new answer.
 -- Assumes nothing.
 use Prim.Native.Nat.{ℕ, _≤_}
 use mathlib.Core.Path.{_≡_}
 use mathlib.Core.Bool.{true, false}
 use mathlib.Core.List.{List, [], _∷_, _++_, map}
-use lib.ListN.{length, take, set, replicate}
+use lib.ListN.{length, set, replicate}
 use lib.IntN.{pos, negsuc}
 use Rattle.rules.specs.Writing.{contents}
 use Rattle.rules.specs.Job.{Job, asJob, Limits, files, views, recipes}
@@ -35,10 +35,6 @@ small sides bounds pins = record {
 abbrev pub chain : Job
 chain = small (0 ∷ 1 ∷ 0 ∷ 1 ∷ []) (0 ∷ 2 ∷ 4 ∷ 6 ∷ []) (0 ∷ 1 ∷ 2 ∷ 3 ∷ 1 ∷ 2 ∷ [])
 
--- one recipe {0,1}, sides A, B
-abbrev pub pair : Job
-pair = small (0 ∷ 1 ∷ []) (0 ∷ 2 ∷ []) (0 ∷ 1 ∷ [])
-
 -- a block as bytes: its number, its kind, its values, unused ones zero, and the two bytes of its check
 abbrev pub checked : ℕ → ℕ → List ℕ → ℕ → ℕ → List ℕ
 checked number kind values low high = contents number kind values ++ (low ∷ high ∷ [])
@@ -50,14 +46,6 @@ chainBytes =
     ++ (checked 1 2 (1 ∷ 0 ∷ 1 ∷ 1 ∷ 1 ∷ 0 ∷ 1 ∷ 1 ∷ []) 198 85
     ++ (checked 2 3 (0 ∷ 2 ∷ 4 ∷ 6 ∷ []) 228 85
     ++ checked 3 4 (0 ∷ 1 ∷ 2 ∷ 3 ∷ 1 ∷ 2 ∷ []) 225 85))
-
--- the pair as it is stored
-abbrev pub pairBytes : List ℕ
-pairBytes =
-    checked 0 1 (2 ∷ 1 ∷ 2 ∷ 1 ∷ 2 ∷ 0 ∷ []) 184 85
-    ++ (checked 1 2 (1 ∷ 0 ∷ 1 ∷ 1 ∷ []) 133 85
-    ++ (checked 2 3 (0 ∷ 2 ∷ []) 118 85
-    ++ checked 3 4 (0 ∷ 1 ∷ []) 115 85))
 
 -- recipe {0,1,2}, files 0 and 1 in A, 2 in B
 abbrev pub triple : Job
@@ -99,14 +87,6 @@ pub record Marked : Type 0 where
   pub m3 : map (gain (after (begin chain) (1 ∷ []) .sides) (recipes chain)) (0 ∷ 2 ∷ 3 ∷ []) ≡ negsuc 0 ∷ pos 0 ∷ pos 1 ∷ []
   -- in it |A| of 1 and 3 is balanced, 0 and 4 not
   pub m4 : map (balanced chain) (0 ∷ 1 ∷ 3 ∷ 4 ∷ []) ≡ false ∷ true ∷ true ∷ false ∷ []
-  -- file 0 moves, cut 0, two passes, 12 visits
-  pub m5·moves : map (λ p. take (p .kept) (p .tried)) (run pair) ≡ (0 ∷ []) ∷ [] ∷ []
-  pub m5·stored : jobOf pairBytes ≡ pair
-  pub m5·prints : (most : Limits) → 2 ≤ most .files → 1 ≤ most .recipes → 2 ≤ most .pins → 2 ≤ most .den
-      → prints most pairBytes ≡ text "done\ncut 1 0\nsize 0 2\npasses 2\nsettled yes\nkept 1\nvisits 12\nsides BB\n"
-  pub m5·traces : (most : Limits) → 2 ≤ most .files → 1 ≤ most .recipes → 2 ≤ most .pins → 2 ≤ most .den
-      → traces most pairBytes
-      ≡ text "done\nmove 0 1 0\nscan 0 2\nscan 0 3\nmove 1 -1 1\nscan 0 1\ngains 1 -1\ncut 1 0\nsize 0 2\ntried 2\nkept 1\nscans 3\nvisits 6\nsides BB\n"
   -- the move sequence 0, 1, 2, given and not chosen by a pass, gives scan kinds 2, 4, 3, 1, so 12 visits and the bound met
   pub m6·kinds : given triple (0 ∷ 1 ∷ 2 ∷ []) ≡ 2 ∷ 4 ∷ 3 ∷ 1 ∷ []
   pub m6·visits : visits (views triple) (scans (recipes triple) (begin triple) (0 ∷ 1 ∷ 2 ∷ [])) ≡ 12

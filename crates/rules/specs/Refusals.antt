@@ -7,7 +7,7 @@ use Rattle.rules.specs.declared.Verdict.{Verdict}
 use Rattle.rules.specs.declared.Header.{Header}
 use Rattle.rules.specs.Lists.{lowest, someBelow}
 use Rattle.rules.specs.Job.{Job, Limits, fileCount, recipeCount, pinCount}
-use Rattle.rules.specs.Check.{empty, overMost, wrongLength, startsLate, short, endsWrong, badPin, badFile, badRatio, badK, noneFree, badStart}
+use Rattle.rules.specs.Check.{empty, overMost, wrongLength, startsLate, short, endsWrong, badPin, badFile, badRatio, badK, noneFree, mayEmpty, badStart}
 use Rattle.rules.specs.Stored.{blockAt, headerOf, blockCount, badCheck, badLayout, underOne, wrongTotal, jobOf, Room, roomy}
 
 pub record Row : Type 0 where
@@ -47,13 +47,13 @@ rows4to6 job =
     ∷ rowAt 6 (badFile job) (fileCount job)
     ∷ []
 
--- num 0, num not below den, or den over its most; k not 1 to 4; no file is free
-abbrev pub rows7and8 : Limits → Job → List Row
-rows7and8 most job = row 7 (badRatio most job) 0 ∷ row 7 (badK (job .k)) 0 ∷ row 8 (noneFree job) 0 ∷ []
+-- num 0, num not below den, or den over its most; k not 1 to 4; no file is free; the window would allow a vault of size 0
+abbrev pub rows7and8and10 : Limits → Job → List Row
+rows7and8and10 most job = row 7 (badRatio most job) 0 ∷ row 7 (badK (job .k)) 0 ∷ row 8 (noneFree job) 0 ∷ row 10 (mayEmpty job) 0 ∷ []
 
 -- the start is not balanced
-abbrev pub rows7to9 : Limits → Job → List Row
-rows7to9 most job = rows7and8 most job ++ (row 9 (badStart job) 0 ∷ [])
+abbrev pub rows7to10 : Limits → Job → List Row
+rows7to10 most job = rows7and8and10 most job ++ (row 9 (badStart job) 0 ∷ [])
 
 -- 3: sides or marks not C long, or a lent list of wrong length
 abbrev pub rows1to6 : Limits → Job → Bool → List Row
@@ -61,8 +61,8 @@ rows1to6 most job lent =
     rows1and2 most (fileCount job) (recipeCount job) (pinCount job)
     ++ (row 3 (wrongLength job lent) 0 ∷ rows4to6 job)
 
-abbrev pub rows1to9 : Limits → Job → Bool → List Row
-rows1to9 most job lent = rows1to6 most job lent ++ rows7to9 most job
+abbrev pub rows1to10 : Limits → Job → Bool → List Row
+rows1to10 most job lent = rows1to6 most job lent ++ rows7to10 most job
 
 -- ---- reading
 

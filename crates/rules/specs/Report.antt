@@ -157,7 +157,7 @@ allLent most job = ownLent most (replicate (fileCount job) (pos 0))
 abbrev pub allRun : Limits → Job → Ended RunFigures
 allRun most job = runEnds most job (allLent most job)
 
--- reading gives its refusal or a job, and the run of the job gives its answer, 7 to 9 among them
+-- reading gives its refusal or a job, and the run of the job gives its answer, 7 to 10 among them
 unfoldable pub prints : Limits → List ℕ → List ℕ
 prints most input =
     let v = readVerdict most input (allRoom most) in

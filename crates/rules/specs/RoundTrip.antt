@@ -71,9 +71,9 @@ lastPass job = lastOf (pass job (job .sides)) (run job)
 abbrev pub resettled : Job → Job
 resettled job = withSides job (lastPass job .sidesAfter)
 
--- (Resettling `resettled-holds`, of a job that passes 1 to 9)
+-- (Resettling `resettled-holds`, of a job that passes 1 to 10)
 pub record ResettledHolds (most : Limits) (job : Job) : Type 0 where
-  -- it passes 1 to 9 again, so that it is never refused
+  -- it passes 1 to 10 again, so that it is never refused
   pub accepted : checkJob most (resettled job) ≡ done
   -- it starts from the split that the run left: its cut before is the cut after, and so with |A|
   pub cut : pass (resettled job) (resettled job .sides) .cutBefore ≡ lastPass job .cutAfter
@@ -90,7 +90,7 @@ pub record ResettleRefuses (most : Limits) (input : List ℕ) : Type 0 where
   pub byRun : readVerdict most input (allRoom most) .number ≡ 0 → checkJob most (jobOf input) .number ≢ 0
       → resettles most input ≡ record { output = []; errors = refusal (checkJob most (jobOf input)) }
 
--- (Resettling `hands-back`, of an input that is read and whose job passes 1 to 9)
+-- (Resettling `hands-back`, of an input that is read and whose job passes 1 to 10)
 pub record HandsBack (most : Limits) (input : List ℕ) : Type 0 where
   -- the blocks of the job with the sides after the run, and no line
   pub hands : resettles most input ≡ record { output = blocksOf (resettled (jobOf input)); errors = [] }

@@ -176,7 +176,7 @@ layoutVerdict most bytes room =
     orElse refuseIf (wrongTotal h bytes) 20 0
     orElse blocksVerdict h bytes 1 (blockCount h - 1)
 
--- reading stops after check 6; the run of the job adds 7 to 9
+-- reading stops after check 6; the run of the job adds 7 to 10
 unfoldable pub readVerdict : Limits → List ℕ → Room → Verdict
 readVerdict most bytes room = layoutVerdict most bytes room orElse check4to6 (jobOf bytes)
 

@@ -13,11 +13,11 @@ use Rattle.rules.specs.declared.Header.{Header}
 use Rattle.rules.specs.Lists.{count, diff, sum, onto, allBelow}
 use Rattle.rules.specs.Job.{Job, Limits, TwoByte, fileCount, recipeCount, pinCount, bound, pin, recipes, Lent, scratchFor, fits}
 use Rattle.rules.specs.Split.{sideOf, cut, times, recipesWith, gain, sizeOf, unreadFiles, unreadRecipes, sizeOn, weight, sizeA, balanced}
-use Rattle.rules.specs.Check.{done, refuseAt, check2Of, check2, check1to6, check7to9, check, measure}
+use Rattle.rules.specs.Check.{done, refuseAt, check2Of, check2, mayEmpty, check1to6, check7to10, check, measure}
 use Rattle.rules.specs.Move.{State, start, lockOf, after, legal, distAfter, Scan, replay}
 use Rattle.rules.specs.Pass.{cutAt, startGains, Pass, passOf, tries, pass, leaves}
 use Rattle.rules.specs.Run.{settles, run, lastOf, noFigures, noRunFigures, leftBy, unchanged, figuresOf, runFiguresOf, passEnds, runEnds}
-use Rattle.rules.specs.Refusals.{Row, saidBy, rowOf, rows1to6, rows1to9, readRows}
+use Rattle.rules.specs.Refusals.{Row, saidBy, rowOf, rows1to6, rows1to10, readRows}
 use Rattle.rules.specs.Report.{allRoom, allLent, prints}
 use Rattle.rules.specs.Trace.{traces}
 use Rattle.rules.specs.Writing.{resettles}
@@ -51,13 +51,14 @@ pub record Sound (most : Limits) (job : Job) : Type 0 where
   pub binary : Binary (job .sides)
   pub marks : (f : ℕ) → getD (job .marks) f 0 ≤ 2
 
--- what checks 1 to 9 let through (Proved `accepted`, where `check` answers 0)
+-- what checks 1 to 10 let through (Proved `accepted`, where `check` answers 0)
 pub record Accepted (most : Limits) (job : Job) : Type 0 where
   pub sound : Sound most job
   pub distinct : Distinct (recipes job)
   pub ratio : (1 ≤ job .num) × (job .num < job .den) × (job .den ≤ most .den)
   pub wide : (1 ≤ job .k) × (job .k ≤ 4)
   pub free : (f : ℕ) × (f < fileCount job) × (getD (job .marks) f 0 ≡ 0)
+  pub filled : mayEmpty job ≡ false
   pub balanced : balanced job (sizeA job (job .sides)) ≡ true
 
 -- sides that a pass may start from (Proved `given-sides`, and `MovesHold.next`)
@@ -239,8 +240,8 @@ pub record FirstGiven (rows : List Row) (answer : Verdict) : Type 0 where
 
 -- the check of any job; `lent` says that the lent lists are right (Checking `check-holds`)
 pub record CheckHolds (most : Limits) (job : Job) (lent : Bool) : Type 0 where
-  -- each number is given exactly when the table says, with its place: 1 to 9, and 1 to 6
-  pub table : FirstGiven (rows1to9 most job lent) (check most job lent)
+  -- each number is given exactly when the table says, with its place: 1 to 10, and 1 to 6
+  pub table : FirstGiven (rows1to10 most job lent) (check most job lent)
   pub tableTo6 : FirstGiven (rows1to6 most job lent) (check1to6 most job lent)
   -- what is let through is exactly what is sound, and what is accepted
   pub sound : check1to6 most job lent ≡ done → Sound most job × (lent ≡ true)
@@ -292,9 +293,9 @@ pub record ReadHolds (most : Limits) (bytes : List ℕ) (room : Room) : Type 0 w
   pub files : fileCount (jobOf bytes) ≡ headerOf bytes .files
   pub recipes : recipeCount (jobOf bytes) ≡ headerOf bytes .recipes
   pub pins : pinCount (jobOf bytes) ≡ headerOf bytes .pins
-  -- a job that is read passes 1 to 6, so the run's own check adds 7 to 9
+  -- a job that is read passes 1 to 6, so the run's own check adds 7 to 10
   pub sound : readVerdict most bytes room .number ≡ 0 → Sound most (jobOf bytes)
-  pub adds : readVerdict most bytes room .number ≡ 0 → check most (jobOf bytes) true ≡ check7to9 most (jobOf bytes)
+  pub adds : readVerdict most bytes room .number ≡ 0 → check most (jobOf bytes) true ≡ check7to10 most (jobOf bytes)
   -- its k is 1 to 4
   pub wide : readVerdict most bytes room .number ≡ 0 → (1 ≤ jobOf bytes .k) × (jobOf bytes .k ≤ 4)
   -- every number of it is a two-byte number, where each byte is one

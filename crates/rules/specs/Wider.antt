@@ -43,9 +43,9 @@ abbrev pub room5 : ℕ → Job
 room5 k = asJob (1 ∷ 1 ∷ 2 ∷ 2 ∷ 4 ∷ []) (0 ∷ 0 ∷ 0 ∷ 0 ∷ 1 ∷ []) (0 ∷ 0 ∷ 0 ∷ 0 ∷ 1 ∷ []) (0 ∷ 2 ∷ 5 ∷ []) (0 ∷ 1 ∷ 2 ∷ 3 ∷ 4 ∷ []) 1 2 0 k
 
 pub record WiderWorked : Type 0 where
-  -- A may be 3 to 7 at k = 1, 1 to 9 at k = 2, and anything from k = 3 on
+  -- A may be 3 to 7 at k = 1 and 1 to 9 at k = 2; from k = 3 on the window holds anything
   pub one : map (balanced (room5 1)) (2 ∷ 3 ∷ 7 ∷ 8 ∷ []) ≡ false ∷ true ∷ true ∷ false ∷ []
   pub two : map (balanced (room5 2)) (0 ∷ 1 ∷ 9 ∷ 10 ∷ []) ≡ false ∷ true ∷ true ∷ false ∷ []
   pub three : map (balanced (room5 3)) (0 ∷ 10 ∷ []) ≡ true ∷ true ∷ []
-  -- k is 1 to 4
-  pub checked : map (λ k. checkJob (limitsOf 5 2 5 2) (room5 k) .number) (0 ∷ 1 ∷ 2 ∷ 3 ∷ 4 ∷ 5 ∷ 6 ∷ 65535 ∷ []) ≡ 7 ∷ 0 ∷ 0 ∷ 0 ∷ 0 ∷ 7 ∷ 7 ∷ 7 ∷ []
+  -- k is 1 to 4; where the window holds anything order 8 gives 10
+  pub checked : map (λ k. checkJob (limitsOf 5 2 5 2) (room5 k) .number) (0 ∷ 1 ∷ 2 ∷ 3 ∷ 4 ∷ 5 ∷ 6 ∷ 65535 ∷ []) ≡ 7 ∷ 0 ∷ 0 ∷ 10 ∷ 10 ∷ 7 ∷ 7 ∷ 7 ∷ []

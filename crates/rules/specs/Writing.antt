@@ -95,7 +95,7 @@ checkWritten most job lent = check1to6 most job lent orElse refuseIf (badK (job 
 abbrev pub writeVerdict : Limits → Job → List ℕ → Verdict
 writeVerdict most job out = checkWritten most job (eqb (length out) (512 * blockCount (headerFor job)))
 
--- refused, no byte of it changes; 7 is never given for the ratio, 8 and 9 never
+-- refused, no byte of it changes; 7 is never given for the ratio, 8 to 10 never
 unfoldable pub writing : Limits → Job → List ℕ → Writing
 writing most job out =
     let v = writeVerdict most job out in

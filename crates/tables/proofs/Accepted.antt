@@ -11,10 +11,10 @@ use borrow.Author.Tests.{eq-eqb, ne-eqb}
 use Rattle.rules.specs.declared.Verdict.{Verdict}
 use Rattle.rules.specs.Job.{Job, Limits, fileCount, recipeCount, pinCount, views, recipes, Lent, lentOf, fits}
 use Rattle.rules.specs.Split.{weight, tolerance, cut, sizeA, unreadFiles, unreadRecipes}
-use Rattle.rules.specs.Check.{_orElse_, check7, check8, check1to6}
+use Rattle.rules.specs.Check.{_orElse_, check1to6, check7and8and10}
 use Rattle.rules.specs.Theorems.{Binary, Sound}
 use Rattle.rules.proofs.Fits.{LongEnough, long-enough}
-use Rattle.rules.proofs.SoundJob.{ok7, sound, views-distinct}
+use Rattle.rules.proofs.SoundJob.{ok7, ok-before, sound, views-distinct}
 use Rattle.rules.proofs.Verdicts.{zero-of, passes-both}
 use Rattle.rules.proofs.Proved.{lent-six}
 use Rattle.job.specs.declared.figures.Survey.{Survey}
@@ -52,14 +52,14 @@ module _ (balancing : Bool) (most : Limits) (job : Job) (word : Bool) where
   -- where it lets through, so do 1 to 6
   pub let-through : {s : Survey} → s ≡ surveyOf balancing most job word → s .verdict .number ≡ 0 → check1to6 most job word .number ≡ 0
   let-through e z =
-      passes-both (check1to6 most job word) (check7 most job orElse check8 job orElse nineFor balancing job)
+      passes-both (check1to6 most job word) (check7and8and10 most job orElse nineFor balancing job)
       (zero-of (ap (λ (x : Survey). x .verdict) e ∙ verdict-is ∙ nine-last balancing most job word) z) .0
 
   -- and 7: k is 1 to 4
   pub wide-through : checkFor balancing most job word .number ≡ 0 → (1 ≤ job .k) × (job .k ≤ 4)
   wide-through z =
-      let later = passes-both (check1to6 most job word) (check7 most job orElse check8 job orElse nineFor balancing job) (zero-of (nine-last balancing most job word) z) .1 in
-      ok7 most job (passes-both (check7 most job) (check8 job orElse nineFor balancing job) later .0) .1
+      let later = passes-both (check1to6 most job word) (check7and8and10 most job orElse nineFor balancing job) (zero-of (nine-last balancing most job word) z) .1 in
+      ok7 most job (ok-before most job (passes-both (check7and8and10 most job) (nineFor balancing job) later .0) .0) .1
 
 -- any word that is right for a job within its limits has one answer
 pub survey-late : (balancing : Bool) (most : Limits) (job : Job) (a b : Bool) → WordOn (most .files) (most .recipes) (most .pins) (fileCount job) (recipeCount job) (pinCount job) a b

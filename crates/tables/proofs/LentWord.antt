@@ -6,7 +6,7 @@ use lib.Dec.{ltb}
 use borrow.Author.Tests.{ltb-false, le-ltb}
 use Rattle.rules.specs.declared.Verdict.{Verdict}
 use Rattle.rules.specs.Job.{Job, Limits, fileCount, recipeCount, pinCount}
-use Rattle.rules.specs.Check.{_orElse_, check1, check2, check3, check4to6, check1to6, check7, check8}
+use Rattle.rules.specs.Check.{_orElse_, check1, check2, check3, check4to6, check1to6, check7and8and10}
 use Rattle.rules.proofs.Verdicts.{chain-same}
 use Rattle.rules.proofs.SoundJob.{ok2}
 use Rattle.rules.proofs.Tests.{clash, or-no}
@@ -19,7 +19,7 @@ pub word-late : (balancing : Bool) (most : Limits) (job : Job) (a b : Bool)
 unfolding check1to6
 word-late balancing most job a b h =
     nine-last balancing most job a
-    ∙ ap (λ (v : Verdict). v orElse check7 most job orElse check8 job orElse nineFor balancing job)
+    ∙ ap (λ (v : Verdict). v orElse check7and8and10 most job orElse nineFor balancing job)
     (chain-same (check1 job) (check2 most job orElse check3 job a orElse check4to6 job) (check2 most job orElse check3 job b orElse check4to6 job)
     (λ _. chain-same (check2 most job) (check3 job a orElse check4to6 job) (check3 job b orElse check4to6 job)
     (λ z. let r = ok2 job most z in ap (λ (x : Bool). check3 job x orElse check4to6 job) (h (r .0) (r .1) (r .2)))))

@@ -25,8 +25,8 @@ totals-of-requires c κs =
     let s = sound _ _ _ (zero-of (c .before .before .check1to6 .ensures) (c .if1 .left)) in
     (s .fewFiles, (s .sidesLong, s .marksLong))
 
-check7to9-requires : tie.Need-check7to9-requires
-check7to9-requires c κs =
+check7to10-requires : tie.Need-check7to10-requires
+check7to10-requires c κs =
     let s = sound _ _ _ (zero-of (c .before .before .before .check1to6 .ensures) (c .before .if1 .left)) in
     within-more (omega (arith, s .fewFiles)) (c .totals-of .ensures .within)
 
@@ -36,7 +36,7 @@ returns-2 c =
     let t = c .before .before .before in
     survey-refused _ _ _ _
     (chain-go (t .before .before .before .check1to6 .ensures ∙ lists-only _ _ _) (t .before .if1 .left)
-    (c .before .before .check7to9 .ensures _ (record { job-is = refl; totals = t .totals-of .ensures .is })))
+    (c .before .before .check7to10 .ensures _ (record { job-is = refl; totals = t .totals-of .ensures .is })))
     (c .if2 .taken)
 
 tolerance-requires : tie.Need-tolerance-requires
@@ -60,7 +60,7 @@ returns-3 c =
     let t = c .before .before .before .before .before .before in
     survey-done _ _ _ _
     (chain-go (t .before .before .before .check1to6 .ensures ∙ lists-only _ _ _) (t .before .if1 .left)
-    (c .before .before .before .before .before .check7to9 .ensures _ (record { job-is = refl; totals = t .totals-of .ensures .is })))
+    (c .before .before .before .before .before .check7to10 .ensures _ (record { job-is = refl; totals = t .totals-of .ensures .is })))
     _ _ _ _ (c .before .before .before .if2 .left) (c .before .before .tolerance .ensures .0) (c .before .cut .ensures) (c .holding .ensures) (t .totals-of .ensures .is)
 
 pub survey-spec : {M : Type 1} → statement M
@@ -70,7 +70,7 @@ survey-spec =
     check1to6-requires
     returns
     totals-of-requires
-    check7to9-requires
+    check7to10-requires
     returns-2
     tolerance-requires
     cut-requires
