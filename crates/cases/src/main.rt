@@ -2,10 +2,10 @@
 use libc::STDOUT_FILENO;
 
 fn show_report() {
-    let mut input = [0u8; planner::INPUT_BYTES];
+    let mut input = [0u8; layout::INPUT_BYTES];
     let got = frames::take(&mut input);
-    let mut text = [0u8; planner::TEXT_BYTES];
-    let printed = planner::night(&input[..got], &mut text);
+    let mut text = [0u8; teller::TEXT_BYTES];
+    let printed = teller::night(&input[..got], &mut text);
     io::write_all(STDOUT_FILENO, &text[..printed.bytes]);
 }
 

@@ -18,9 +18,9 @@ fn take_file(i: usize, room: &mut [u8]) -> usize
 }
 
 fn main() {
-    let mut old = [0u8; planner::INPUT_BYTES];
+    let mut old = [0u8; layout::INPUT_BYTES];
     let came = take_file(1, &mut old);
-    let mut new = [0u8; planner::INPUT_BYTES];
+    let mut new = [0u8; layout::INPUT_BYTES];
     let got = take_file(2, &mut new);
     let mut text = [0u8; comparer::TEXT_BYTES];
     let printed = comparer::tell(&old[..came], &new[..got], &mut text);

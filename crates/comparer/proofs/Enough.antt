@@ -8,7 +8,7 @@ use Rattle.rules.specs.declared.Difference.{Difference}
 use Rattle.rules.specs.declared.Compared.{Compared}
 use Rattle.rules.specs.Compare.{Comparing}
 use Rattle.rules.proofs.Comparing.{compare-holds}
-use Rattle.planner.proofs.WholeInput.{most}
+use Rattle.layout.proofs.WholeInput.{most}
 use Rattle.comparer.proofs.Unique.{Promised}
 use Rattle.comparer.proofs.jobs.note_jobs.⟦crate·MOST-DIFFERENCES⟧-asked.Lts as differences
 

@@ -1,5 +1,5 @@
 -- What is found of two stored jobs: a refusal, or their differences; and what that makes of a lent list. Assumes nothing.
-use mathlib.Core.Path.{_≡_, refl, sym, ap, subst, _∙_}
+use mathlib.Core.Path.{_≡_, refl, sym, ap, ap₂, subst, _∙_}
 use mathlib.Core.Logic.{_≢_}
 use Prim.Native.Nat.{ℕ, _+_, _*_, _≤_, _<_}
 use mathlib.Core.List.{List}
@@ -10,34 +10,33 @@ use lib.Seq.{length-take-le}
 use borrow.Author.Tests.{eq-eqb, ne-eqb}
 use Rattle.rules.specs.declared.Verdict.{Verdict}
 use Rattle.rules.specs.declared.Header.{Header}
-use Rattle.rules.specs.declared.ReadFigures.{ReadFigures}
 use Rattle.rules.specs.declared.Difference.{Difference}
 use Rattle.rules.specs.declared.Compared.{Compared}
-use Rattle.rules.specs.Lists.{upTo, lowest, someBelow, onto}
+use Rattle.rules.specs.Lists.{upTo, onto}
 use Rattle.rules.specs.Job.{Job, Limits, fileCount, recipeCount, pinCount}
-use Rattle.rules.specs.Check.{done, _orElse_, check4, check5, badFile, check6, check4to6}
-use Rattle.rules.specs.Stored.{Room, jobOf, reading, layoutVerdict, readVerdict}
+use Rattle.rules.specs.Check.{done, checkContents}
+use Rattle.rules.specs.Stored.{Room, jobOf, layoutVerdict, readVerdict}
 use Rattle.rules.specs.Report.{allRoom}
 use Rattle.rules.specs.Compare.{differences, readFor, compared, comparingOf, comparing}
-use Rattle.rules.proofs.Verdicts.{Plain, plain-if, plain-chain}
+use Rattle.rules.proofs.Verdicts.{zero-of, Plain, plain-chain}
+use Rattle.rules.proofs.Refusals.{read-chain}
+use Rattle.rules.proofs.Proved.{plain-contents}
 use Rattle.rules.proofs.Reading.{read-holds}
 use Rattle.rules.proofs.Comparing.{compare-holds}
-use Rattle.stored.specs.Room.{roomOf}
-use Rattle.stored.specs.Steps.{firstOf}
-use Rattle.planner.proofs.Taken.{verdict-read, number-read, job-read, room-read}
+use Rattle.stored.specs.Room.{roomOf, takingUp, listsOf}
+use Rattle.stored.specs.Steps.{jobTaken, Held}
+use Rattle.stored.specs.declared.TakenUp.{TakenUp}
+use Rattle.stored.proofs.JobTaken.{verdict-read, number-read, job-read}
 use Rattle.report.specs.Comparison.{recordsIn}
-use Rattle.comparer.specs.Finding.{Noted, Exact, answerAgainst, answerOf, Found, Fits}
+use Rattle.comparer.specs.Finding.{Noted, Exact, answerOf, Found, Fits}
 
 -- ---- a job that was read
 
 -- reading that lets through has place 0 too
 plain-read : (most : Limits) (bytes : List ℕ) → Plain (readFor most bytes)
-unfolding readVerdict check4to6 check6
-plain-read most bytes =
-    let j = jobOf bytes in
-    plain-chain (layoutVerdict most bytes (allRoom most)) (check4 j orElse check5 j orElse check6 j)
-    (plain-chain (check4 j) (check5 j orElse check6 j)
-    (plain-chain (check5 j) (check6 j) (plain-if (someBelow (badFile j) (fileCount j)) 5 (lowest (badFile j) (fileCount j)))))
+plain-read most bytes z =
+    let e = read-chain most bytes (allRoom most) in
+    e ∙ plain-chain (layoutVerdict most bytes (allRoom most)) (checkContents (jobOf bytes)) (plain-contents (jobOf bytes)) (zero-of e z)
 
 -- its entries alone
 abbrev pub entriesOf : Header → Room → Room
@@ -54,89 +53,69 @@ found-noted : (old new : Job) (v : Verdict) (count : ℕ) (before after : List �
 unfolding recordsIn upTo
 found-noted old new v count before after w room = record { held = λ _. room; records = λ _. w .noted }
 
-module _ (most : Limits) (new : List ℕ) where
-  against-refused : (old : Job) → readFor most new .number ≢ 0 → answerAgainst most old new ≡ compared 2 (readFor most new) 0
-  against-refused old n = rw (ne-eqb (readFor most new .number) 0 n) refl
+module _ (most : Limits) (old new : List ℕ) where
+  of-first : readFor most old .number ≢ 0 → answerOf most old new ≡ compared 1 (readFor most old) 0
+  of-first n = rw (ne-eqb (readFor most old .number) 0 n) refl
 
-  against-done : (old : Job) → readFor most new .number ≡ 0 → answerAgainst most old new ≡ compared 0 done (length (differences old (jobOf new)))
-  against-done old z = rw (eq-eqb (readFor most new .number) 0 z) refl
+  of-second : readFor most old .number ≡ 0 → readFor most new .number ≢ 0 → answerOf most old new ≡ compared 2 (readFor most new) 0
+  of-second z n = rw (eq-eqb (readFor most old .number) 0 z, ne-eqb (readFor most new .number) 0 n) refl
 
-  module _ (old : List ℕ) where
-    of-refused : readFor most old .number ≢ 0 → answerOf most old new ≡ compared 1 (readFor most old) 0
-    of-refused n = rw (ne-eqb (readFor most old .number) 0 n) refl
+  of-both : readFor most old .number ≡ 0 → readFor most new .number ≡ 0 → answerOf most old new ≡ compared 0 done (length (differences (jobOf old) (jobOf new)))
+  of-both z w = rw (eq-eqb (readFor most old .number) 0 z, eq-eqb (readFor most new .number) 0 w) refl
 
-    of-read : readFor most old .number ≡ 0 → answerOf most old new ≡ answerAgainst most (jobOf old) new
-    of-read z = rw (eq-eqb (readFor most old .number) 0 z) refl
+-- ---- a job that was taken up, its entries alone
 
--- ---- one of the two jobs was read
+module _ (most : Limits) (t : TakenUp) (w : Held most t) where
+  abbrev entries : Room
+  entries = entriesOf (t .read .header) (listsOf t)
 
-module _ (most : Limits) (bytes : List ℕ) (r : ReadFigures) (lists : Room) (e : r ≡ reading most bytes (allRoom most) .answer) (f : lists ≡ reading most bytes (allRoom most) .room) where
-  -- the entries are as many as the header says
-  pub counts-read : r .verdict .number ≡ 0
-      → (r .header .files ≡ length (entriesOf (r .header) lists .sizes)) × (r .header .files ≡ length (entriesOf (r .header) lists .sides))
-      × (r .header .files ≡ length (entriesOf (r .header) lists .marks)) × (r .header .recipes + 1 ≡ length (entriesOf (r .header) lists .bounds))
-      × (r .header .pins ≡ length (entriesOf (r .header) lists .pins))
-  counts-read z =
-      let h = r .header in
-      let w = room-read most bytes r lists e f z in
-      let is : (n : ℕ) (l : List ℕ) → n ≤ length l → n ≡ length (take n l) = λ n l g. sym (length-take-le n l g) in (
-        is (h .files) (lists .sizes) (w .0),
-        is (h .files) (lists .sides) (w .1),
-        is (h .files) (lists .marks) (w .2),
-        is (h .recipes + 1) (lists .bounds) (w .3),
-        is (h .pins) (lists .pins) (w .4),
+  -- they are as many as the header says
+  pub counts-taken : (t .read .header .files ≡ length (entries .sizes)) × (t .read .header .files ≡ length (entries .sides)) × (t .read .header .files ≡ length (entries .marks))
+      × (t .read .header .recipes + 1 ≡ length (entries .bounds)) × (t .read .header .pins ≡ length (entries .pins))
+  counts-taken =
+      let is : (n : ℕ) (l : List ℕ) → n ≤ length l → n ≡ length (take n l) = λ n l g. sym (length-take-le n l g) in
+      let h = t .read .header in (
+        is (h .files) (t .sizes) (w .enough .sizes),
+        is (h .files) (t .sides) (w .enough .sides),
+        is (h .files) (t .marks) (w .enough .marks),
+        is (h .recipes + 1) (t .bounds) (w .enough .bounds),
+        is (h .pins) (t .pins) (w .enough .pins),
       )
 
-  pub exact-read : r .verdict .number ≡ 0 → Exact most (r .header) (entriesOf (r .header) lists)
-  exact-read z =
-      let k = counts-read z in
-      let j : firstOf (r .header) lists ≡ jobOf bytes = job-read most bytes r lists e f z in
-      let s = read-holds most bytes (allRoom most) .sound (sym (number-read most bytes r lists e f) ∙ z) in
-      record {
-        files = sym (k .0);
-        recipes = sym (k .3);
-        pins = sym (k .4);
-        fewFiles = omega (arith, k .0, ap fileCount j, s .fewFiles);
-        fewRecipes = omega (arith, k .3, ap recipeCount j, s .fewRecipes);
-        fewPins = omega (arith, k .4, ap pinCount j, s .fewPins);
-      }
+  pub exact-taken : Exact most (t .read .header) entries
+  exact-taken =
+      let k = counts-taken in
+      record { files = sym (k .0); recipes = sym (k .3); pins = sym (k .4); fewFiles = w .fewFiles; fewRecipes = w .fewRecipes; fewPins = w .fewPins }
 
-  module _ (n : r .verdict .number ≢ 0) where
-    refused : readFor most bytes .number ≢ 0
-    refused z = n (number-read most bytes r lists e f ∙ z)
+-- ---- the two stored jobs
 
-    answer-refused : (k : ℕ) (a : Compared) → a ≡ compared k (r .verdict) 0 → a ≡ compared k (readFor most bytes) 0
-    answer-refused k a q = q ∙ ap (λ (v : Verdict). compared k v 0) (verdict-read most bytes r lists e f)
+module _ (most : Limits) (old new : List ℕ) (t : TakenUp) (e : t .read ≡ takingUp most old .answer) (f : listsOf t ≡ takingUp most old .room) where
+  pub first-refused : t .read .verdict .number ≢ 0 → (a : Compared) (numbers : List ℕ) → a ≡ compared 1 (t .read .verdict) 0 → (a ≡ answerOf most old new) × Found (jobOf old) (jobOf new) a numbers
+  first-refused n a numbers q = (
+    q ∙ ap (λ (v : Verdict). compared 1 v 0) (verdict-read most old t e f) ∙ sym (of-first most old new (λ z. n (number-read most old t e f ∙ z))),
+    found-refused (jobOf old) (jobOf new) a numbers (λ z. n (sym (ap (λ (x : Compared). x .verdict .number) q) ∙ z)),
+  )
 
-    holds-nothing : (k : ℕ) (old new : Job) (a : Compared) (numbers : List ℕ) → a ≡ compared k (r .verdict) 0 → Found old new a numbers
-    holds-nothing k old new a numbers q = found-refused old new a numbers (λ z. n (sym (ap (λ (x : Compared). x .verdict .number) q) ∙ z))
+  module _ (z : t .read .verdict .number ≡ 0) (u : TakenUp) (g : u .read ≡ takingUp most new .answer) (h : listsOf u ≡ takingUp most new .room) where
+    first-through : readFor most old .number ≡ 0
+    first-through = sym (number-read most old t e f) ∙ z
 
-    pub first-refused : (new : List ℕ) (a : Compared) (numbers : List ℕ) → a ≡ compared 1 (r .verdict) 0 → (a ≡ answerOf most bytes new) × Found (jobOf bytes) (jobOf new) a numbers
-    first-refused new a numbers q = (answer-refused 1 a q ∙ sym (of-refused most new bytes refused), holds-nothing 1 (jobOf bytes) (jobOf new) a numbers q)
+    pub second-refused : u .read .verdict .number ≢ 0 → (a : Compared) (numbers : List ℕ) → a ≡ compared 2 (u .read .verdict) 0 → (a ≡ answerOf most old new) × Found (jobOf old) (jobOf new) a numbers
+    second-refused n a numbers q = (
+      q ∙ ap (λ (v : Verdict). compared 2 v 0) (verdict-read most new u g h) ∙ sym (of-second most old new first-through (λ w. n (number-read most new u g h ∙ w))),
+      found-refused (jobOf old) (jobOf new) a numbers (λ w. n (sym (ap (λ (x : Compared). x .verdict .number) q) ∙ w)),
+    )
 
-    pub second-refused : (old : Job) (a : Compared) (numbers : List ℕ) → a ≡ compared 2 (r .verdict) 0 → (a ≡ answerAgainst most old bytes) × Found old (jobOf bytes) a numbers
-    second-refused old a numbers q = (answer-refused 2 a q ∙ sym (against-refused most bytes old refused), holds-nothing 2 old (jobOf bytes) a numbers q)
-
-  module _ (z : r .verdict .number ≡ 0) where
-    let-through : readFor most bytes .number ≡ 0
-    let-through = sym (number-read most bytes r lists e f) ∙ z
-
-    same-job : firstOf (r .header) lists ≡ jobOf bytes
-    same-job = job-read most bytes r lists e f z
-
-    pub first-read : (new : List ℕ) (a : Compared) (numbers : List ℕ) → a ≡ answerAgainst most (firstOf (r .header) lists) new → Found (firstOf (r .header) lists) (jobOf new) a numbers
-        → (a ≡ answerOf most bytes new) × Found (jobOf bytes) (jobOf new) a numbers
-    first-read new a numbers q w =
-        (q ∙ ap (λ (j : Job). answerAgainst most j new) same-job ∙ sym (of-read most new bytes let-through), subst (λ (j : Job). Found j (jobOf new) a numbers) same-job w)
-
-    pub second-read : (old : Job) (count : ℕ) (before after : List ℕ) → Noted 0 before (differences old (firstOf (r .header) lists)) count after → 4 * count ≤ length after
-        → (compared 0 (r .verdict) count ≡ answerAgainst most old bytes) × Found old (jobOf bytes) (compared 0 (r .verdict) count) after
-    second-read old count before after w room =
-        let u : Noted 0 before (differences old (jobOf bytes)) count after = subst (λ (j : Job). Noted 0 before (differences old j) count after) same-job w in
-        let v : r .verdict ≡ done = verdict-read most bytes r lists e f ∙ plain-read most bytes let-through in
-        let k : count ≡ length (differences old (jobOf bytes)) = omega (arith, u .many) in (
-          (λ i. compared 0 (v i) (k i)) ∙ sym (against-done most bytes old let-through),
-          found-noted old (jobOf bytes) (r .verdict) count before after u room,
+    pub both-read : u .read .verdict .number ≡ 0 → (count : ℕ) (before after : List ℕ) → Noted 0 before (differences (jobTaken t) (jobTaken u)) count after → 4 * count ≤ length after
+        → (compared 0 (u .read .verdict) count ≡ answerOf most old new) × Found (jobOf old) (jobOf new) (compared 0 (u .read .verdict) count) after
+    both-read y count before after w room =
+        let second-through : readFor most new .number ≡ 0 = sym (number-read most new u g h) ∙ y in
+        let same : differences (jobTaken t) (jobTaken u) ≡ differences (jobOf old) (jobOf new) = ap₂ differences (job-read most old t e f z) (job-read most new u g h y) in
+        let noted : Noted 0 before (differences (jobOf old) (jobOf new)) count after = subst (λ (ds : List Difference). Noted 0 before ds count after) same w in
+        let v : u .read .verdict ≡ done = verdict-read most new u g h ∙ plain-read most new second-through in
+        let k : count ≡ length (differences (jobOf old) (jobOf new)) = omega (arith, noted .many) in (
+          (λ i. compared 0 (v i) (k i)) ∙ sym (of-both most old new first-through second-through),
+          found-noted (jobOf old) (jobOf new) (u .read .verdict) count before after noted room,
         )
 
 -- ---- what that makes of a lent list
@@ -155,27 +134,27 @@ module _ (most : Limits) (old new : List ℕ) (n : ℕ) (a : Compared) (numbers 
     where
       refusal : (room : List Difference) → comparingOf a room ≡ comparing most old new room
       refusal room = elim (ℕ-discrete (readFor most old .number) 0) [
-        | no p ↦ ap (λ (x : Compared). comparingOf x room) (e ∙ of-refused most new old p) ∙ sym (compare-holds most old new room .first p)
+        | no p ↦ ap (λ (x : Compared). comparingOf x room) (e ∙ of-first most old new p) ∙ sym (compare-holds most old new room .first p)
         | yes ok ↦ elim (ℕ-discrete (readFor most new .number) 0) [
           | no p ↦
-              ap (λ (x : Compared). comparingOf x room) (e ∙ of-read most new old ok ∙ against-refused most new (jobOf old) p)
+              ap (λ (x : Compared). comparingOf x room) (e ∙ of-second most old new ok p)
               ∙ sym (compare-holds most old new room .second ok p)
-          | yes fine ↦ absurd (m (ap (λ (x : Compared). x .verdict .number) (e ∙ of-read most new old ok ∙ against-done most new (jobOf old) fine)))
+          | yes fine ↦ absurd (m (ap (λ (x : Compared). x .verdict .number) (e ∙ of-both most old new ok fine)))
         ]
       ]
 
   module _ (z : a .verdict .number ≡ 0) where
     both : (readFor most old .number ≡ 0) × (readFor most new .number ≡ 0)
     both = elim (ℕ-discrete (readFor most old .number) 0) [
-      | no p ↦ absurd (p (sym (ap (λ (x : Compared). x .verdict .number) (e ∙ of-refused most new old p)) ∙ z))
+      | no p ↦ absurd (p (sym (ap (λ (x : Compared). x .verdict .number) (e ∙ of-first most old new p)) ∙ z))
       | yes ok ↦ elim (ℕ-discrete (readFor most new .number) 0) [
-        | no p ↦ absurd (p (sym (ap (λ (x : Compared). x .verdict .number) (e ∙ of-read most new old ok ∙ against-refused most new (jobOf old) p)) ∙ z))
+        | no p ↦ absurd (p (sym (ap (λ (x : Compared). x .verdict .number) (e ∙ of-second most old new ok p)) ∙ z))
         | yes fine ↦ (ok, fine)
       ]
     ]
 
     answered : a ≡ compared 0 done (length found)
-    answered = e ∙ of-read most new old (both .0) ∙ against-done most new (jobOf old) (both .1)
+    answered = e ∙ of-both most old new (both .0) (both .1)
 
     many : a .count ≡ length found
     many = ap (λ (x : Compared). x .count) answered

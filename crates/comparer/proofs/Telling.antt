@@ -24,8 +24,8 @@ use Rattle.report.specs.Bytes.{figureBytes, differenceBytes}
 use Rattle.report.specs.Steps.{roomVerdict}
 use Rattle.report.specs.Comparison.{recordsIn, recordsVerdict, comparisonTelling, EnoughLines}
 use Rattle.report.proofs.Comparisons.{records-few, no-sides, comparison-refused, comparison-told}
-use Rattle.planner.specs.Answering.{Answered, Lendable}
-use Rattle.planner.proofs.Telling.{into-lendable}
+use Rattle.report.specs.Lending.{Answered, Lendable}
+use Rattle.report.proofs.Lending.{into-lendable}
 use Rattle.comparer.specs.Finding.{answerOf, Found}
 
 -- records that are held and not too many are told where there is room

@@ -9,7 +9,7 @@ use Rattle.rules.specs.declared.Compared.{Compared}
 use Rattle.rules.specs.Report.{Printing, printed}
 use Rattle.rules.specs.Compare.{comparingOf, comparing}
 use Rattle.rules.proofs.Settling.{Settles, both}
-use Rattle.planner.proofs.WholeInput.{most}
+use Rattle.layout.proofs.WholeInput.{most}
 use Rattle.comparer.proofs.tell.Kinds as tell-kinds
 use Rattle.comparer.proofs.tell.Reads as tell
 

@@ -42,13 +42,12 @@ pub record Exact (most : Limits) (h : Header) (r : Room) : Type 0 where
 
 -- ---- what is found of two stored jobs, whatever list is lent
 
--- the new job's refusal, or the number of differences
-abbrev pub answerAgainst : Limits → Job → List ℕ → Compared
-answerAgainst most old new = let w = readFor most new in cond (isDone w) (compared 0 done (length (differences old (jobOf new)))) (compared 2 w 0)
-
--- job 1's refusal first
+-- a refusal, job 1's first, or the number of differences
 abbrev pub answerOf : Limits → List ℕ → List ℕ → Compared
-answerOf most old new = let v = readFor most old in cond (isDone v) (answerAgainst most (jobOf old) new) (compared 1 v 0)
+answerOf most old new =
+    let v = readFor most old in
+    let w = readFor most new in
+    cond (isDone v) (cond (isDone w) (compared 0 done (length (differences (jobOf old) (jobOf new)))) (compared 2 w 0)) (compared 1 v 0)
 
 -- done, the numbers hold the differences
 pub record Found (old new : Job) (a : Compared) (numbers : List ℕ) : Type 0 where

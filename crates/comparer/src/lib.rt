@@ -8,9 +8,9 @@ use job::Job;
 use jobs::note_jobs;
 use rules::Compared;
 use rules::Difference;
-use rules::Header;
 use rules::Printed;
 use rules::Verdict;
+use stored::TakenUp;
 ghost use mathlib.Core.Path.{_≡_};
 ghost use Prim.Native.Nat.{_+_, _*_, _≤_};
 ghost use lib.ListN.{length};
@@ -18,11 +18,11 @@ ghost use Rattle.rules.specs.Job.{limitsOf};
 ghost use Rattle.rules.specs.Lists.{onto};
 ghost use Rattle.rules.specs.Report.{«printed», intoRoom};
 ghost use Rattle.rules.specs.Stored.{jobOf};
-ghost use Rattle.rules.specs.Compare.{compared, comparingOf, comparing, compares};
+ghost use Rattle.rules.specs.Compare.{differences, compared, comparingOf, comparing, compares};
 ghost use Rattle.report.specs.Comparison.{recordAt, recordsIn};
-ghost use Rattle.stored.specs.Room.{roomOf};
-ghost use Rattle.planner.specs.Answering.{Answered, Lendable};
-ghost use Rattle.comparer.specs.Finding.{jobIn, Exact, answerAgainst, answerOf, Found, Fits};
+ghost use Rattle.report.specs.Lending.{Answered, Lendable};
+ghost use Rattle.stored.specs.Steps.{jobTaken, Held};
+ghost use Rattle.comparer.specs.Finding.{Noted, answerOf, Found, Fits};
 
 // A list of so many records is never too short.
 pub const MOST_DIFFERENCES: usize = report::MOST_DIFFERENCES;
@@ -53,63 +53,49 @@ fn refused(job: usize, verdict: Verdict) -> Compared
     }
 }
 
-// The differences of a job and the new stored job, put into the numbers, and how many they are; or the new job's refusal.
-fn find_against(
-    h: Header,
-    sizes: &[u16],
-    sides: &[u16],
-    marks: &[u16],
-    bounds: &[u16],
-    pins: &[u16],
-    new: &[u8],
-    numbers: &mut [u16],
-) -> Compared
-    requires { do ⌜ Exact (limitsOf (← ⟦Job::MOST_FILES⟧) (← ⟦Job::MOST_RECIPES⟧) (← ⟦Job::MOST_PINS⟧) (← ⟦Job::MOST_DEN⟧)) h (roomOf (now sizes) (now sides) (now marks) (now bounds) (now pins)) ⌝ }
+// The differences of two jobs that were taken up, put into the numbers, and how many they are.
+fn note_taken(old: TakenUp, new: TakenUp, numbers: &mut [u16]) -> usize
+    requires { do ⌜ Held (limitsOf (← ⟦Job::MOST_FILES⟧) (← ⟦Job::MOST_RECIPES⟧) (← ⟦Job::MOST_PINS⟧) (← ⟦Job::MOST_DEN⟧)) old ⌝ }
+    requires { do ⌜ Held (limitsOf (← ⟦Job::MOST_FILES⟧) (← ⟦Job::MOST_RECIPES⟧) (← ⟦Job::MOST_PINS⟧) (← ⟦Job::MOST_DEN⟧)) new ⌝ }
     requires { do ⌜ (← ⟦NUMBERS⟧) ≤ length (now numbers) ⌝ }
-    ensures { λ r. do ⌜ r ≡ answerAgainst (limitsOf (← ⟦Job::MOST_FILES⟧ .entry) (← ⟦Job::MOST_RECIPES⟧ .entry) (← ⟦Job::MOST_PINS⟧ .entry) (← ⟦Job::MOST_DEN⟧ .entry)) (jobIn h (roomOf (now (sizes .entry)) (now (sides .entry)) (now (marks .entry)) (now (bounds .entry)) (now (pins .entry)))) (now (new .entry)) ⌝ }
-    ensures { λ r. ⌜ Found (jobIn h (roomOf (now (sizes .entry)) (now (sides .entry)) (now (marks .entry)) (now (bounds .entry)) (now (pins .entry)))) (jobOf (now (new .entry))) r (now (numbers .exit)) ⌝ }
+    ensures { λ r. ⌜ Noted 0 (now (numbers .entry)) (differences (jobTaken old) (jobTaken new)) r (now (numbers .exit)) ⌝ }
+    ensures { λ r. do ⌜ r ≤ (← ⟦MOST_DIFFERENCES⟧ .entry) ⌝ }
 {
-    let mut new_sizes = [0u16; Job::MOST_FILES];
-    let mut new_sides = [0u16; Job::MOST_FILES];
-    let mut new_marks = [0u16; Job::MOST_FILES];
-    let mut new_bounds = [0u16; Job::MOST_RECIPES + 1];
-    let mut new_pins = [0u16; Job::MOST_PINS];
-    let read = stored::read(
-        new,
-        &mut new_sizes,
-        &mut new_sides,
-        &mut new_marks,
-        &mut new_bounds,
-        &mut new_pins,
-    );
-    let v = read.verdict;
-    if v.number != 0 {
-        return refused(2, v);
-    }
-    let g = read.header;
-    let c = g.files as usize;
-    let n = g.recipes as usize + 1;
-    let p = g.pins as usize;
-    let count = note_jobs(
+    let old_read = old.read;
+    let h = old_read.header;
+    let c = h.files as usize;
+    let n = h.recipes as usize + 1;
+    let p = h.pins as usize;
+    let new_read = new.read;
+    let g = new_read.header;
+    let new_c = g.files as usize;
+    let new_n = g.recipes as usize + 1;
+    let new_p = g.pins as usize;
+    let sizes = old.sizes;
+    let sides = old.sides;
+    let marks = old.marks;
+    let bounds = old.bounds;
+    let pins = old.pins;
+    let new_sizes = new.sizes;
+    let new_sides = new.sides;
+    let new_marks = new.marks;
+    let new_bounds = new.bounds;
+    let new_pins = new.pins;
+    note_jobs(
         h,
-        sizes,
-        sides,
-        marks,
-        bounds,
-        pins,
+        &sizes[..c],
+        &sides[..c],
+        &marks[..c],
+        &bounds[..n],
+        &pins[..p],
         g,
-        &new_sizes[..c],
-        &new_sides[..c],
-        &new_marks[..c],
-        &new_bounds[..n],
-        &new_pins[..p],
+        &new_sizes[..new_c],
+        &new_sides[..new_c],
+        &new_marks[..new_c],
+        &new_bounds[..new_n],
+        &new_pins[..new_p],
         numbers,
-    );
-    Compared {
-        job: 0,
-        verdict: v,
-        count,
-    }
+    )
 }
 
 // The differences of two stored jobs, put into the numbers, and how many they are; or a refusal, job 1's first.
@@ -118,37 +104,24 @@ fn find(old: &[u8], new: &[u8], numbers: &mut [u16]) -> Compared
     ensures { λ r. do ⌜ r ≡ answerOf (limitsOf (← ⟦Job::MOST_FILES⟧ .entry) (← ⟦Job::MOST_RECIPES⟧ .entry) (← ⟦Job::MOST_PINS⟧ .entry) (← ⟦Job::MOST_DEN⟧ .entry)) (now (old .entry)) (now (new .entry)) ⌝ }
     ensures { λ r. ⌜ Found (jobOf (now (old .entry))) (jobOf (now (new .entry))) r (now (numbers .exit)) ⌝ }
 {
-    let mut sizes = [0u16; Job::MOST_FILES];
-    let mut sides = [0u16; Job::MOST_FILES];
-    let mut marks = [0u16; Job::MOST_FILES];
-    let mut bounds = [0u16; Job::MOST_RECIPES + 1];
-    let mut pins = [0u16; Job::MOST_PINS];
-    let read = stored::read(
-        old,
-        &mut sizes,
-        &mut sides,
-        &mut marks,
-        &mut bounds,
-        &mut pins,
-    );
-    let v = read.verdict;
+    let t = stored::take_up(old);
+    let first = t.read;
+    let v = first.verdict;
     if v.number != 0 {
         return refused(1, v);
     }
-    let h = read.header;
-    let c = h.files as usize;
-    let n = h.recipes as usize + 1;
-    let p = h.pins as usize;
-    find_against(
-        h,
-        &sizes[..c],
-        &sides[..c],
-        &marks[..c],
-        &bounds[..n],
-        &pins[..p],
-        new,
-        numbers,
-    )
+    let u = stored::take_up(new);
+    let second = u.read;
+    let w = second.verdict;
+    if w.number != 0 {
+        return refused(2, w);
+    }
+    let count = note_taken(t, u, numbers);
+    Compared {
+        job: 0,
+        verdict: w,
+        count,
+    }
 }
 
 // The same for a list of so many records: 30 where it is too short, and how many are to be stored.

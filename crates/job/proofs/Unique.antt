@@ -38,12 +38,10 @@ use Rattle.job.proofs.verdict.or_else.Kinds as or-else-kinds
 use Rattle.job.proofs.verdict.or_else.Reads as or-else
 use Rattle.job.proofs.verdict.bad_k.Kinds as bad-k-kinds
 use Rattle.job.proofs.verdict.bad_k.Reads as bad-k
-use Rattle.job.proofs.verdict.check1.Kinds as check1-kinds
-use Rattle.job.proofs.verdict.check1.Reads as check1
-use Rattle.job.proofs.verdict.check2.Kinds as check2-kinds
-use Rattle.job.proofs.verdict.check2.Reads as check2
-use Rattle.job.proofs.verdict.check1to6.Kinds as check1to6-kinds
-use Rattle.job.proofs.verdict.check1to6.Reads as check1to6
+use Rattle.job.proofs.verdict.check_counts.Kinds as check-counts-kinds
+use Rattle.job.proofs.verdict.check_counts.Reads as check-counts
+use Rattle.job.proofs.verdict.check_sound.Kinds as check-sound-kinds
+use Rattle.job.proofs.verdict.check_sound.Reads as check-sound
 
 pub check-settled : Settles 5 check-kinds.ps check-kinds.r Verdict (λ κs v _. v) check.Post
 check-settled κs a x y e f p q = both p q
@@ -88,11 +86,8 @@ or-else-settled κs a x y e f p q = both p q
 pub bad-k-settled : Settles 0 bad-k-kinds.ps bad-k-kinds.r Bool (λ κs b _. b) bad-k.Post
 bad-k-settled κs a x y e f p q = both p q
 
-pub check1-settled : Settles 0 check1-kinds.ps check1-kinds.r Verdict (λ κs v _. v) check1.Post
-check1-settled κs a x y e f p q = both p q
+pub check-counts-settled : Settles 0 check-counts-kinds.ps check-counts-kinds.r Verdict (λ κs v _. v) check-counts.Post
+check-counts-settled κs a x y e f p q = both p q
 
-pub check2-settled : Settles 0 check2-kinds.ps check2-kinds.r Verdict (λ κs v _. v) check2.Post
-check2-settled κs a x y e f p q = both p q
-
-pub check1to6-settled : Settles 5 check1to6-kinds.ps check1to6-kinds.r Verdict (λ κs v _. v) check1to6.Post
-check1to6-settled κs a x y e f p q = both p q
+pub check-sound-settled : Settles 5 check-sound-kinds.ps check-sound-kinds.r Verdict (λ κs v _. v) check-sound.Post
+check-sound-settled κs a x y e f p q = both p q

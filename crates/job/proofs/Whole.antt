@@ -7,19 +7,21 @@ use borrow.Author.Tests.{eq-eqb, ne-eqb}
 use Rattle.rules.specs.declared.Verdict.{Verdict}
 use Rattle.rules.specs.Job.{Job, Limits, recipes, files, fileCount}
 use Rattle.rules.specs.Split.{cut, unreadFiles, unreadRecipes, weight, smax, sizeOn, sizeA, tolerance, largeEnough, smallEnough, balanced}
-use Rattle.rules.specs.Check.{isDone, refuseIf, _orElse_, check1, check2, check3, check4, badPin, check5, check6, check7, check8, check10, check9, check4to6, check1to6, check7and8and10, check7to10, check, measure}
-use Rattle.rules.specs.Balance.{tooLarge, tooSmall, leastA, mostA, noneBalanced, check1to8and10, balanceCheck}
+use Rattle.rules.specs.Check.{isDone, refuseIf, _orElse_, badPin, checkRatio, checkFree, checkWindow, checkStart, checkSound, checkGoal, measure}
+use Rattle.rules.specs.Balance.{tooLarge, tooSmall, leastA, mostA, noneBalanced}
 use Rattle.rules.proofs.Verdicts.{zero-of, or-assoc}
+use Rattle.rules.proofs.Refusals.{check-chain}
+use Rattle.rules.proofs.Balancing.{before-chain, balance-chain}
 use Rattle.job.specs.declared.Job.{Job as Figures}
 use Rattle.job.specs.declared.figures.Totals.{Totals}
 use Rattle.job.specs.Parts.{ofLists, ofFigures}
-use Rattle.job.specs.Totals.{totalsOf, reaches, mayEmptyBy, Has, nineFor}
+use Rattle.job.specs.Totals.{totalsOf, reaches, mayEmptyBy, Has, startFor}
 use Rattle.job.specs.Survey.{checkFor, surveyOf}
 
 -- 1 to 6 ask for no ratio and no cap
 pub lists-only : (most : Limits) (job : Job) (lent : Bool)
-    → check1to6 most (ofLists (job .sizes) (job .sides) (job .marks) (job .bounds) (job .pins)) lent ≡ check1to6 most job lent
-unfolding check1 check2 check3 check4 badPin check5 check6 check4to6 check1to6
+    → checkSound most (ofLists (job .sizes) (job .sides) (job .marks) (job .bounds) (job .pins)) lent ≡ checkSound most job lent
+unfolding badPin checkSound
 lists-only most job lent = refl
 
 refused : {v w : Verdict} → v ≡ w → (v .number ≡ 0 → ⊥) → isDone w ≡ false
@@ -29,11 +31,10 @@ passes-done : {v w : Verdict} → v ≡ w → v .number ≡ 0 → isDone w ≡ t
 passes-done {v} {w} e z = eq-eqb (w .number) 0 (zero-of e z)
 
 -- the check as one chain, whosever its 9
-pub nine-last : (balancing : Bool) (most : Limits) (job : Job) (lent : Bool)
-    → checkFor balancing most job lent ≡ (check1to6 most job lent orElse check7and8and10 most job orElse nineFor balancing job)
-unfolding check check7to10 balanceCheck check1to8and10
-nine-last true most job lent = or-assoc (check1to6 most job lent) (check7and8and10 most job) (refuseIf (noneBalanced job) 9 0)
-nine-last false most job lent = refl
+pub start-last : (balancing : Bool) (most : Limits) (job : Job) (lent : Bool)
+    → checkFor balancing most job lent ≡ (checkSound most job lent orElse checkGoal most job orElse startFor balancing job)
+start-last true most job lent = balance-chain most job lent ∙ ap (λ (v : Verdict). v orElse refuseIf (noneBalanced job) 9 0) (before-chain most job lent) ∙ or-assoc (checkSound most job lent) (checkGoal most job) (refuseIf (noneBalanced job) 9 0)
+start-last false most job lent = check-chain most job lent
 
 not-both : (a b : Bool) → not (a && b) ≡ (not b || not a)
 not-both true true = refl
@@ -55,16 +56,16 @@ abbrev figuresOf : Job → Figures
 figuresOf job = record { num = job .num; den = job .den; cap = job .cap; k = job .k }
 
 module _ {job : Job} {figures : Figures} {t : Totals} (has : Has job figures t) where
-  pub ratio-is : (most : Limits) → check7 most (ofFigures figures) ≡ check7 most job
-  unfolding check7
-  ratio-is most = sym (ap (check7 most) (has .job-is))
+  pub ratio-is : (most : Limits) → checkRatio most (ofFigures figures) ≡ checkRatio most job
+  unfolding checkRatio
+  ratio-is most = sym (ap (checkRatio most) (has .job-is))
 
-  pub free-is : refuseIf (eqb (t .free) 0) 8 0 ≡ check8 job
-  unfolding totalsOf files check8
+  pub free-is : refuseIf (eqb (t .free) 0) 8 0 ≡ checkFree job
+  unfolding totalsOf files checkFree
   free-is = ap (λ (u : Totals). refuseIf (eqb (u .free) 0) 8 0) (has .totals)
 
-  pub empties-is : refuseIf (mayEmptyBy figures t) 10 0 ≡ check10 job
-  unfolding totalsOf weight smax files check10
+  pub empties-is : refuseIf (mayEmptyBy figures t) 10 0 ≡ checkWindow job
+  unfolding totalsOf weight smax files checkWindow
   empties-is =
       ap (λ (j : Job). refuseIf (mayEmptyBy (figuresOf j) t) 10 0) (sym (has .job-is)) ∙ ap (λ (u : Totals). refuseIf (mayEmptyBy (figuresOf job) u) 10 0) (has .totals)
 
@@ -74,8 +75,8 @@ module _ {job : Job} {figures : Figures} {t : Totals} (has : Has job figures t) 
   reaches-is least most =
       ap (λ (j : Job). reaches (figuresOf j) t (least t) (most t)) (sym (has .job-is)) ∙ ap (λ (u : Totals). reaches (figuresOf job) u (least u) (most u)) (has .totals)
 
-  pub start-is : refuseIf (not (reaches figures t (t .size) (t .size))) 9 0 ≡ check9 job
-  unfolding totalsOf weight smax sizeOn files balanced check9
+  pub start-is : refuseIf (not (reaches figures t (t .size) (t .size))) 9 0 ≡ checkStart job
+  unfolding totalsOf weight smax sizeOn files balanced checkStart
   start-is = ap (λ (b : Bool). refuseIf (not b) 9 0) (reaches-is (λ u. u .size) (λ u. u .size))
 
   pub possible-is : refuseIf (not (reaches figures t (t .least) (t .most))) 9 0 ≡ refuseIf (noneBalanced job) 9 0
@@ -88,7 +89,7 @@ module _ {job : Job} {figures : Figures} {t : Totals} (has : Has job figures t) 
 -- ---- the measure and the survey
 
 module _ (most : Limits) (job : Job) {v : Verdict} where
-  module _ (e : v ≡ check1to6 most job true) where
+  module _ (e : v ≡ checkSound most job true) where
     pub measure-refused : (v .number ≡ 0 → ⊥) → record { verdict = v; cut = 0; size = 0; unread = 0; holding = 0 } ≡ measure most job
     unfolding measure
     measure-refused h = rw (e, refused e h, measure)
@@ -98,9 +99,9 @@ module _ (most : Limits) (job : Job) {v : Verdict} where
     unfolding measure
     measure-done x h t z p r q = rw (e, p, r, size-is job t q, unread-is job t q, passes-done e z, measure)
 
-  module _ (balancing lent : Bool) (e : v ≡ (check1to6 most job lent orElse check7and8and10 most job orElse nineFor balancing job)) where
+  module _ (balancing lent : Bool) (e : v ≡ (checkSound most job lent orElse checkGoal most job orElse startFor balancing job)) where
     told : v ≡ checkFor balancing most job lent
-    told = e ∙ sym (nine-last balancing most job lent)
+    told = e ∙ sym (start-last balancing most job lent)
 
     pub survey-refused : (v .number ≡ 0 → ⊥) → record { verdict = v; weight = 0; tolerance = 0; size = 0; cut = 0; unread = 0; holding = 0 } ≡ surveyOf balancing most job lent
     unfolding surveyOf

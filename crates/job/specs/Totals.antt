@@ -10,7 +10,7 @@ use Rattle.rules.specs.Lists.{bit, total, count, largest, upTo}
 use Rattle.rules.specs.Job.{Job, Limits, isRead, fileCount}
 use Rattle.rules.specs.Split.{onSide, sizeOf, isFree, weighs, largeEnough, smallEnough}
 use Rattle.rules.specs.declared.Verdict.{Verdict}
-use Rattle.rules.specs.Check.{refuseIf, _orElse_, allowsEmpty, check9, check7and8and10}
+use Rattle.rules.specs.Check.{refuseIf, _orElse_, allowsEmpty, checkStart, checkGoal}
 use Rattle.rules.specs.Balance.{noneBalanced}
 
 -- those of the first n files
@@ -76,13 +76,13 @@ abbrev pub mayEmptyBy : Figures → Totals → Bool
 mayEmptyBy figures t = allowsEmpty (figures .num) (figures .den) (t .weight) (toleranceBy figures t)
 
 -- the 9 of the balancing, or that of a pass
-abbrev pub nineFor : Bool → Job → Verdict
-nineFor balancing job = cond balancing (refuseIf (noneBalanced job) 9 0) (check9 job)
+abbrev pub startFor : Bool → Job → Verdict
+startFor balancing job = cond balancing (refuseIf (noneBalanced job) 9 0) (checkStart job)
 
 -- v is what 9 gives of every job with these figures and totals t
-abbrev pub Gives9 : Bool → Figures → Totals → Verdict → Type 0
-Gives9 balancing figures t v = (job : Job) → Has job figures t → v ≡ nineFor balancing job
+abbrev pub GivesStart : Bool → Figures → Totals → Verdict → Type 0
+GivesStart balancing figures t v = (job : Job) → Has job figures t → v ≡ startFor balancing job
 
 -- v is what 7 to 10 give of it
-abbrev pub Gives7to10 : Bool → Limits → Figures → Totals → Verdict → Type 0
-Gives7to10 balancing most figures t v = (job : Job) → Has job figures t → v ≡ (check7and8and10 most job orElse nineFor balancing job)
+abbrev pub GivesRest : Bool → Limits → Figures → Totals → Verdict → Type 0
+GivesRest balancing most figures t v = (job : Job) → Has job figures t → v ≡ (checkGoal most job orElse startFor balancing job)

@@ -23,10 +23,9 @@ pub use numbers::wide;
 use rules::Measure;
 use rules::Verdict;
 pub use verdict::bad_k;
-pub use verdict::check1;
-pub use verdict::check1to6;
-pub use verdict::check2;
-use verdict::check7to10;
+pub use verdict::check_counts;
+use verdict::check_rest;
+pub use verdict::check_sound;
 pub use verdict::or_else;
 pub use verdict::refuse_if;
 ghost use mathlib.Core.Path.{_≡_};
@@ -91,11 +90,11 @@ pub fn check(
 ) -> Verdict
     ensures { λ r. do ⌜ r ≡ checkJob (limitsOf (← ⟦Job::MOST_FILES⟧ .entry) (← ⟦Job::MOST_RECIPES⟧ .entry) (← ⟦Job::MOST_PINS⟧ .entry) (← ⟦Job::MOST_DEN⟧ .entry)) (wholeJob job (now (sizes .entry)) (now (sides .entry)) (now (marks .entry)) (now (bounds .entry)) (now (pins .entry))) ⌝ }
 {
-    let v = check1to6(sizes, sides, marks, bounds, pins, true);
+    let v = check_sound(sizes, sides, marks, bounds, pins, true);
     if v.number != 0 {
         return v;
     }
-    check7to10(job, totals_of(sizes, sides, marks), false)
+    check_rest(job, totals_of(sizes, sides, marks), false)
 }
 
 // 1 to 6, else the cut, |A| and what could not be read.
@@ -109,7 +108,7 @@ pub fn measure(
 ) -> Measure
     ensures { λ r. do ⌜ r ≡ «measure» (limitsOf (← ⟦Job::MOST_FILES⟧ .entry) (← ⟦Job::MOST_RECIPES⟧ .entry) (← ⟦Job::MOST_PINS⟧ .entry) (← ⟦Job::MOST_DEN⟧ .entry)) (wholeJob job (now (sizes .entry)) (now (sides .entry)) (now (marks .entry)) (now (bounds .entry)) (now (pins .entry))) ⌝ }
 {
-    let verdict = check1to6(sizes, sides, marks, bounds, pins, true);
+    let verdict = check_sound(sizes, sides, marks, bounds, pins, true);
     if verdict.number != 0 {
         return Measure {
             verdict,
@@ -142,7 +141,7 @@ pub fn survey(
 ) -> Survey
     ensures { λ r. do ⌜ r ≡ surveyOf balancing (limitsOf (← ⟦Job::MOST_FILES⟧ .entry) (← ⟦Job::MOST_RECIPES⟧ .entry) (← ⟦Job::MOST_PINS⟧ .entry) (← ⟦Job::MOST_DEN⟧ .entry)) (wholeJob job (now (sizes .entry)) (now (sides .entry)) (now (marks .entry)) (now (bounds .entry)) (now (pins .entry))) lent ⌝ }
 {
-    let v = check1to6(sizes, sides, marks, bounds, pins, lent);
+    let v = check_sound(sizes, sides, marks, bounds, pins, lent);
     if v.number != 0 {
         return Survey {
             verdict: v,
@@ -155,7 +154,7 @@ pub fn survey(
         };
     }
     let t = totals_of(sizes, sides, marks);
-    let verdict = check7to10(job, t, balancing);
+    let verdict = check_rest(job, t, balancing);
     if verdict.number != 0 {
         return Survey {
             verdict,

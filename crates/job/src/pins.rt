@@ -8,7 +8,7 @@ ghost use Prim.Native.Nat.{_≤_};
 ghost use lib.ListN.{length, getD};
 ghost use lib.Dec.{leb, ltb};
 ghost use Rattle.rules.specs.Lists.{lowest};
-ghost use Rattle.rules.specs.Check.{badPin, check4};
+ghost use Rattle.rules.specs.Check.{badPin, checkBounds};
 ghost use Rattle.job.specs.Parts.{ofRecipes, ofPins};
 ghost use Rattle.job.specs.Pins.{onwards, badFrom, Held};
 
@@ -42,7 +42,7 @@ fn first_bad_in(files: usize, pins: &[u16], held: &mut [usize], a: usize, e: usi
 
 // The lowest bad pin, or P.
 pub(crate) fn first_bad_pin(sizes: &[u16], bounds: &[u16], pins: &[u16]) -> usize
-    requires { do ⌜ (length (now sizes) ≤ (← ⟦Job::MOST_FILES⟧)) × (check4 (ofRecipes (now bounds) (now pins)) .number ≡ 0) ⌝ }
+    requires { do ⌜ (length (now sizes) ≤ (← ⟦Job::MOST_FILES⟧)) × (checkBounds (ofRecipes (now bounds) (now pins)) .number ≡ 0) ⌝ }
     ensures { λ r. ⌜ r ≡ lowest (badPin (ofPins (now (sizes .entry)) (now (bounds .entry)) (now (pins .entry)))) (length (now (pins .entry))) ⌝ }
 {
     let n = recipe_count(bounds);

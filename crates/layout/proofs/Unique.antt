@@ -8,6 +8,8 @@ use Rattle.layout.proofs.block.word_at.Kinds as word-at-kinds
 use Rattle.layout.proofs.block.word_at.Reads as word-at
 use Rattle.layout.proofs.block.value_in.Kinds as value-in-kinds
 use Rattle.layout.proofs.block.value_in.Reads as value-in
+use Rattle.layout.proofs.kinds.input_bytes.Kinds as input-bytes-kinds
+use Rattle.layout.proofs.kinds.input_bytes.Reads as input-bytes
 use Rattle.layout.proofs.kinds.bounds_at.Kinds as bounds-at-kinds
 use Rattle.layout.proofs.kinds.bounds_at.Reads as bounds-at
 use Rattle.layout.proofs.kinds.pins_at.Kinds as pins-at-kinds
@@ -31,6 +33,9 @@ word-at-settled κs a x y e f p q = both p q
 
 pub value-in-settled : Settles 1 value-in-kinds.ps value-in-kinds.r ℕ (λ κs x _. x) value-in.Post
 value-in-settled κs a x y e f p q = both p q
+
+pub input-bytes-settled : Settles 0 input-bytes-kinds.ps input-bytes-kinds.r ℕ (λ κs x _. x) input-bytes.Post
+input-bytes-settled κs a x y e f p q = both (p .0) (q .0)
 
 pub bounds-at-settled : Settles 0 bounds-at-kinds.ps bounds-at-kinds.r ℕ (λ κs x _. x) bounds-at.Post
 bounds-at-settled κs a x y e f p q = both p q

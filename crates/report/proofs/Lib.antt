@@ -5,4 +5,5 @@ pub mod Gains
 pub mod Traces
 pub mod Printings
 pub mod Comparisons
+pub mod Lending
 pub mod Unique

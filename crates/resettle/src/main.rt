@@ -3,10 +3,10 @@ use libc::STDERR_FILENO;
 use libc::STDOUT_FILENO;
 
 fn main() {
-    let mut input = [0u8; planner::INPUT_BYTES];
-    let got = blocks::take(&mut input, planner::INPUT_BYTES);
-    let mut room = [0u8; planner::INPUT_BYTES];
-    let handed = planner::resettle(&input[..got], &mut room);
+    let mut input = [0u8; layout::INPUT_BYTES];
+    let got = blocks::take(&mut input, layout::input_bytes());
+    let mut room = [0u8; layout::INPUT_BYTES];
+    let handed = hander::resettle(&input[..got], &mut room);
     let output = handed.output;
     let end = output + handed.errors;
     io::write_all(STDOUT_FILENO, &room[..output]);

@@ -280,8 +280,8 @@ module _ (job : Job) where
           ∙ sym (locked-go st v e)
 
   -- it picks files then still free
-  pub locked-picks : Picks (fileCount job) lockedChoice moved (λ s. s)
-  locked-picks = record { seen = λ s f. refl; good = λ s f e. good s f e (heavy job (sizeA job (s .sides))) refl }
+  pub locked-picks : Picks (fileCount job) lockedChoice moved (λ s. s) (StateLong (fileCount job))
+  locked-picks = record { seen = λ s f. refl; long = λ s l. l; keeps = λ s f l e. moved-long f l; free = λ s f l e. good s f e (heavy job (sizeA job (s .sides))) refl }
     where
       good : (st : State) (f : ℕ) → lockedChoice st ≡ some f → (o : Option ℕ) → heavy job (sizeA job (st .sides)) ≡ o → (f < fileCount job) × (lockOf st f ≡ 0)
       good st f e none h = no-some f (sym (locked-stop st h) ∙ e)

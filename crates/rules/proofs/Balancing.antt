@@ -16,33 +16,32 @@ use Rattle.rules.specs.declared.BalanceFigures.{BalanceFigures}
 use Rattle.rules.specs.Lists.{listed}
 use Rattle.rules.specs.Job.{Job, Limits, fileCount, recipeCount, pinCount, files, recipes, scratchFor}
 use Rattle.rules.specs.Split.{sideOf, cut, gain, isFree, weight, smax, sizeOn, sizeA, balanced}
-use Rattle.rules.specs.Check.{done, refuseIf, _orElse_, badRatio, badK, noneFree, mayEmpty, check2Of, check2, check7, check8, check10, check9, check1to6, check7and8and10, check7to10, check}
+use Rattle.rules.specs.Check.{done, refuseIf, _orElse_, _followedBy_, row, overMost, goalRows, checkRatio, checkFree, checkWindow, checkStart, checkSound, checkGoal, check}
 use Rattle.rules.specs.Move.{stepsBy, State, start, moved, after, Frees, greater, movesBy}
 use Rattle.rules.specs.Stored.{jobOf, readVerdict}
 use Rattle.rules.specs.Report.{refusal, sizeLine, ofFiles, intoRoom, allRoom, allLent}
-use Rattle.rules.specs.Refusals.{rows7and8and10, rows1to6}
 use Rattle.rules.specs.Writing.{headerFor, blocksOf, checkWritten, withSides, HandedOut, handsOut}
-use Rattle.rules.specs.Balance.{heavy, freeOn, greatestOn, balanceChoice, balanceMoves, balanceSides, noneBalanced, check1to8and10, balanceCheck, balanceVerdict, Balancing, balancingOf, balanceFigures, noBalanceFigures, balancing, balanceLines, balanceReport, balanceReporting, balances}
+use Rattle.rules.specs.Balance.{heavy, freeOn, greatestOn, balanceChoice, balanceMoves, balanceSides, noneBalanced, beforeStartRows, checkBeforeStart, balanceRows, balanceCheck, balanceVerdict, Balancing, balancingOf, balanceFigures, noBalanceFigures, balancing, balanceLines, balanceReport, balanceReporting, balances}
 use Rattle.rules.specs.Theorems.{Sound, Sides, stateAt}
-use Rattle.rules.specs.Balancing.{balancedTo, Assignment, BalanceHolds, lastRows, balanceRows, BalanceRows, NineExactly, BalanceAnswers, balancesVerdict, BalanceProgram}
+use Rattle.rules.specs.Balancing.{balancedTo, Assignment, BalanceHolds, BalanceRows, BalanceRefuses, BalanceAnswers, balancesVerdict, BalanceProgram}
 use Rattle.rules.proofs.Tests.{clash, contra'}
-use Rattle.rules.proofs.Verdicts.{chain-stop, passes-both, or-assoc, never-chain, not-refused, Plain, plain-if, plain-chain}
+use Rattle.rules.proofs.Verdicts.{chain-stop, zero-of, passes-both, or-assoc, never-chain, not-refused, Plain}
 use Rattle.rules.proofs.Count.{count-le}
 use Rattle.rules.proofs.Fits.{long-enough}
 use Rattle.rules.proofs.Entries.{listed-holds}
 use Rattle.rules.proofs.First.{first-none}
-use Rattle.rules.proofs.SoundJob.{ok7, ok-before, sound}
+use Rattle.rules.proofs.SoundJob.{ratio-pass, goal-pass, sound}
 use Rattle.rules.proofs.MovesEnd.{StateLong, moves-stop, moves-each, moves-keep, moves-same, moves-free, moves-end, locked-stays}
-use Rattle.rules.proofs.Proved.{moves-hold, given-sides, lent-six, check-writes}
+use Rattle.rules.proofs.Proved.{moves-hold, scans-hold, given-sides, lent-sound, check-writes}
 use Rattle.rules.proofs.Checking.{check-holds}
 use Rattle.rules.proofs.OtherSides.{sound-again}
-use Rattle.rules.proofs.Refusals.{answer-append, lacks, first-given, never-given, rows-six, rows-before, rows-last}
+use Rattle.rules.proofs.Refusals.{lacks, within, first-given, plain-rows, never-given, few-given, check-chain}
 use Rattle.rules.proofs.Reading.{read-holds}
 use Rattle.rules.proofs.CutOff.{cut-same}
 use Rattle.rules.proofs.Reports.{telling-refusal, telling-made}
 use Rattle.rules.proofs.Lending.{lends-enough}
 use Rattle.rules.proofs.RoundTrip.{blocks-hold}
-use Rattle.rules.proofs.Writes.{few-if, few-or, few-numbers, handed-refused, handed-done}
+use Rattle.rules.proofs.Writes.{handed-refused, handed-done}
 use Rattle.rules.proofs.Balance.{Toward, Made, made, toward-next, halves, greatest-one, choice-stop, choice-go, lockedChoice, locked-same, locked-picks, none-balanced, left-balanced}
 
 -- the side to move from; any, where there is none
@@ -125,6 +124,7 @@ module _ (most : Limits) (job : Job) (s : Sound most job) (wide : 1 ≤ job .k) 
       record {
         frees = balance-free;
         moves = moves-hold most job s (job .sides) (balanceMoves job) (given-sides most job s) balance-free;
+        scans = scans-hold most job s (job .sides) (balanceMoves job) (given-sides most job s) balance-free;
         from = λ u i e h. let t = rw (ap sideIn e) at (toward-at i) in t .unmoved (getD (balanceMoves job) i 0) (one u i e h .greatest .there);
         while = λ u i e h. one u i e h .heavy;
         each = λ u i e h. one u i e h .greatest;
@@ -142,74 +142,67 @@ module _ (most : Limits) (job : Job) (s : Sound most job) (wide : 1 ≤ job .k) 
 -- ---- the table of its check
 
 pub balance-rows : (most : Limits) (job : Job) (lent : Bool) → BalanceRows most job lent
-unfolding balanceCheck check1to8and10 lacks
-balance-rows most job lent =
-    first-given (balanceRows most job lent) refl
-    (or-assoc (check1to6 most job lent) (check7and8and10 most job) (refuseIf (noneBalanced job) 9 0)
-    ∙ ap₂ (λ (v w : Verdict). v orElse w) (rows-six job most lent) (rows-last job most (noneBalanced job))
-    ∙ sym (answer-append (rows1to6 most job lent) (lastRows most job)))
+unfolding balanceCheck lacks
+balance-rows most job lent = first-given (balanceRows most job lent) refl
 
 -- ---- 9 exactly if impossible
 
 module _ (most : Limits) (job : Job) (lent : Bool) where
-  before-numbers : (check1to8and10 most job lent .number ≤ 10) × (check1to8and10 most job lent .number ≢ 9)
-  unfolding check1to8and10 check7and8and10 check7 check8 check10 lacks
-  before-numbers = (
-    few-or (check1to6 most job lent) (check7and8and10 most job) 10 (omega (arith, few-numbers most job lent))
-        (few-or (check7 most job) (check8 job orElse check10 job) 10
-        (few-or (refuseIf (badRatio most job) 7 0) (refuseIf (badK (job .k)) 7 0) 10 (few-if (badRatio most job) 7 0 10 (omega arith)) (few-if (badK (job .k)) 7 0 10 (omega arith)))
-        (few-or (check8 job) (check10 job) 10 (few-if (noneFree job) 8 0 10 (omega arith)) (few-if (mayEmpty job) 10 0 10 (omega arith)))),
-    never-chain 9 (check1to6 most job lent) (check7and8and10 most job) (λ e. omega (arith, few-numbers most job lent))
-        (λ _. rw (rows-before job most) (never-given 9 (rows7and8and10 most job) refl (omega arith))),
-  )
+  before-numbers : (checkBeforeStart most job lent .number ≤ 10) × (checkBeforeStart most job lent .number ≢ 9)
+  unfolding checkBeforeStart within lacks
+  before-numbers = (few-given 10 (beforeStartRows most job lent) refl, never-given 9 (beforeStartRows most job lent) refl (omega arith))
 
-  before-sound : check1to8and10 most job lent .number ≡ 0 → Sound most job
-  unfolding check1to8and10
-  before-sound z = sound most job lent (passes-both (check1to6 most job lent) (check7and8and10 most job) z .0)
+  pub before-chain : checkBeforeStart most job lent ≡ (checkSound most job lent orElse checkGoal most job)
+  unfolding checkBeforeStart checkSound checkGoal
+  before-chain = refl
 
-  before-wide : check1to8and10 most job lent .number ≡ 0 → 1 ≤ job .k
-  unfolding check1to8and10
-  before-wide z =
-      let q = passes-both (check1to6 most job lent) (check7and8and10 most job) z in
-      ok7 most job (ok-before most job (q .1) .0) .1 .0
+  pub balance-chain : balanceCheck most job lent ≡ (checkBeforeStart most job lent orElse refuseIf (noneBalanced job) 9 0)
+  unfolding balanceCheck checkBeforeStart
+  balance-chain = refl
+
+  pub before-parts : checkBeforeStart most job lent .number ≡ 0 → (checkSound most job lent .number ≡ 0) × (checkGoal most job .number ≡ 0)
+  before-parts z = passes-both (checkSound most job lent) (checkGoal most job) (zero-of before-chain z)
+
+  before-sound : checkBeforeStart most job lent .number ≡ 0 → Sound most job
+  before-sound z = sound most job lent (before-parts z .0)
+
+  before-wide : checkBeforeStart most job lent .number ≡ 0 → 1 ≤ job .k
+  before-wide z = ratio-pass most job (goal-pass most job (before-parts z .1) .0) .1 .0
 
   -- after 1 to 8 and 10 it is the 9 of its own
-  then-nine : check1to8and10 most job lent .number ≡ 0 → balanceCheck most job lent ≡ refuseIf (noneBalanced job) 9 0
-  unfolding balanceCheck
-  then-nine z = rw (eq-eqb (check1to8and10 most job lent .number) 0 z) refl
+  then-start : checkBeforeStart most job lent .number ≡ 0 → balanceCheck most job lent ≡ refuseIf (noneBalanced job) 9 0
+  then-start z = rw (balance-chain, eq-eqb (checkBeforeStart most job lent .number) 0 z) refl
 
-  stops-before : check1to8and10 most job lent .number ≢ 0 → balanceCheck most job lent ≡ check1to8and10 most job lent
-  unfolding balanceCheck
-  stops-before z = rw (ne-eqb (check1to8and10 most job lent .number) 0 z) refl
+  stops-before : checkBeforeStart most job lent .number ≢ 0 → balanceCheck most job lent ≡ checkBeforeStart most job lent
+  stops-before z = rw (balance-chain, ne-eqb (checkBeforeStart most job lent .number) 0 z) refl
 
-  impossible : check1to8and10 most job lent .number ≡ 0 → ((sides : List ℕ) → Assignment job sides → balanced job (sizeA job sides) ≡ false) → noneBalanced job ≡ true
+  impossible : checkBeforeStart most job lent .number ≡ 0 → ((sides : List ℕ) → Assignment job sides → balanced job (sizeA job sides) ≡ false) → noneBalanced job ≡ true
   impossible z f =
       let s = before-sound z in
       let w = before-wide z in
       contra' (noneBalanced job) (λ b. clash (sym (balance-holds most job s w .balances b) ∙ f (balanceSides job) (assigned most job s w)))
 
-  passed-nine : balanceCheck most job lent .number ≡ 0 → (check1to8and10 most job lent .number ≡ 0) × (noneBalanced job ≡ false)
-  unfolding balanceCheck
-  passed-nine z =
-      let q = passes-both (check1to8and10 most job lent) (refuseIf (noneBalanced job) 9 0) z in
+  pub start-passed : balanceCheck most job lent .number ≡ 0 → (checkBeforeStart most job lent .number ≡ 0) × (noneBalanced job ≡ false)
+  start-passed z =
+      let q = passes-both (checkBeforeStart most job lent) (refuseIf (noneBalanced job) 9 0) (zero-of balance-chain z) in
       (q .0, not-refused (noneBalanced job) 8 0 (q .1))
 
-  nine-given : balanceCheck most job lent .number ≡ 9 → noneBalanced job ≡ true
-  nine-given z = elim (ℕ-discrete (check1to8and10 most job lent .number) 0) [
-    | yes e ↦ contra' (noneBalanced job) (λ b. omega (arith, sym z ∙ ap (λ (v : Verdict). v .number) (then-nine e ∙ ap (λ (t : Bool). refuseIf t 9 0) b)))
+  given-impossible : balanceCheck most job lent .number ≡ 9 → noneBalanced job ≡ true
+  given-impossible z = elim (ℕ-discrete (checkBeforeStart most job lent .number) 0) [
+    | yes e ↦ contra' (noneBalanced job) (λ b. omega (arith, sym z ∙ ap (λ (v : Verdict). v .number) (then-start e ∙ ap (λ (t : Bool). refuseIf t 9 0) b)))
     | no n ↦ absurd (before-numbers .1 (sym (ap (λ (v : Verdict). v .number) (stops-before n)) ∙ z))
   ]
 
-  pub nine-exactly : NineExactly most job lent
-  nine-exactly = record {
-    given = λ z sides w. none-balanced job sides (nine-given z) w;
-    exactly = λ z f. then-nine z ∙ ap (λ (t : Bool). refuseIf t 9 0) (impossible z f);
+  pub balance-refuses : BalanceRefuses most job lent
+  balance-refuses = record {
+    given = λ z sides w. none-balanced job sides (given-impossible z) w;
+    exactly = λ z f. then-start z ∙ ap (λ (t : Bool). refuseIf t 9 0) (impossible z f);
     possible = λ z.
-        let q = passed-nine z in
+        let q = start-passed z in
         let s = before-sound (q .0) in
         let w = before-wide (q .0) in
         (assigned most job s w, balance-holds most job s w .balances (q .1));
-    before = unfold check check7to10 check1to8and10 in sym (or-assoc (check1to6 most job lent) (check7and8and10 most job) (check9 job));
+    before = check-chain most job lent ∙ sym (or-assoc (checkSound most job lent) (checkGoal most job) (checkStart job)) ∙ ap (λ (v : Verdict). v orElse checkStart job) (sym before-chain);
     numbers = before-numbers;
     first = stops-before;
   }
@@ -217,13 +210,13 @@ module _ (most : Limits) (job : Job) (lent : Bool) where
 -- ---- the job with other sides
 
 module _ (most : Limits) (job : Job) (s : Sound most job) (sides : List ℕ) (w : Sides job sides) where
-  resided-six : check1to6 most (withSides job sides) true ≡ done
-  resided-six = check-holds most (withSides job sides) true .soundPasses (sound-again job sides s w) refl
+  resided-sound : checkSound most (withSides job sides) true ≡ done
+  resided-sound = check-holds most (withSides job sides) true .soundPasses (sound-again job sides s w) refl
 
   -- of the later checks only 9 looks at the sides
-  resided-nine : check7and8and10 most job ≡ done → balanced job (sizeA job sides) ≡ true → check most (withSides job sides) true ≡ done
-  unfolding check check7to10 check7and8and10 check7 check8 check10 check9 balanced weight smax sizeOn files
-  resided-nine e b = rw resided-six (rw (e, b) refl)
+  resided-passes : checkGoal most job ≡ done → balanced job (sizeA job sides) ≡ true → check most (withSides job sides) true ≡ done
+  unfolding checkGoal checkStart balanced weight smax sizeOn files
+  resided-passes e b = rw (check-chain most (withSides job sides) true, resided-sound) (rw (e, b) refl)
 
 -- ---- the call
 
@@ -232,28 +225,24 @@ module _ (most : Limits) (job : Job) (scratch : List ℕ) where
   lent = leb (scratchFor job) (length scratch)
 
   plain-balance : Plain (balanceVerdict most job scratch)
-  unfolding balanceCheck
-  plain-balance = plain-chain (check1to8and10 most job lent) (refuseIf (noneBalanced job) 9 0) (plain-if (noneBalanced job) 8 0)
+  unfolding balanceCheck lacks
+  plain-balance = plain-rows (balanceRows most job lent) refl
 
   -- of a job that is let through
   module _ (z : balanceVerdict most job scratch .number ≡ 0) where
     through : Sound most job
-    through = before-sound most job lent (passed-nine most job lent z .0)
+    through = before-sound most job lent (start-passed most job lent z .0)
 
     wide : 1 ≤ job .k
-    wide = before-wide most job lent (passed-nine most job lent z .0)
+    wide = before-wide most job lent (start-passed most job lent z .0)
 
     long-scratch : scratchFor job ≤ length scratch
-    unfolding check1to8and10
     long-scratch =
-        leb-true (scratchFor job) (length scratch)
-        (lent-six most job lent (passes-both (check1to6 most job lent) (check7and8and10 most job) (passed-nine most job lent z .0) .0))
+        leb-true (scratchFor job) (length scratch) (lent-sound most job lent (before-parts most job lent (start-passed most job lent z .0) .0))
 
-    before-nine : check7and8and10 most job ≡ done
-    unfolding check1to8and10 check7and8and10 check10
-    before-nine =
-        plain-chain (check7 most job) (check8 job orElse check10 job) (plain-chain (check8 job) (check10 job) (plain-if (mayEmpty job) 9 0))
-        (passes-both (check1to6 most job lent) (check7and8and10 most job) (passed-nine most job lent z .0) .1)
+    goal-passes : checkGoal most job ≡ done
+    unfolding checkGoal lacks
+    goal-passes = plain-rows (goalRows most job) refl (before-parts most job lent (start-passed most job lent z .0) .1)
 
     made-equal : balancing most job scratch ≡ balancingOf (balanceFigures job done) (balanceSides job) (listed (scratchFor job) 0 [] scratch)
     unfolding balancing
@@ -265,10 +254,10 @@ module _ (most : Limits) (job : Job) (scratch : List ℕ) where
     sides-are = ap (λ (b : Balancing). b .sides) made-equal
 
     left-even : balanced job (sizeA job (balanceSides job)) ≡ true
-    left-even = nine-exactly most job lent .possible z .1
+    left-even = balance-refuses most job lent .possible z .1
 
     left-checked : check most (withSides job (balanceSides job)) true ≡ done
-    left-checked = resided-nine most job through (balanceSides job) (balance-holds most job through wide .sides) before-nine left-even
+    left-checked = resided-passes most job through (balanceSides job) (balance-holds most job through wide .sides) goal-passes left-even
 
   refused-equal : balanceVerdict most job scratch .number ≢ 0
       → balancing most job scratch ≡ balancingOf (noBalanceFigures (balanceVerdict most job scratch)) (job .sides) scratch
@@ -316,9 +305,8 @@ answer-verdict most job scratch = elim (ℕ-discrete (balanceVerdict most job sc
 ]
 
 -- a sound job passes 2
-few-of : (most : Limits) (job : Job) → Sound most job → check2 most job .number ≡ 0
-unfolding check2
-few-of most job s =
+sound-few : (most : Limits) (job : Job) → Sound most job → overMost most (fileCount job) (recipeCount job) (pinCount job) ≡ false
+sound-few most job s =
     rw (le-ltb (most .files) (fileCount job) (s .fewFiles), le-ltb (most .recipes) (recipeCount job) (s .fewRecipes), le-ltb (most .pins) (pinCount job) (s .fewPins)) refl
 
 module _ (most : Limits) (input : List ℕ) where
@@ -365,21 +353,20 @@ module _ (most : Limits) (input : List ℕ) where
     even-read : readVerdict most (blocksOf (withSides read (balanceSides read))) (allRoom most) ≡ done
     even-read =
         let job : Job = withSides read (balanceSides read) in
-        let few : check2Of most (fileCount read) (recipeCount read) (pinCount read) .number ≡ 0 = unfold check2 in few-of most read read-sound in
-        blocks-hold most job even-writes .verdict (allRoom most) ∙ ap (λ (b : Bool). refuseIf (not b) 3 0) (lends-enough most input .room (headerFor job) few)
+        blocks-hold most job even-writes .verdict (allRoom most) ∙ ap (λ (b : Bool). refuseIf (not b) 3 0) (lends-enough most input .room (headerFor job) (sound-few most read read-sound))
 
     even-same : jobOf (blocksOf (withSides read (balanceSides read))) ≡ withSides read (balanceSides read)
     even-same = blocks-hold most (withSides read (balanceSides read)) even-writes .same
 
   -- the scratch that it lends is long enough for a job that was read
-  never-three : readVerdict most input (allRoom most) .number ≡ 0 → balanceVerdict most read own .number ≢ 3
-  unfolding balanceCheck check1to8and10 lacks
-  never-three z =
+  never-short : readVerdict most input (allRoom most) .number ≡ 0 → balanceVerdict most read own .number ≢ 3
+  unfolding lacks
+  never-short z =
       let s : Sound most read = read-holds most input (allRoom most) .sound z in
       let lends : leb (scratchFor read) (length own) ≡ true
-      = le-leb (scratchFor read) (length own) (long-enough read (allLent most read) (lends-enough most input .lent read (few-of most read s)) .scratch) in
-      rw (check-holds most read (leb (scratchFor read) (length own)) .soundPasses s lends, rows-last read most (noneBalanced read))
-      (never-given 3 (lastRows most read) refl (omega arith))
+      = le-leb (scratchFor read) (length own) (long-enough read (allLent most read) (lends-enough most input .lent read (sound-few most read s)) .scratch) in
+      rw (balance-chain most read (leb (scratchFor read) (length own)), before-chain most read (leb (scratchFor read) (length own)), check-holds most read (leb (scratchFor read) (length own)) .soundPasses s lends)
+      (unfold checkGoal in never-given 3 (goalRows most read followedBy row 9 (noneBalanced read) 0) refl (omega arith))
 
 pub program-holds : (most : Limits) (input : List ℕ) → BalanceProgram most input
 program-holds most input = record {
@@ -391,6 +378,6 @@ program-holds most input = record {
       rw (output-is most input z, even-same most input z) (left-checked most (jobOf input) (allLent most (jobOf input) .scratch) (both-done most input z .1));
   enough =
       never-chain 3 (readVerdict most input (allRoom most)) (balanceVerdict most (jobOf input) (allLent most (jobOf input) .scratch)) (lends-enough most input .read)
-      (never-three most input);
+      (never-short most input);
   longer = λ k. cut-same most k input (balances most) (λ v. record { output = []; errors = refusal v }) (balances-no most);
 }

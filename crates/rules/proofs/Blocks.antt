@@ -10,7 +10,7 @@ use lib.Seq.{drop-nil}
 use Rattle.rules.specs.declared.Header.{Header}
 use Rattle.rules.specs.Lists.{total}
 use Rattle.rules.specs.Check.{done, _orElse_}
-use Rattle.rules.specs.Stored.{weigh, blockVerdict, blocksVerdict}
+use Rattle.rules.specs.Stored.{weigh, blockVerdict, furtherRows, blocksVerdict}
 use Rattle.rules.proofs.Verdicts.{or-assoc, passes-both, both-pass}
 
 -- counted from one place later, each byte weighs one more of itself
@@ -36,21 +36,21 @@ weigh-running (b ∷ bs) (suc j) = weigh-running bs j
 -- of the n blocks from b on, those from the kth on
 module _ (h : Header) (bytes : List ℕ) (b n k : ℕ) where
   pub blocks-more : k < n → blocksVerdict h bytes (b + k) (n - k) ≡ (blockVerdict h bytes (b + k) orElse blocksVerdict h bytes (b + (k + 1)) (n - (k + 1)))
-  unfolding blocksVerdict
+  unfolding blocksVerdict blockVerdict furtherRows
   blocks-more l =
       let e : n - k ≡ suc (n - (k + 1)) = omega arith in
       let f : b + (k + 1) ≡ suc (b + k) = omega arith in
       rw (e, f)
 
   pub blocks-end : n ≤ k → blocksVerdict h bytes (b + k) (n - k) ≡ done
-  unfolding blocksVerdict
+  unfolding blocksVerdict blockVerdict furtherRows
   blocks-end l =
       let e : n - k ≡ 0 = omega arith in
       rw e
 
 -- the m blocks from b on, then the n blocks after them
 pub blocks-split : (h : Header) (bytes : List ℕ) (b m n : ℕ) → blocksVerdict h bytes b (m + n) ≡ (blocksVerdict h bytes b m orElse blocksVerdict h bytes (b + m) n)
-unfolding blocksVerdict
+unfolding blocksVerdict blockVerdict furtherRows
 blocks-split h bytes b zero n =
     let e : 0 + n ≡ n = omega arith in
     let f : b + 0 ≡ b = omega arith in
@@ -63,13 +63,13 @@ blocks-split h bytes b (suc m) n =
 -- ---- the blocks from b on, n of them
 
 pub blocks-pass : (h : Header) (bytes : List ℕ) (b n : ℕ) → ((i : ℕ) → b ≤ i → i < b + n → blockVerdict h bytes i .number ≡ 0) → blocksVerdict h bytes b n .number ≡ 0
-unfolding blocksVerdict
+unfolding blocksVerdict blockVerdict furtherRows
 blocks-pass h bytes b zero each = refl
 blocks-pass h bytes b (suc n) each =
     both-pass (blockVerdict h bytes b) (blocksVerdict h bytes (suc b) n) (each b (omega arith) (omega arith)) (blocks-pass h bytes (suc b) n (λ i k l. each i (omega arith) (omega arith)))
 
 pub blocks-each : (h : Header) (bytes : List ℕ) (b n : ℕ) → blocksVerdict h bytes b n .number ≡ 0 → (i : ℕ) → b ≤ i → i < b + n → blockVerdict h bytes i .number ≡ 0
-unfolding blocksVerdict
+unfolding blocksVerdict blockVerdict furtherRows
 blocks-each h bytes b zero ok i k l = absurd (omega arith)
 blocks-each h bytes b (suc n) ok i k l =
     let r = passes-both (blockVerdict h bytes b) (blocksVerdict h bytes (suc b) n) ok in

@@ -11,15 +11,14 @@ use Rattle.rules.specs.declared.Verdict.{Verdict}
 use Rattle.rules.specs.Lists.{count, someBelow, upTo}
 use Rattle.rules.specs.Job.{Job, Limits, fileCount, recipeCount, pinCount, bound, pin, files}
 use Rattle.rules.specs.Split.{sizeOf, sizeA, balanced}
-use Rattle.rules.specs.Check.{done, short, repeatsIn, badPin, badFile, badK, mayEmpty, check4to6, check7to10, check1to6, check}
-use Rattle.rules.specs.Refusals.{row, rowAt}
+use Rattle.rules.specs.Check.{done, short, repeatsIn, badPin, badFile, badRatio, noneFree, checkContents, checkRest, checkSound, check}
 use Rattle.rules.specs.Theorems.{Sound, Accepted, CheckHolds}
 use Rattle.rules.proofs.Count.{count-here}
 use Rattle.rules.proofs.Searches.{some-none}
-use Rattle.rules.proofs.Verdicts.{first-three}
+use Rattle.rules.proofs.Verdicts.{chain-pass, sound-contents}
 use Rattle.rules.proofs.SoundJob.{fine-k, sound}
-use Rattle.rules.proofs.Refusals.{answerOf, row-go, rows-four, rows-seven, six-rows, check-rows}
-use Rattle.rules.proofs.Proved.{accepted, lent-six, lent-fits}
+use Rattle.rules.proofs.Refusals.{sound-rows, check-rows}
+use Rattle.rules.proofs.Proved.{accepted, lent-sound, lent-fits}
 
 module _ (most : Limits) (job : Job) where
   module _ (s : Sound most job) where
@@ -50,46 +49,44 @@ module _ (most : Limits) (job : Job) where
         let n : sizeOf job f ≢ 0 = λ e. omega (arith, s .sizes f h) in
         rw (ne-eqb (sizeOf job f) 0 n, le-ltb 1 (getD (job .sides) f 0) (s .binary f), le-ltb 2 (getD (job .marks) f 0) (s .marks f)) refl
 
-    passes-four : check4to6 job ≡ done
-    unfolding answerOf
-    passes-four =
+    contents-pass : checkContents job ≡ done
+    unfolding checkContents
+    contents-pass =
         let n : ℕ = recipeCount job in
-        rows-four job
-        ∙ row-go (row 4 (not (eqb (bound job 0) 0)) 0) _ (ap not (eq-eqb (bound job 0) 0 (s .first)))
-        ∙ row-go (rowAt 4 (short job) n) _ (some-none (short job) n (λ j h. le-ltb (bound job (suc j)) (2 + bound job j) (s .two j h)))
-        ∙ row-go (row 4 (not (eqb (bound job n) (pinCount job))) n) _ (ap not (eq-eqb (bound job n) (pinCount job) (s .last)))
-        ∙ row-go (rowAt 5 (badPin job) (pinCount job)) _ (some-none (badPin job) (pinCount job) good-pin)
-        ∙ row-go (rowAt 6 (badFile job) (fileCount job)) _ (some-none (badFile job) (fileCount job) good-file)
+        rw (
+          eq-eqb (bound job 0) 0 (s .first),
+          some-none (short job) n (λ j h. le-ltb (bound job (suc j)) (2 + bound job j) (s .two j h)),
+          eq-eqb (bound job n) (pinCount job) (s .last),
+          some-none (badPin job) (pinCount job) good-pin,
+          some-none (badFile job) (fileCount job) good-file,
+        )
+        refl
 
-    passes-six : check1to6 most job true ≡ done
-    passes-six = first-three most job (s .someFile) (s .someRecipe) (s .fewFiles) (s .fewRecipes) (s .fewPins) (s .sidesLong) (s .marksLong) ∙ passes-four
+    sound-passes : checkSound most job true ≡ done
+    sound-passes = sound-contents most job (s .someFile) (s .someRecipe) (s .fewFiles) (s .fewRecipes) (s .fewPins) (s .sidesLong) (s .marksLong) ∙ contents-pass
 
   module _ (a : Accepted most job) where
-    passes-seven : check7to10 most job ≡ done
-    unfolding answerOf files
-    passes-seven =
+    rest-passes : checkRest most job ≡ done
+    unfolding checkRest files
+    rest-passes =
         let n : job .num ≢ 0 = λ e. omega (arith, a .ratio .0) in
         let free : ℕ → Bool = λ f. eqb (getD (job .marks) f 0) 0 in
         let some : count free (upTo (fileCount job)) ≢ 0 = count-here free (fileCount job) (a .free .0) (a .free .1) (eq-eqb (getD (job .marks) (a .free .0) 0) 0 (a .free .2)) in
-        let ratio : (eqb (job .num) 0 || leb (job .den) (job .num) || ltb (most .den) (job .den)) ≡ false
+        let ratio : badRatio most job ≡ false
         = rw (ne-eqb (job .num) 0 n, lt-leb (job .den) (job .num) (a .ratio .1), le-ltb (most .den) (job .den) (a .ratio .2)) refl in
-        rows-seven job most
-        ∙ row-go (row 7 (eqb (job .num) 0 || leb (job .den) (job .num) || ltb (most .den) (job .den)) 0) _ ratio
-        ∙ row-go (row 7 (badK (job .k)) 0) _ (fine-k (job .k) (a .wide))
-        ∙ row-go (row 8 (eqb (count free (upTo (fileCount job))) 0) 0) _ (ne-eqb (count free (upTo (fileCount job))) 0 some)
-        ∙ row-go (row 10 (mayEmpty job) 0) _ (a .filled)
-        ∙ row-go (row 9 (not (balanced job (sizeA job (job .sides)))) 0) _ (ap not (a .balanced))
+        let none : noneFree job ≡ false = ne-eqb (count free (upTo (fileCount job))) 0 some in
+        rw (ratio, fine-k (job .k) (a .wide), none, a .filled, a .balanced) refl
 
-    passes-nine : check most job true ≡ done
-    unfolding check
-    passes-nine = rw (passes-six (a .sound), passes-seven) refl
+    check-passes : check most job true ≡ done
+    unfolding check checkSound checkRest
+    check-passes = chain-pass (checkSound most job true) (checkRest most job) (sound-passes (a .sound)) rest-passes
 
   pub check-holds : (lent : Bool) → CheckHolds most job lent
   check-holds lent = record {
-    table = check-rows job most lent;
-    tableTo6 = six-rows job most lent;
-    sound = λ e. let z = ap (λ (v : Verdict). v .number) e in (sound most job lent z, lent-six most job lent z);
-    soundPasses = λ s e. rw e (passes-six s);
+    table = check-rows most job lent;
+    tableOfSound = sound-rows most job lent;
+    sound = λ e. let z = ap (λ (v : Verdict). v .number) e in (sound most job lent z, lent-sound most job lent z);
+    soundPasses = λ s e. rw e (sound-passes s);
     accepted = λ e. let z = ap (λ (v : Verdict). v .number) e in (accepted most job lent z, lent-fits most job lent z);
-    acceptedPasses = λ a e. rw e (passes-nine a);
+    acceptedPasses = λ a e. rw e (check-passes a);
   }

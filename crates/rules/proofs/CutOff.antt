@@ -2,7 +2,7 @@
 use mathlib.Core.Path.{_≡_, refl, sym, ap, ap₂, _∙_}
 use mathlib.Core.Logic.{_≢_}
 use Prim.Native.Nat.{ℕ, _+_, _-_, _*_, _≤_, _<_}
-use mathlib.Core.Bool.{true, not, cond}
+use mathlib.Core.Bool.{false, true, not, cond}
 use mathlib.Core.List.{List, []}
 use native.Mathlib.Decide.{decLt}
 use native.Mathlib.Omega.{arith}
@@ -13,14 +13,14 @@ use borrow.Author.Tests.{le-ltb, ne-eqb}
 use Rattle.rules.specs.declared.Verdict.{Verdict}
 use Rattle.rules.specs.declared.Header.{Header}
 use Rattle.rules.specs.Job.{Limits}
-use Rattle.rules.specs.Check.{refuseIf, _orElse_, badK, check1Of, check2Of, check4to6}
+use Rattle.rules.specs.Check.{refuseIf, _orElse_, badK, overMost, checkCounts, checkContents}
 use Rattle.rules.specs.Stored.{blockCheck, word, blockAt, valueIn, headerOf, blocksFor, blockCount, kindOf, valuesIn, laidOut, blockVerdict, blocksVerdict, jobOf, Room, roomy, layoutVerdict, readVerdict}
 use Rattle.rules.specs.Report.{refusal, allRoom, allRun, prints}
 use Rattle.rules.specs.Trace.{traces}
 use Rattle.rules.specs.Writing.{resettles}
 use Rattle.rules.specs.Theorems.{mostBytes, Longer}
 use Rattle.rules.proofs.Verdicts.{chain-stop, chain-same, passes-both}
-use Rattle.rules.proofs.SoundJob.{ok2-of}
+use Rattle.rules.proofs.SoundJob.{few-of, counts-pass}
 
 -- blocks grow with what they hold
 blocks-grow : (a b : ℕ) → a ≤ b → (blocksFor 126 a ≤ blocksFor 126 b) × (blocksFor 253 a ≤ blocksFor 253 b)
@@ -53,9 +53,9 @@ module _ (most : Limits) (k : ℕ) (input : List ℕ) (more : mostBytes most < k
   zeroth-same h = ap (λ (block : List ℕ). refuseIf (not (eqb (word block 510) (blockCheck block))) 21 0 orElse refuseIf (not (laidOut block 0 (kindOf h 0) (valuesIn h 0))) 22 0) first-block
 
   -- what the most lets through is shorter
-  blocks-short : (h : Header) → check2Of most (h .files) (h .recipes) (h .pins) .number ≡ 0 → 512 * blockCount h < k
+  blocks-short : (h : Header) → overMost most (h .files) (h .recipes) (h .pins) ≡ false → 512 * blockCount h < k
   blocks-short h z =
-      let few = ok2-of most (h .files) (h .recipes) (h .pins) z in
+      let few = few-of most (h .files) (h .recipes) (h .pins) z in
       omega (
         arith,
         more,
@@ -74,8 +74,7 @@ module _ (most : Limits) (k : ℕ) (input : List ℕ) (more : mostBytes most < k
       refuseIf (ltb (length bytes) 512) 20 0
       orElse blockVerdict h bytes 0
       orElse refuseIf (badK (h .k)) 22 0
-      orElse check1Of (h .files) (h .recipes)
-      orElse check2Of most (h .files) (h .recipes) (h .pins)
+      orElse checkCounts most (h .files) (h .recipes) (h .pins)
       orElse refuseIf (not (roomy h room)) 3 0
       orElse refuseIf (not (eqb (length bytes) (512 * blockCount h))) 20 0
       orElse blocksVerdict h bytes 1 (blockCount h - 1)
@@ -86,39 +85,38 @@ module _ (most : Limits) (k : ℕ) (input : List ℕ) (more : mostBytes most < k
   links : (h : Header) (room : Room) → layout-by h cut-off room ≡ layout-by h input room
   links h room =
       let wide = refuseIf (badK (h .k)) 22 0 in
-      let one = check1Of (h .files) (h .recipes) in
-      let two = check2Of most (h .files) (h .recipes) (h .pins) in
-      let three = refuseIf (not (roomy h room)) 3 0 in
+      let counts = checkCounts most (h .files) (h .recipes) (h .pins) in
+      let lent = refuseIf (not (roomy h room)) 3 0 in
       let last : List ℕ → Verdict = λ bytes. refuseIf (not (eqb (length bytes) (512 * blockCount h))) 20 0 orElse blocksVerdict h bytes 1 (blockCount h - 1) in
-      let ends : two .number ≡ 0 → last cut-off ≡ last input
-      = λ z. unlike h cut-off (blocksVerdict h cut-off 1 (blockCount h - 1)) (omega (arith, blocks-short h z, cut-length)) ∙ sym (unlike h input (blocksVerdict h input 1 (blockCount h - 1)) (omega (arith, blocks-short h z))) in
-      let figures : (wide orElse one orElse two orElse three orElse last cut-off) ≡ (wide orElse one orElse two orElse three orElse last input)
-      = chain-same wide (one orElse two orElse three orElse last cut-off) (one orElse two orElse three orElse last input)
-      (λ _. chain-same one (two orElse three orElse last cut-off) (two orElse three orElse last input)
-      (λ _. chain-same two (three orElse last cut-off) (three orElse last input) (λ z. chain-same three (last cut-off) (last input) (λ _. ends z)))) in
+      let ends : counts .number ≡ 0 → last cut-off ≡ last input
+      = λ z.
+      let l = blocks-short h (counts-pass most (h .files) (h .recipes) (h .pins) z .1) in
+      unlike h cut-off (blocksVerdict h cut-off 1 (blockCount h - 1)) (omega (arith, l, cut-length)) ∙ sym (unlike h input (blocksVerdict h input 1 (blockCount h - 1)) (omega (arith, l))) in
+      let figures : (wide orElse counts orElse lent orElse last cut-off) ≡ (wide orElse counts orElse lent orElse last input)
+      = chain-same wide (counts orElse lent orElse last cut-off) (counts orElse lent orElse last input)
+      (λ _. chain-same counts (lent orElse last cut-off) (lent orElse last input) (λ z. chain-same lent (last cut-off) (last input) (λ _. ends z))) in
       ap₂ (λ (v w : Verdict). v orElse w) enough (ap₂ (λ (v w : Verdict). v orElse w) (zeroth-same h) figures)
 
   layout-same : (room : Room) → layoutVerdict most cut-off room ≡ layoutVerdict most input room
-  unfolding layoutVerdict
+  unfolding layoutVerdict blockVerdict checkCounts blocksVerdict
   layout-same room = ap (λ (h : Header). layout-by h cut-off room) header-same ∙ links (headerOf input) room
 
   -- and it is refused
   layout-no : (room : Room) → layoutVerdict most input room .number ≢ 0
-  unfolding layoutVerdict
+  unfolding layoutVerdict blockVerdict checkCounts blocksVerdict
   layout-no room ok =
       let h : Header = headerOf input in
       let b = passes-both (refuseIf (ltb (length input) 512) 20 0) _ ok in
       let c = passes-both (blockVerdict h input 0) _ (b .1) in
       let w = passes-both (refuseIf (badK (h .k)) 22 0) _ (c .1) in
-      let d = passes-both (check1Of (h .files) (h .recipes)) _ (w .1) in
-      let e = passes-both (check2Of most (h .files) (h .recipes) (h .pins)) _ (d .1) in
-      let f = passes-both (refuseIf (not (roomy h room)) 3 0) _ (e .1) in
-      let l = blocks-short h (e .0) in
+      let d = passes-both (checkCounts most (h .files) (h .recipes) (h .pins)) _ (w .1) in
+      let f = passes-both (refuseIf (not (roomy h room)) 3 0) _ (d .1) in
+      let l = blocks-short h (counts-pass most (h .files) (h .recipes) (h .pins) (d .0) .1) in
       omega (arith, ap (λ (v : Verdict). v .number) (unlike h input (blocksVerdict h input 1 (blockCount h - 1)) (omega (arith, l))), f .1)
 
   layout-refused : (bytes : List ℕ) (room : Room) → layoutVerdict most bytes room .number ≢ 0 → readVerdict most bytes room ≡ layoutVerdict most bytes room
-  unfolding readVerdict
-  layout-refused bytes room n = sym (chain-stop (check4to6 (jobOf bytes)) refl n)
+  unfolding readVerdict layoutVerdict checkContents
+  layout-refused bytes room n = sym (chain-stop (checkContents (jobOf bytes)) refl n)
 
   read-same : (room : Room) → readVerdict most cut-off room ≡ readVerdict most input room
   read-same room =

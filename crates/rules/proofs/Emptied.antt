@@ -18,28 +18,27 @@ use Rattle.rules.specs.declared.Difference.{Difference}
 use Rattle.rules.specs.Lists.{total, count, those, largest, upTo, lowest, padded, onto}
 use Rattle.rules.specs.Job.{Job, Limits, limitsOf, viewOf, files, views, readIn, recipes, Lent, scratchFor, fits}
 use Rattle.rules.specs.Split.{countOn, isCut, cut, unreadFiles, unreadRecipes, weight, smax, tolerance, sizeOn, sizeA, balanced}
-use Rattle.rules.specs.Check.{done, isDone, refuseIf, mayEmpty, check1, check2, check3, check4, badPin, check5, check6, check7, check8, check10, check9, check4to6, check7and8and10, check7to10, check1to6, check, checkJob, measure}
+use Rattle.rules.specs.Check.{done, isDone, refuseIf, mayEmpty, badPin, checkSound, check, checkJob, checkLent, measure}
 use Rattle.rules.specs.Move.{stepsBy, start, after}
 use Rattle.rules.specs.Pass.{keeps, passOf, tries}
 use Rattle.rules.specs.Run.{noFigures, noRunFigures, Ended, passEnds}
-use Rattle.rules.specs.Stored.{weigh, blockCheck, headerOf, laidOut, blockVerdict, blocksVerdict, jobOf, Room, layoutVerdict, readVerdict}
+use Rattle.rules.specs.Stored.{weigh, blockCheck, headerOf, laidOut, furtherRows, jobOf, Room, readVerdict}
 use Rattle.rules.specs.Report.{text, digitsIn, spaced, line, refusal, report, allRoom, allLent, allRun, prints}
 use Rattle.rules.specs.Trace.{listing, trace, traces}
 use Rattle.rules.specs.Writing.{valueBytes, contents}
-use Rattle.rules.specs.Balance.{tooLarge, tooSmall, balanceMoves, balanceSides, leastA, mostA, noneBalanced, check1to8and10, balanceCheck, Balancing}
+use Rattle.rules.specs.Balance.{tooLarge, tooSmall, balanceMoves, balanceSides, leastA, mostA, noneBalanced, checkBeforeStart, balanceCheck, Balancing}
 use Rattle.rules.specs.Compare.{differences, comparingOf, compared, readFor, comparingJobs, comparing}
-use Rattle.rules.specs.Theorems.{Sound, Sides, stateAt, startSides}
-use Rattle.rules.specs.Emptied.{WindowAllows, NeverTen, BothHold, NoneEmptied, CallsLeave, pair, pairBytes, EmptiedWorked}
+use Rattle.rules.specs.Theorems.{Sound, Sides, stateAt, Lawful}
+use Rattle.rules.specs.Emptied.{WindowAllows, NeverWindow, BothHold, NoneEmptied, CallsLeave, pair, pairBytes, EmptiedWorked}
 use Rattle.rules.proofs.Tests.{or-no, and-yes}
 use Rattle.rules.proofs.Verdicts.{passes-both, measure-verdict}
-use Rattle.rules.proofs.SoundJob.{ok7, ok-before, sound}
+use Rattle.rules.proofs.SoundJob.{ratio-pass, goal-pass, sound}
 use Rattle.rules.proofs.Sizes.{sizes-add}
 use Rattle.rules.proofs.Refusals.{never-read}
-use Rattle.rules.proofs.Proved.{accepted, pass-holds, given-sides, each-start, run-holds, answers}
-use Rattle.rules.proofs.Reports.{last-sides}
+use Rattle.rules.proofs.Proved.{accepted, pass-holds-by, given-sides, run-holds-by, tries-lawful, answers}
 use Rattle.rules.proofs.Lending.{lent-enough, read-same}
 use Rattle.rules.proofs.Writes.{few-numbers, write-holds}
-use Rattle.rules.proofs.Balancing.{balance-holds, nine-exactly, balance-answers}
+use Rattle.rules.proofs.Balancing.{balance-holds, before-parts, start-passed, balance-answers}
 
 -- ---- what 10 says of the window
 
@@ -60,8 +59,8 @@ window-allows job h =
 
 -- ---- who never gives it
 
-pub never-ten : (most : Limits) → NeverTen most
-never-ten most = record {
+pub never-window : (most : Limits) → NeverWindow most
+never-window most = record {
   measure = λ job e. omega (arith, few-numbers most job true, sym (ap (λ (v : Verdict). v .number) (measure-verdict most job)) ∙ e);
   read = read;
   write = λ job out e. omega (arith, write-holds most job out .numbers, e);
@@ -108,27 +107,23 @@ module _ (job : Job) (filled : mayEmpty job ≡ false) where
       }
 
   module _ (most : Limits) (s : Sound most job) (wide : 1 ≤ job .k) where
-    within-pass : (sides : List ℕ) → Sides job sides → balanced job (sizeA job sides) ≡ true → (k : ℕ) → BothHold job (stateAt job sides (tries job sides) k .sides)
-    within-pass sides w b k =
-        let p = pass-holds most job s sides w in
-        both-hold (stateAt job sides (tries job sides) k .sides) (p .moves .sizes k) (p .balance b k)
+    within-pass : (sides ms : List ℕ) → Sides job sides → Lawful job sides ms → balanced job (sizeA job sides) ≡ true → (k : ℕ) → BothHold job (stateAt job sides ms k .sides)
+    within-pass sides ms w l b k =
+        let p = pass-holds-by most job s sides ms w l in
+        both-hold (stateAt job sides ms k .sides) (p .moves .sizes k) (p .balance b k)
 
     pub none-emptied : NoneEmptied job
     none-emptied = record {
       split = λ sides bin b. both-hold sides (sizes-add job sides bin) b;
       met = within-pass;
-      returned = λ sides w b. unfold passOf in within-pass sides w b (keeps (recipes job) (start job sides) (tries job sides));
-      within = λ b i k h.
-          let r = run-holds most job s in
-          let w : Sides job (startSides job i) = each-start most job s (Sides job) (given-sides most job s) (λ sides v. pass-holds most job s sides v .moves .next) i in
-          both-hold _ (pass-holds most job s (startSides job i) w .moves .sizes k) (r .balance b i k h);
-      ran = λ b.
-          let r = run-holds most job s in
-          let w = last-sides most job s in
-          both-hold _ (sizes-add job _ (w .binary)) (ap (balanced job) (sym (r .size)) ∙ r .returns b);
-      balancing = λ b i.
-          let e : take i (balanceMoves job) ≡ [] = ap (take i) (balance-holds most job s wide .still b .0) ∙ take-all i [] (omega arith) in
-          subst (λ (ms : List ℕ). BothHold job (after (start job (job .sides)) ms .sides)) (sym e) (unfold stepsBy in both-hold (job .sides) (sizes-add job (job .sides) (s .binary)) b);
+      returned = λ sides ms w l b. unfold passOf in within-pass sides ms w l b (keeps (recipes job) (start job sides) ms);
+      within = λ try l b i k h.
+          let r = run-holds-by most job s try l in
+          both-hold _ (r .held i .moves .sizes k) (r .balance b i k h);
+      ran = λ try l b.
+          let r = run-holds-by most job s try l in
+          both-hold _ (sizes-add job _ (r .next .binary)) (ap (balanced job) (sym (r .size)) ∙ r .returns b);
+      balancing = λ b. let h = balance-holds most job s wide in both-hold (balanceSides job) (sizes-add job (balanceSides job) (h .sides .binary)) (h .balances b);
     }
 
 -- ---- after a call that is not refused
@@ -141,32 +136,35 @@ check-empties most job lent ok =
 
 -- what the balancing's lets through
 balance-empties : (most : Limits) (job : Job) (lent : Bool) → balanceCheck most job lent .number ≡ 0 → NoneEmptied job × BothHold job (balanceSides job)
-unfolding balanceCheck check1to8and10
 balance-empties most job lent ok =
-    let a = passes-both (check1to8and10 most job lent) (refuseIf (noneBalanced job) 9 0) ok in
-    let b = passes-both (check1to6 most job lent) (check7and8and10 most job) (a .0) in
-    let c = ok-before most job (b .1) in
-    let s = sound most job lent (b .0) in
-    let wide = ok7 most job (c .0) .1 .0 in
-    let none = none-emptied job (c .2) most s wide in
-    (none, none .split (balanceSides job) (balance-holds most job s wide .sides .binary) (nine-exactly most job lent .possible ok .1))
+    let a = start-passed most job lent ok in
+    let b = before-parts most job lent (a .0) in
+    let c = goal-pass most job (b .1) in
+    let none = none-emptied job (c .2) most (sound most job lent (b .0)) (ratio-pass most job (c .0) .1 .0) in
+    (none, none .balancing (a .1))
 
 pub calls-leave : (most : Limits) (job : Job) (l : Lent) → CallsLeave most job l
 calls-leave most job l = record {
-  start = λ z. let n = through z in n .0 .split (job .sides) (accepted most job (fits job l) z .sound .binary) (n .1);
+  start = λ z. let n = through z in n .0 .split (job .sides) (given z .binary) (n .1);
   pass = λ z.
       let n = through z in
       rw (ap (λ (e : Ended Figures). e .sides) (answers most job l .passDone z))
-      (n .0 .returned (job .sides) (given-sides most job (accepted most job (fits job l) z .sound)) (n .1));
-  run = λ z. let n = through z in rw (ap (λ (e : Ended RunFigures). e .sides) (answers most job l .runDone z)) (n .0 .ran (n .1));
+      (n .0 .returned (job .sides) (tries job (job .sides)) (given z) (tries-lawful most job (sound-of z) (job .sides) (given z)) (n .1));
+  run = λ z. let n = through z in rw (ap (λ (e : Ended RunFigures). e .sides) (answers most job l .runDone z)) (n .0 .ran (tries job) (tries-lawful most job (sound-of z)) (n .1));
   balancing = λ scratch z.
       rw (ap (λ (b : Balancing). b .sides) (balance-answers most job scratch .made z)) (balance-empties most job (leb (scratchFor job) (length scratch)) z .1);
   met = λ z. through z .0;
   metBalancing = λ scratch z. balance-empties most job (leb (scratchFor job) (length scratch)) z .0;
 }
   where
-    through : check most job (fits job l) .number ≡ 0 → NoneEmptied job × (balanced job (sizeA job (job .sides)) ≡ true)
+    through : checkLent most job l .number ≡ 0 → NoneEmptied job × (balanced job (sizeA job (job .sides)) ≡ true)
     through = check-empties most job (fits job l)
+
+    sound-of : checkLent most job l .number ≡ 0 → Sound most job
+    sound-of z = accepted most job (fits job l) z .sound
+
+    given : checkLent most job l .number ≡ 0 → Sides job (job .sides)
+    given z = given-sides most job (sound-of z)
 
 -- ---- m5 and the edges
 
@@ -176,30 +174,30 @@ pair-stored = refl
 
 module _ (most : Limits) (f : 2 ≤ most .files) (r : 1 ≤ most .recipes) (p : 2 ≤ most .pins) (d : 2 ≤ most .den) where
   pair-read : readVerdict most pairBytes (allRoom most) ≡ done
-  unfolding upTo lowest padded contents valueBytes weigh blockCheck headerOf laidOut blockVerdict blocksVerdict jobOf layoutVerdict readVerdict check4 badPin check5 check6 check4to6
+  unfolding upTo lowest padded contents valueBytes weigh blockCheck headerOf laidOut furtherRows jobOf readVerdict badPin
   pair-read = read-same most (limitsOf 2 1 2 2) pairBytes (rw (le-ltb (most .files) 2 f, le-ltb (most .recipes) 1 r, le-ltb (most .pins) 2 p) refl) refl
 
   pair-checked : checkJob most pair ≡ record { number = 10; place = 0 }
-  unfolding total count largest upTo lowest files weight smax check1 check2 check3 check4 badPin check5 check6 check7 check8 check10 check4to6 check7and8and10 check7to10 check1to6 check
+  unfolding total count largest upTo lowest files weight smax badPin check
   pair-checked = rw (le-ltb (most .files) 2 f, le-ltb (most .recipes) 1 r, le-ltb (most .pins) 2 p, le-ltb (most .den) 2 d) refl
 
   pair-balanced : balanceCheck most pair true ≡ record { number = 10; place = 0 }
-  unfolding total count largest upTo lowest files weight smax check1 check2 check3 check4 badPin check5 check6 check7 check8 check10 check4to6 check7and8and10 check1to6 check1to8and10 balanceCheck
+  unfolding total count largest upTo lowest files weight smax badPin balanceCheck
   pair-balanced = rw (le-ltb (most .files) 2 f, le-ltb (most .recipes) 1 r, le-ltb (most .pins) 2 p, le-ltb (most .den) 2 d) refl
 
   -- whatever the program lends is long enough
-  pair-lent : check most pair (fits pair (allLent most pair)) ≡ record { number = 10; place = 0 }
+  pair-lent : checkLent most pair (allLent most pair) ≡ record { number = 10; place = 0 }
   pair-lent = rw (lent-enough most pair f r p) pair-checked
 
-  refused-ten : check most pair (fits pair (allLent most pair)) .number ≢ 0
-  refused-ten z = omega (arith, sym (ap (λ (v : Verdict). v .number) pair-lent) ∙ z)
+  pair-refused : checkLent most pair (allLent most pair) .number ≢ 0
+  pair-refused z = omega (arith, sym (ap (λ (v : Verdict). v .number) pair-lent) ∙ z)
 
   pair-prints : prints most pairBytes ≡ text "refused 10 0\n"
   unfolding prints report text digitsIn spaced line refusal
   pair-prints =
       rw (eq-eqb (readVerdict most pairBytes (allRoom most) .number) 0 (ap (λ (v : Verdict). v .number) pair-read), prints)
       (ap (λ (j : Job). report j (allRun most j .answer) (allRun most j .sides)) pair-stored
-      ∙ ap (λ (e : Ended RunFigures). report pair (e .answer) (e .sides)) (answers most pair (allLent most pair) .runRefused refused-ten)
+      ∙ ap (λ (e : Ended RunFigures). report pair (e .answer) (e .sides)) (answers most pair (allLent most pair) .runRefused pair-refused)
       ∙ ap (λ (v : Verdict). report pair (noRunFigures v) (pair .sides)) pair-lent)
 
   pair-traces : traces most pairBytes ≡ text "refused 10 0\n"
@@ -207,11 +205,11 @@ module _ (most : Limits) (f : 2 ≤ most .files) (r : 1 ≤ most .recipes) (p : 
   pair-traces =
       rw (eq-eqb (readVerdict most pairBytes (allRoom most) .number) 0 (ap (λ (v : Verdict). v .number) pair-read), traces)
       (ap (λ (j : Job). let e = passEnds most j (allLent most j) in trace j (e .answer) (e .sides) (listing (e .lent))) pair-stored
-      ∙ ap (λ (e : Ended Figures). trace pair (e .answer) (e .sides) (listing (e .lent))) (answers most pair (allLent most pair) .passRefused refused-ten)
+      ∙ ap (λ (e : Ended Figures). trace pair (e .answer) (e .sides) (listing (e .lent))) (answers most pair (allLent most pair) .passRefused pair-refused)
       ∙ ap (λ (v : Verdict). trace pair (noFigures v) (pair .sides) (listing (allLent most pair))) pair-lent)
 
 pub worked : EmptiedWorked
-unfolding total count those largest upTo lowest viewOf files views readIn recipes countOn isCut cut unreadFiles unreadRecipes weight smax sizeOn balanced check1 check2 check3 check4 badPin check5 check6 check7 check8 check10 check9 check4to6 check7and8and10 check7to10 check1to6 check measure tooLarge tooSmall leastA mostA noneBalanced check1to8and10 balanceCheck
+unfolding total count those largest upTo lowest viewOf files views readIn recipes countOn isCut cut unreadFiles unreadRecipes weight smax sizeOn balanced badPin check checkSound measure tooLarge tooSmall leastA mostA noneBalanced balanceCheck
 worked = record {
   m5·check = pair-checked;
   m5·balance = pair-balanced;
@@ -223,7 +221,7 @@ worked = record {
   missedA = refl;
   hitB = refl;
   missedB = refl;
-  before9 = refl;
-  was9 = refl;
-  after8 = refl;
+  beforeStart = refl;
+  unbalanced = refl;
+  afterFree = refl;
 }

@@ -14,9 +14,8 @@ use Rattle.rules.specs.declared.Header.{Header}
 use Rattle.rules.specs.declared.Figures.{Figures}
 use Rattle.rules.specs.declared.RunFigures.{RunFigures}
 use Rattle.rules.specs.Job.{Job, Limits, fileCount, recipeCount, pinCount, scratchFor, scratchNumbers, fits}
-use Rattle.rules.specs.Check.{done, refuseIf, badK, check2Of, check}
-use Rattle.rules.specs.Stored.{headerOf, blockCount, jobOf, roomy, layoutVerdict, readVerdict}
-use Rattle.rules.specs.Refusals.{Row, row, rows1and2, rows4to6, rows7to10, blockRows, furtherRows}
+use Rattle.rules.specs.Check.{done, refuseIf, _orElse_, Rows, _followedBy_, row, firstGiven, countRows, contentRows, restRows, badK, overMost, checkCounts, checkRest, check, checkLent}
+use Rattle.rules.specs.Stored.{headerOf, blockCount, blockRows, furtherRows, jobOf, roomy, underOne, wrongTotal, layoutRows, readVerdict}
 use Rattle.rules.specs.Pass.{pass, leaves}
 use Rattle.rules.specs.Run.{run, lastOf, figuresOf, runFiguresOf, Ended}
 use Rattle.rules.specs.Report.{report, allRoom, allLent, prints}
@@ -24,8 +23,8 @@ use Rattle.rules.specs.Trace.{listing, trace, traces}
 use Rattle.rules.specs.Theorems.{LendsEnough}
 use Rattle.rules.proofs.Tests.{and-both}
 use Rattle.rules.proofs.Verdicts.{never-chain}
-use Rattle.rules.proofs.Refusals.{answerOf, answer-append, lacks, row-go, none-given, never-given, rows-seven, further-lacks, rows-read}
-use Rattle.rules.proofs.SoundJob.{ok2-of, ok2}
+use Rattle.rules.proofs.Refusals.{lacks, never-given, further-lacks}
+use Rattle.rules.proofs.SoundJob.{few-of, counts-pass}
 use Rattle.rules.proofs.Reading.{read-holds}
 use Rattle.rules.proofs.Proved.{answers}
 
@@ -46,8 +45,8 @@ module _ (most : Limits) where
       let files : leb (h .files) (length (allRoom most .sizes)) ≡ true = has-room (h .files) (most .files) 0 few-files in
       and-both (and-both (and-both (and-both files files) files) (has-room (h .recipes + 1) (most .recipes + 1) 0 (omega arith))) (has-room (h .pins) (most .pins) 0 few-pins)
 
-  room-after : (h : Header) → check2Of most (h .files) (h .recipes) (h .pins) .number ≡ 0 → roomy h (allRoom most) ≡ true
-  room-after h ok = let r = ok2-of most (h .files) (h .recipes) (h .pins) ok in room-enough h (r .0) (r .1) (r .2)
+  room-after : (h : Header) → overMost most (h .files) (h .recipes) (h .pins) ≡ false → roomy h (allRoom most) ≡ true
+  room-after h ok = let r = few-of most (h .files) (h .recipes) (h .pins) ok in room-enough h (r .0) (r .1) (r .2)
 
   pub lent-enough : (job : Job) → fileCount job ≤ most .files → recipeCount job ≤ most .recipes → pinCount job ≤ most .pins → fits job (allLent most job) ≡ true
   lent-enough job few-files few-recipes few-pins =
@@ -60,56 +59,42 @@ module _ (most : Limits) where
       and-both (and-both (and-both (and-both (and-both (and-both (and-both gains files) gained) files) files) scans) scans)
       (has-room (scratchFor job) (scratchNumbers (most .pins) (most .files) (most .recipes)) 0 (omega arith))
 
-  -- 3 is no other row's number, and its own is given only after 2
+  -- 3 is no other row's number, and its own is given only after 2, where there is room
   module _ (input : List ℕ) where
-    abbrev before : List Row
-    before =
-        let h = headerOf input in
-        (row 20 (ltb (length input) 512) 0 ∷ blockRows h input 0) ++ (row 22 (badK (h .k)) 0 ∷ rows1and2 most (h .files) (h .recipes) (h .pins))
-
-    abbrev own : Row
-    own = row 3 (not (roomy (headerOf input) (allRoom most))) 0
-
-    abbrev later : List Row
-    later =
-        let h = headerOf input in
-        row 20 (not (eqb (length input) (512 * blockCount h))) 0 ∷ (furtherRows h input 1 (blockCount h - 1) ++ rows4to6 (jobOf input))
-
-    never-before : answerOf before .number ≢ 3
-    unfolding lacks
-    never-before = never-given 3 before refl (omega arith)
-
-    never-later : answerOf later .number ≢ 3
-    unfolding lacks
-    never-later =
-        let h : Header = headerOf input in
-        never-given 3 later (further-lacks h input 3 (omega arith) (omega arith) 1 (blockCount h - 1) (rows4to6 (jobOf input)) refl) (omega arith)
-
-    -- where 2 is not given there is room
-    own-passed : answerOf before .number ≡ 0 → own .given ≡ false
-    unfolding lacks
-    own-passed z = ap not (room-after (headerOf input) (ap (λ (b : Bool). refuseIf b 2 0 .number) (none-given before refl z 5)))
-
     read-never : readVerdict most input (allRoom most) .number ≢ 3
+    unfolding lacks readVerdict
     read-never =
-        rw (rows-read most input (allRoom most), answer-append before (own ∷ later))
-        (never-chain 3 (answerOf before) (answerOf (own ∷ later)) never-before (λ z. unfold answerOf in rw (row-go own (answerOf later) (own-passed z)) never-later))
+        let h : Header = headerOf input in
+        let short : Rows = row 20 (underOne input) 0 in
+        let wide : Rows = row 22 (badK (h .k)) 0 in
+        let counts : Rows = countRows most (h .files) (h .recipes) (h .pins) in
+        let later : Rows = row 20 (wrongTotal h input) 0 followedBy furtherRows h input 1 (blockCount h - 1) in
+        let left : firstGiven later .number ≢ 3
+        = never-given 3 later (further-lacks 3 (omega arith) (omega arith) h input 1 (blockCount h - 1)) (omega arith) in
+        let after : firstGiven counts .number ≡ 0 → firstGiven (row 3 (not (roomy h (allRoom most))) 0 followedBy later) .number ≢ 3
+        = λ z. rw (room-after h (unfold checkCounts in counts-pass most (h .files) (h .recipes) (h .pins) z .1)) left in
+        never-chain 3 (firstGiven (layoutRows most input (allRoom most))) (firstGiven (contentRows (jobOf input)))
+        (never-chain 3 (firstGiven short) _ (never-given 3 short refl (omega arith))
+        (λ _. never-chain 3 (firstGiven (blockRows h input 0)) _ (never-given 3 (blockRows h input 0) refl (omega arith))
+        (λ _. never-chain 3 (firstGiven wide) _ (never-given 3 wide refl (omega arith))
+        (λ _. never-chain 3 (firstGiven counts) _ (never-given 3 counts refl (omega arith)) after))))
+        (λ _. never-given 3 (contentRows (jobOf input)) refl (omega arith))
 
     pub lends-enough : LendsEnough most input
     lends-enough = record {
       room = room-after;
-      lent = λ job ok. let r = ok2 job most ok in lent-enough job (r .0) (r .1) (r .2);
+      lent = λ job ok. let r = few-of most (fileCount job) (recipeCount job) (pinCount job) ok in lent-enough job (r .0) (r .1) (r .2);
       read = read-never;
       made = λ ok.
           let r = read-holds most input (allRoom most) in
           let s = r .sound ok in
-          rw (lent-enough (jobOf input) (s .fewFiles) (s .fewRecipes) (s .fewPins), r .adds ok, rows-seven (jobOf input) most)
-          (unfold lacks in never-given 3 (rows7to10 most (jobOf input)) refl (omega arith));
+          rw (lent-enough (jobOf input) (s .fewFiles) (s .fewRecipes) (s .fewPins), r .adds ok)
+          (unfold checkRest lacks in never-given 3 (restRows most (jobOf input)) refl (omega arith));
     }
 
     -- what the programs print of a job that is read and accepted
     module _ (read : readVerdict most input (allRoom most) ≡ done) (ok : check most (jobOf input) true ≡ done) where
-      fitting : check most (jobOf input) (fits (jobOf input) (allLent most (jobOf input))) ≡ done
+      fitting : checkLent most (jobOf input) (allLent most (jobOf input)) ≡ done
       fitting =
           let s = read-holds most input (allRoom most) .sound (ap (λ (v : Verdict). v .number) read) in
           rw (lent-enough (jobOf input) (s .fewFiles) (s .fewRecipes) (s .fewPins)) ok
@@ -132,9 +117,9 @@ module _ (most : Limits) where
 
 -- reading looks at the limits for 2 and 3 alone: where 2 is not given by two limits, their programs read alike
 pub read-same : (most other : Limits) (input : List ℕ) → let h = headerOf input in
-    check2Of most (h .files) (h .recipes) (h .pins) ≡ done → check2Of other (h .files) (h .recipes) (h .pins) ≡ done
+    overMost most (h .files) (h .recipes) (h .pins) ≡ false → overMost other (h .files) (h .recipes) (h .pins) ≡ false
     → readVerdict most input (allRoom most) ≡ readVerdict other input (allRoom other)
-unfolding readVerdict layoutVerdict
+unfolding readVerdict
 read-same most other input a b =
     let h : Header = headerOf input in
-    rw (a, b, room-after most h (ap (λ (v : Verdict). v .number) a), room-after other h (ap (λ (v : Verdict). v .number) b)) refl
+    rw (a, b, room-after most h a, room-after other h b) refl

@@ -13,6 +13,7 @@ pub mod Blocks
 pub mod Locked
 pub mod OneMove
 pub mod GainKept
+pub mod Changes
 pub mod FourScans
 pub mod Sizes
 pub mod First

@@ -6,11 +6,11 @@ use borrow.Author.Tests.{le-ltb}
 use Rattle.rules.specs.Lists.{total, count, those, largest, upTo, lowest, bestUpTo, onto, padded, diff}
 use Rattle.rules.specs.Job.{Job, Limits, limitsOf, viewOf, files, views, readIn, recipes}
 use Rattle.rules.specs.Split.{countOn, isCut, cut, times, alone, together, gain, unreadFiles, unreadRecipes, weight, smax, sizeOn, balanced}
-use Rattle.rules.specs.Check.{done, check1, check2, check3, check4, badPin, check5, check6, check7, check8, check10, check9, check4to6, check7and8and10, check7to10, check1to6, check, checkJob}
+use Rattle.rules.specs.Check.{done, badPin, check, checkJob}
 use Rattle.rules.specs.Move.{moved, stepsBy, sizeAfter, legal, distAfter, challenge, firstBelow, choose, movesBy, moves, fileOn, kindsIn, kindsOf, scansFrom, scans, endsFrom, visits}
 use Rattle.rules.specs.Pass.{gainsWhen, cutsAfter, cutAt, keeps, standing, gainsAfter, passOf, leaves}
 use Rattle.rules.specs.Run.{passesBy, mostPasses, passes, lastOf, figuresOf, runFiguresOf}
-use Rattle.rules.specs.Stored.{weigh, blockCheck, headerOf, laidOut, blockVerdict, blocksVerdict, jobOf, layoutVerdict, readVerdict}
+use Rattle.rules.specs.Stored.{weigh, blockCheck, headerOf, laidOut, furtherRows, jobOf, readVerdict}
 use Rattle.rules.specs.Report.{text, digitsIn, spaced, line, refusal, firstLines, sizeLine, sidesLine, figureLines, report, allRoom, prints}
 use Rattle.rules.specs.Writing.{valueBytes, contents}
 use Rattle.rules.specs.Trace.{signed, gainWords, scanLines, moveLines, movesLines, passLines, trace, traces}
@@ -35,21 +35,21 @@ chain-stored = refl
 
 module _ (most : Limits) (f : 4 ≤ most .files) (r : 3 ≤ most .recipes) (p : 6 ≤ most .pins) (d : 2 ≤ most .den) where
   chain-read : readVerdict most chainBytes (allRoom most) ≡ done
-  unfolding upTo lowest padded contents valueBytes weigh blockCheck headerOf laidOut blockVerdict blocksVerdict jobOf layoutVerdict readVerdict check1 check2 check3 check4 badPin check5 check6 check7 check8 check10 check9 check4to6 check7and8and10 check7to10 check1to6 check
+  unfolding upTo lowest padded contents valueBytes weigh blockCheck headerOf laidOut furtherRows jobOf readVerdict badPin check
   chain-read = read-same most (limitsOf 4 3 6 2) chainBytes (rw (le-ltb (most .files) 4 f, le-ltb (most .recipes) 3 r, le-ltb (most .pins) 6 p) refl) refl
 
   chain-checked : checkJob most chain ≡ done
-  unfolding total count largest upTo lowest bestUpTo diff viewOf files views readIn recipes those countOn isCut cut times alone together gain weight smax sizeOn balanced check1 check2 check3 check4 badPin check5 check6 check7 check8 check10 check9 check4to6 check7and8and10 check7to10 check1to6 check
+  unfolding total count largest upTo lowest bestUpTo diff viewOf files views readIn recipes those countOn isCut cut times alone together gain weight smax sizeOn balanced badPin check
   chain-checked = rw (le-ltb (most .files) 4 f, le-ltb (most .recipes) 3 r, le-ltb (most .pins) 6 p, le-ltb (most .den) 2 d) refl
 
 -- ---- the archive of order 2
 
 archive-checked : (most : Limits) → 4 ≤ most .files → 2 ≤ most .recipes → 4 ≤ most .pins → 2 ≤ most .den → checkJob most archive ≡ record { number = 9; place = 0 }
-unfolding total count largest upTo lowest viewOf files views readIn recipes those weight smax sizeOn balanced check1 check2 check3 check4 badPin check5 check6 check7 check8 check10 check9 check4to6 check7and8and10 check7to10 check1to6 check
+unfolding total count largest upTo lowest viewOf files views readIn recipes those weight smax sizeOn balanced badPin check
 archive-checked m f r p d = rw (le-ltb (m .files) 4 f, le-ltb (m .recipes) 2 r, le-ltb (m .pins) 4 p, le-ltb (m .den) 2 d) refl
 
 pub marked : Marked
-unfolding total count largest upTo lowest bestUpTo diff viewOf files views readIn recipes those countOn isCut cut times alone together gain unreadFiles unreadRecipes weight smax sizeOn balanced moved stepsBy sizeAfter legal distAfter challenge firstBelow choose movesBy moves fileOn kindsIn kindsOf scansFrom scans endsFrom visits gainsWhen cutsAfter cutAt keeps standing gainsAfter passOf passesBy mostPasses passes lastOf figuresOf runFiguresOf weigh blockCheck headerOf laidOut blockVerdict blocksVerdict layoutVerdict readVerdict text digitsIn spaced line refusal firstLines sizeLine sidesLine figureLines report onto padded leaves signed gainWords scanLines moveLines movesLines passLines trace prints
+unfolding total count largest upTo lowest bestUpTo diff viewOf files views readIn recipes those countOn isCut cut times alone together gain unreadFiles unreadRecipes weight smax sizeOn balanced moved stepsBy sizeAfter legal distAfter challenge firstBelow choose movesBy moves fileOn kindsIn kindsOf scansFrom scans endsFrom visits gainsWhen cutsAfter cutAt keeps standing gainsAfter passOf passesBy mostPasses passes lastOf figuresOf runFiguresOf weigh blockCheck headerOf laidOut furtherRows readVerdict text digitsIn spaced line refusal firstLines sizeLine sidesLine figureLines report onto padded leaves signed gainWords scanLines moveLines movesLines passLines trace prints
 marked = record {
   m1·check = chain-checked;
   m1·passes = refl;

@@ -1,5 +1,5 @@
 -- The moves of a pass: each is what the choice picks, no file moves twice, and they end when nothing is left to pick. Assumes nothing.
-use mathlib.Core.Path.{_≡_, refl, sym, ap, _∙_}
+use mathlib.Core.Path.{_≡_, refl, sym, ap, subst, _∙_}
 use mathlib.Core.Logic.{_≢_}
 use Prim.Native.Nat.{ℕ, zero, suc, _≤_, _<_}
 use mathlib.Core.Bool.{false}
@@ -98,46 +98,59 @@ unfolding stepsBy
 after-long st [] l = l
 after-long st (f ∷ fs) l = after-long (moved st f) fs (moved-long f l)
 
--- a choice of free files below n: `see` gives the state that the choice's own s stands for
-pub record Picks {ℓ} (n : ℕ) {S : Type ℓ} (pick : S → Option ℕ) (step : S → ℕ → S) (see : S → State) : Type ℓ where
-  pub seen : (s : S) (f : ℕ) → see (step s f) ≡ moved (see s) f
-  pub good : (s : S) (f : ℕ) → pick s ≡ some f → (f < n) × (lockOf (see s) f ≡ 0)
+-- moves of files below n, each free where it is moved
+pub frees-each : {n : ℕ} (st : State) (ms : List ℕ) → StateLong n st → ((i : ℕ) → i < length ms → (getD ms i 0 < n) × (lockOf (after st (take i ms)) (getD ms i 0) ≡ 0)) → Frees st ms
+unfolding stepsBy
+frees-each st [] l each = stop
+frees-each st (f ∷ fs) l each =
+    let q = each 0 (omega arith) in
+    move {st = st} {f = f} (omega (arith, q .0, l .sides)) (omega (arith, q .0, l .locks)) (q .1) (frees-each (moved st f) fs (moved-long f l) (λ i h. each (suc i) (omega arith)))
 
-module _ {ℓ} {n : ℕ} {S : Type ℓ} {pick : S → Option ℕ} {step : S → ℕ → S} {see : S → State} (p : Picks n pick step see) where
-  step-long : (s : S) (f : ℕ) → StateLong n (see s) → StateLong n (see (step s f))
-  step-long s f l = rw (p .seen s f) (moved-long f l)
+-- a choice of free files below n, while `good` holds, which each step keeps: `see` gives the state that the choice's own s stands for
+pub record Picks {ℓ} (n : ℕ) {S : Type ℓ} (pick : S → Option ℕ) (step : S → ℕ → S) (see : S → State) (good : S → Type 0) : Type ℓ where
+  pub seen : (s : S) (f : ℕ) → see (step s f) ≡ moved (see s) f
+  pub long : (s : S) → good s → StateLong n (see s)
+  pub keeps : (s : S) (f : ℕ) → good s → pick s ≡ some f → good (step s f)
+  pub free : (s : S) (f : ℕ) → good s → pick s ≡ some f → (f < n) × (lockOf (see s) f ≡ 0)
+
+module _ {ℓ} {n : ℕ} {S : Type ℓ} {pick : S → Option ℕ} {step : S → ℕ → S} {see : S → State} {good : S → Type 0} (p : Picks n pick step see good) where
+  -- the state after moves is the one seen
+  steps-seen : (s : S) (ms : List ℕ) → see (stepsBy step s ms) ≡ after (see s) ms
+  unfolding stepsBy
+  steps-seen s [] = refl
+  steps-seen s (f ∷ ms) = steps-seen (step s f) ms ∙ ap (λ (x : State). after x ms) (p .seen s f)
+
+  -- what holds of each file picked holds of each move where it is made
+  pub moves-see : (fine : State → ℕ → Type 0) → ((s : S) (f : ℕ) → good s → pick s ≡ some f → fine (see s) f) → (k : ℕ) (s : S) → good s
+      → (i : ℕ) → i < length (movesBy pick step k s) → fine (after (see s) (take i (movesBy pick step k s))) (getD (movesBy pick step k s) i 0)
+  moves-see fine picked k s g i h =
+      let ms : List ℕ = movesBy pick step k s in
+      subst (λ (x : State). fine x (getD ms i 0)) (steps-seen s (take i ms))
+      (picked (stepsBy step s (take i ms)) (getD ms i 0) (moves-keep pick step good (p .keeps) k s g i) (moves-each pick step k s i h))
 
   -- each move is of a file then still free
-  pub moves-free : (k : ℕ) (s : S) → StateLong n (see s) → Frees (see s) (movesBy pick step k s)
-  moves-free zero s l = unfold movesBy in stop
-  moves-free (suc k) s l = go (pick s) refl (λ f. moves-free k (step s f))
-    where
-      go : (o : Option ℕ) → pick s ≡ o → ((f : ℕ) → StateLong n (see (step s f)) → Frees (see (step s f)) (movesBy pick step k (step s f))) → Frees (see s) (movesBy pick step (suc k) s)
-      go none e ih = rw (moves-stop pick step (suc k) s e) stop
-      go (some f) e ih =
-          let q = p .good s f e in
-          rw (moves-go pick step k s f e)
-          (move {st = see s} {f = f} (omega (arith, q .0, l .sides)) (omega (arith, q .0, l .locks)) (q .1) (rw (p .seen s f) at (ih f (step-long s f l))))
+  pub moves-free : (k : ℕ) (s : S) → good s → Frees (see s) (movesBy pick step k s)
+  moves-free k s g = frees-each (see s) (movesBy pick step k s) (p .long s g) (moves-see (λ st f. (f < n) × (lockOf st f ≡ 0)) (p .free) k s g)
 
   -- and with no fewer turns than free files, they end where nothing is picked
-  pub moves-end : (k : ℕ) (s : S) → StateLong n (see s) → freeCount (see s) ≤ k → pick (stepsBy step s (movesBy pick step k s)) ≡ none
-  moves-end zero s l h = go (pick s) refl
+  pub moves-end : (k : ℕ) (s : S) → good s → freeCount (see s) ≤ k → pick (stepsBy step s (movesBy pick step k s)) ≡ none
+  moves-end zero s g h = go (pick s) refl
     where
       go : (o : Option ℕ) → pick s ≡ o → pick (stepsBy step s (movesBy pick step zero s)) ≡ none
       go none e = rw (moves-stop pick step zero s e) (unfold stepsBy in e)
       go (some f) e =
-          let q = p .good s f e in
-          absurd (omega (arith, set-less (see s .locks) f (omega (arith, q .0, l .locks)) (q .1)))
-  moves-end (suc k) s l h = go (pick s) refl (λ f. moves-end k (step s f))
+          let q = p .free s f g e in
+          absurd (omega (arith, set-less (see s .locks) f (omega (arith, q .0, p .long s g .locks)) (q .1)))
+  moves-end (suc k) s g h = go (pick s) refl (λ f. moves-end k (step s f))
     where
       go : (o : Option ℕ) → pick s ≡ o
-          → ((f : ℕ) → StateLong n (see (step s f)) → freeCount (see (step s f)) ≤ k → pick (stepsBy step (step s f) (movesBy pick step k (step s f))) ≡ none)
+          → ((f : ℕ) → good (step s f) → freeCount (see (step s f)) ≤ k → pick (stepsBy step (step s f) (movesBy pick step k (step s f))) ≡ none)
           → pick (stepsBy step s (movesBy pick step (suc k) s)) ≡ none
       go none e ih = rw (moves-stop pick step (suc k) s e) (unfold stepsBy in e)
       go (some f) e ih =
-          let q = p .good s f e in
-          let less : freeCount (moved (see s) f) ≤ k = unfold moved in omega (arith, set-less (see s .locks) f (omega (arith, q .0, l .locks)) (q .1)) in
-          rw (moves-go pick step k s f e) (unfold stepsBy in ih f (step-long s f l) (rw (p .seen s f) less))
+          let q = p .free s f g e in
+          let less : freeCount (moved (see s) f) ≤ k = unfold moved in omega (arith, set-less (see s .locks) f (omega (arith, q .0, p .long s g .locks)) (q .1)) in
+          rw (moves-go pick step k s f e) (unfold stepsBy in ih f (p .keeps s f g e) (rw (p .seen s f) less))
 
 -- no file moves twice
 locked-out : {st : State} {fs : List ℕ} (x : ℕ) → 1 ≤ lockOf st x → Frees st fs → times x fs ≡ 0
@@ -174,30 +187,27 @@ frees-few {st} l = omega (arith, free-count l, count-le (λ l. eqb l 0) (st .loc
 
 -- ---- one pass of document 01
 
-module _ (job : Job) (st : State) (long : StateLong (fileCount job) st) where
-  picks : Picks (fileCount job) (choose job) moved (λ s. s)
+module _ (job : Job) where
+  picks : Picks (fileCount job) (choose job) moved (λ s. s) (StateLong (fileCount job))
   unfolding legal
   picks = record {
     seen = λ s f. refl;
-    good = λ s f e.
+    long = λ s l. l;
+    keeps = λ s f l e. moved-long f l;
+    free = λ s f l e.
         let c = chosen job s f e in
         (c .below, eqb-true (lockOf s f) 0 (and-yes (free s f) (balanced job (sizeAfter job s f)) (c .lawful) .0));
   }
 
-  pub pass-free : Frees st (moves job st)
-  unfolding moves
-  pass-free = moves-free picks (fileCount job) st long
+  module _ (st : State) (long : StateLong (fileCount job) st) where
+    -- each move is the choice there: legal, of greatest gain, then nearest, then lowest
+    pub pass-each : (i : ℕ) → i < length (moves job st) → Chosen job (after st (take i (moves job st))) (getD (moves job st) i 0)
+    unfolding moves
+    pass-each = moves-see picks (Chosen job) (λ s f l e. chosen job s f e) (fileCount job) st long
 
-  -- each move is the choice there: legal, of greatest gain, then nearest, then lowest
-  pub pass-each : (i : ℕ) → i < length (moves job st) → Chosen job (after st (take i (moves job st))) (getD (moves job st) i 0)
-  unfolding moves
-  pass-each i h =
-      chosen job (after st (take i (movesBy (choose job) moved (fileCount job) st))) (getD (movesBy (choose job) moved (fileCount job) st) i 0)
-      (moves-each (choose job) moved (fileCount job) st i h)
-
-  -- C turns are enough: at the end no legal move exists
-  pub pass-end : (g : ℕ) → g < fileCount job → legal job (after st (moves job st)) g ≡ false
-  unfolding moves
-  pass-end =
-      nothing-left job (after st (movesBy (choose job) moved (fileCount job) st))
-      (moves-end picks (fileCount job) st long (omega (arith, count-le (λ l. eqb l 0) (st .locks), long .locks)))
+    -- C turns are enough: at the end no legal move exists
+    pub pass-end : (g : ℕ) → g < fileCount job → legal job (after st (moves job st)) g ≡ false
+    unfolding moves
+    pass-end =
+        nothing-left job (after st (movesBy (choose job) moved (fileCount job) st))
+        (moves-end picks (fileCount job) st long (omega (arith, count-le (λ l. eqb l 0) (st .locks), long .locks)))

@@ -7,7 +7,7 @@ use Rattle.rules.specs.Job.{Job, Limits, files, views, readIn, recipes, 
 use Rattle.rules.specs.Split.{unreadFiles, unreadRecipes, weight, smax, sizeOn, sizeA, balanced}
 use Rattle.rules.specs.Check.{done, check, checkJob}
 use Rattle.rules.specs.Move.{sizeAfter, legal, distAfter, choose, moves}
-use Rattle.rules.specs.Pass.{Pass, passOf, pass, leaves}
+use Rattle.rules.specs.Pass.{Pass, passOf, tries, pass, leaves}
 use Rattle.rules.specs.Writing.{withSides}
 use Rattle.rules.specs.Theorems.{Sound, Accepted, Sides}
 use Rattle.rules.proofs.Proved.{accepted}
@@ -29,9 +29,18 @@ module _ (job : Job) (sides : List ℕ) where
   unfolding balanced weight smax files
   same-balance a = refl
 
+  -- the pass that tries these moves, whoever chose them
+  pub same-passOf : (x ms : List ℕ) → passOf next x ms ≡ passOf job x ms
+  unfolding passOf sizeOn files views recipes readIn unreadFiles unreadRecipes
+  same-passOf x ms = refl
+
+  -- and those of edition 1
+  pub same-tries : tries next ≡ tries job
+  unfolding moves choose legal distAfter sizeAfter balanced weight smax sizeOn files views recipes readIn
+  same-tries = refl
+
   pub same-pass : (x : List ℕ) → pass next x ≡ pass job x
-  unfolding passOf moves choose legal distAfter sizeAfter balanced weight smax sizeOn files views recipes readIn unreadFiles unreadRecipes
-  same-pass x = refl
+  same-pass x = same-passOf x (tries next x) ∙ ap (λ (try : List ℕ → List ℕ). passOf job x (try x)) same-tries
 
   pub same-leaves : (l : Lent) (p : Pass) → leaves next l p ≡ leaves job l p
   unfolding leaves

@@ -13,7 +13,7 @@ use borrow.Author.Tests.{eq-eqb, ne-eqb}
 use Rattle.rules.specs.declared.Header.{Header}
 use Rattle.rules.specs.Lists.{upTo, allBelow}
 use Rattle.rules.specs.Job.{Job, Limits, TwoByte, fileCount, recipeCount, pinCount}
-use Rattle.rules.specs.Check.{refuseIf, _orElse_, badK, check1Of, check2Of, check1, check2, check3, check4to6, check1to6, check}
+use Rattle.rules.specs.Check.{refuseIf, _orElse_, badK, checkCounts, checkLists, checkLengths, checkContents, checkSound}
 use Rattle.rules.specs.Stored.{blockAt, value, headerOf, boundsAt, pinsAt, blockVerdict, jobOf, Room, roomy, layoutVerdict, readVerdict, Reading, reading}
 use Rattle.rules.specs.Writing.{checkWritten}
 use Rattle.rules.specs.Theorems.{ReadHolds, Written}
@@ -22,7 +22,7 @@ use Rattle.rules.proofs.Tests.{not-no}
 use Rattle.rules.proofs.Count.{length-tabled, getD-tabled}
 use Rattle.rules.proofs.Entries.{below-any, onto-length, onto-in, onto-stays}
 use Rattle.rules.proofs.SoundJob.{good-k, fine-k, sound}
-use Rattle.rules.proofs.Refusals.{read-rows}
+use Rattle.rules.proofs.Refusals.{rest-chain, read-rows}
 
 -- ---- its lists are as long as the header says
 
@@ -53,42 +53,41 @@ module _ (bytes : List ℕ) where
 -- ---- a job that is read passes 1 to 6
 
 module _ (most : Limits) (bytes : List ℕ) (room : Room) (ok : readVerdict most bytes room .number ≡ 0) where
-  read-counts : (check1Of (headerOf bytes .files) (headerOf bytes .recipes) .number ≡ 0)
-      × (check2Of most (headerOf bytes .files) (headerOf bytes .recipes) (headerOf bytes .pins) .number ≡ 0)
-      × (check4to6 (jobOf bytes) .number ≡ 0)
+  read-counts : (checkCounts most (headerOf bytes .files) (headerOf bytes .recipes) (headerOf bytes .pins) .number ≡ 0)
+      × (checkContents (jobOf bytes) .number ≡ 0)
       × (roomy (headerOf bytes) room ≡ true)
       × ((1 ≤ headerOf bytes .k) × (headerOf bytes .k ≤ 4))
-  unfolding readVerdict layoutVerdict
+  unfolding readVerdict layoutVerdict blockVerdict checkCounts checkContents
   read-counts =
       let h : Header = headerOf bytes in
-      let a = passes-both (layoutVerdict most bytes room) (check4to6 (jobOf bytes)) ok in
+      let a = passes-both (layoutVerdict most bytes room) (checkContents (jobOf bytes)) ok in
       let b = passes-both (refuseIf (ltb (length bytes) 512) 20 0) _ (a .0) in
       let c = passes-both (blockVerdict h bytes 0) _ (b .1) in
       let w = passes-both (refuseIf (badK (h .k)) 22 0) _ (c .1) in
-      let d = passes-both (check1Of (h .files) (h .recipes)) _ (w .1) in
-      let e = passes-both (check2Of most (h .files) (h .recipes) (h .pins)) _ (d .1) in
-      let f = passes-both (refuseIf (not (roomy h room)) 3 0) _ (e .1) in
-      (d .0, e .0, a .1, not-no (roomy h room) (not-refused (not (roomy h room)) 2 0 (f .0)), good-k (h .k) 21 (w .0))
+      let d = passes-both (checkCounts most (h .files) (h .recipes) (h .pins)) _ (w .1) in
+      let f = passes-both (refuseIf (not (roomy h room)) 3 0) _ (d .1) in
+      (d .0, a .1, not-no (roomy h room) (not-refused (not (roomy h room)) 2 0 (f .0)), good-k (h .k) 21 (w .0))
 
-  pub read-passes : check1to6 most (jobOf bytes) true .number ≡ 0
-  unfolding check1to6 check1 check2 check3
+  pub read-passes : checkSound most (jobOf bytes) true .number ≡ 0
+  unfolding checkSound checkLengths checkCounts checkLists checkContents
   read-passes =
       let job : Job = jobOf bytes in
       let r = read-counts in
       let long : (not (eqb (length (job .sides)) (fileCount job) && eqb (length (job .marks)) (fileCount job) && true)) ≡ false
       = rw (eq-eqb (length (job .sides)) (fileCount job) (read-sides bytes ∙ sym (read-files bytes)), eq-eqb (length (job .marks)) (fileCount job) (read-marks bytes ∙ sym (read-files bytes))) refl in
-      both-pass (check1 job) (check2 most job orElse check3 job true orElse check4to6 job) (rw (read-files bytes, read-recipes bytes) (r .0))
-      (both-pass (check2 most job) (check3 job true orElse check4to6 job) (rw (read-files bytes, read-recipes bytes, read-pins bytes) (r .1))
-      (both-pass (check3 job true) (check4to6 job) (ap (λ (b : Bool). refuseIf b 3 0 .number) long) (r .2)))
+      let counts : checkCounts most (fileCount job) (recipeCount job) (pinCount job) .number ≡ 0 = rw (read-files bytes, read-recipes bytes, read-pins bytes) (r .0) in
+      let lists : checkLists job true .number ≡ 0 = ap (λ (b : Bool). refuseIf b 3 0 .number) long in
+      both-pass (checkLengths most job true) (checkContents job) (both-pass (checkCounts most (fileCount job) (recipeCount job) (pinCount job)) (checkLists job true) counts lists) (r .1)
 
   read-wide : (1 ≤ jobOf bytes .k) × (jobOf bytes .k ≤ 4)
   unfolding jobOf
-  read-wide = read-counts .4
+  read-wide = read-counts .3
 
   -- so it can be written
   pub read-writes : checkWritten most (jobOf bytes) true .number ≡ 0
+  unfolding checkWritten checkSound
   read-writes =
-      both-pass (check1to6 most (jobOf bytes) true) (refuseIf (badK (jobOf bytes .k)) 7 0) read-passes
+      both-pass (checkSound most (jobOf bytes) true) (refuseIf (badK (jobOf bytes .k)) 7 0) read-passes
       (ap (λ (b : Bool). refuseIf b 7 0 .number) (fine-k (jobOf bytes .k) read-wide))
 
 -- ---- bytes make two-byte numbers
@@ -128,18 +127,18 @@ module _ (bytes : List ℕ) (small : allBelow 256 bytes) where
       go false = omega arith
 
 pub read-holds : (most : Limits) (bytes : List ℕ) (room : Room) → ReadHolds most bytes room
-unfolding reading check
+unfolding reading
 read-holds most bytes room = record {
   table = read-rows most bytes room;
   refused = λ n. rw (ne-eqb (readVerdict most bytes room .number) 0 n, reading) refl;
   reads = λ e. rw (eq-eqb (readVerdict most bytes room .number) 0 e, reading) refl;
-  enough = λ e. read-counts most bytes room e .3;
+  enough = λ e. read-counts most bytes room e .2;
   files = read-files bytes;
   recipes = read-recipes bytes;
   pins = read-pins bytes;
   wide = read-wide most bytes room;
   sound = λ e. sound most (jobOf bytes) true (read-passes most bytes room e);
-  adds = λ e. sym (chain-go refl (read-passes most bytes room e) refl);
+  adds = λ e. rest-chain most (jobOf bytes) true ∙ sym (chain-go refl (read-passes most bytes room e) refl);
   small = read-small bytes;
 }
 

@@ -2,13 +2,12 @@
 -- Assumes nothing.
 use mathlib.Core.Path.{_≡_, refl, sym, ap, ap₂, _∙_}
 use mathlib.Core.Logic.{_≢_}
-use Prim.Native.Nat.{ℕ, suc, _-_, _≤_, _<_}
+use Prim.Native.Nat.{ℕ, _-_, _≤_, _<_}
 use mathlib.Core.Bool.{Bool, true, false, not, _&&_}
 use mathlib.Core.List.{List, [], _∷_}
 use native.Mathlib.Decide.{ℕ-discrete}
 use native.Mathlib.Omega.{arith}
 use lib.ListN.{length, getD}
-use lib.Seq.{take-all}
 use lib.Dec.{leb, ltb, eqb}
 use borrow.Author.Tests.{leb-true, leb-false, le-ltb, le-leb, eq-eqb, ne-eqb}
 use Rattle.rules.specs.declared.Verdict.{Verdict}
@@ -18,7 +17,7 @@ use Rattle.rules.specs.declared.Printed.{Printed}
 use Rattle.rules.specs.Lists.{someBelow, onto}
 use Rattle.rules.specs.Job.{Job, Limits, fileCount, files, Lent, fits}
 use Rattle.rules.specs.Split.{sizeOn}
-use Rattle.rules.specs.Check.{done, refuseIf, _orElse_, check}
+use Rattle.rules.specs.Check.{done, refuseIf, _orElse_, checkLent}
 use Rattle.rules.specs.Pass.{Pass, tries, pass, leaves}
 use Rattle.rules.specs.Run.{noFigures, noRunFigures, run, lastOf, passEnds, runEnds, figuresOf, runFiguresOf}
 use Rattle.rules.specs.Report.{sizeLine, figureLines, tells, report, refusal, ofFiles, splitVerdict, printVerdict, Printing, printed, printing, intoRoom, telling, reporting, sidesLine}
@@ -26,7 +25,6 @@ use Rattle.rules.specs.Trace.{Listing, listing, passLines, trace, badEnd
 use Rattle.rules.specs.Theorems.{Binary, Sides, Sound}
 use Rattle.rules.proofs.Searches.{some-none}
 use Rattle.rules.proofs.Entries.{onto-least}
-use Rattle.rules.proofs.Runs.{last-at}
 use Rattle.rules.proofs.Proved.{accepted, answers, left, pass-holds, given-sides, run-holds}
 use Rattle.rules.proofs.Told.{pass-told}
 
@@ -125,21 +123,16 @@ made-told most job r sides room e few m w =
     telling-made most job sides (r .figures .verdict) true (report (ofFiles (job .sizes) (job .marks)) r sides) room e few m w refl ∙ ap (λ (b : List ℕ). intoRoom b room) (report-sizes job r sides)
 
 pub last-sides : (most : Limits) (job : Job) → Sound most job → Sides job (lastOf (pass job (job .sides)) (run job) .sidesAfter)
-last-sides most job s =
-    let holds = run-holds most job s in
-    let first = pass job (job .sides) in
-    let k = length (run job) - 1 in
-    let all = take-all (suc k) (run job) (omega (arith, holds .some)) in
-    rw (ap (lastOf first) (sym all) ∙ last-at first first (run job) k (omega (arith, holds .some))) (holds .sides first k (omega (arith, holds .some)))
+last-sides most job s = run-holds most job s .next
 
 pub run-told : (most : Limits) (job : Job) (l : Lent) (room : List ℕ) →
     let e = runEnds most job l in reporting most (job .sizes) (job .marks) (e .answer) (e .sides) room ≡ intoRoom (report job (e .answer) (e .sides)) room
-run-told most job l room = elim (ℕ-discrete (check most job (fits job l) .number) 0) [
+run-told most job l room = elim (ℕ-discrete (checkLent most job l .number) 0) [
   | yes z ↦
       let s : Sound most job = accepted most job (fits job l) z .sound in
       rw (answers most job l .runDone z) (made-told most job (runFiguresOf done (pass job (job .sides)) (run job)) (lastOf (pass job (job .sides)) (run job) .sidesAfter) room (told job) (s .fewFiles) (s .marksLong) (last-sides most job s))
   | no n ↦
-      let none : RunFigures = noRunFigures (check most job (fits job l)) in
+      let none : RunFigures = noRunFigures (checkLent most job l) in
       rw (answers most job l .runRefused n)
       (reporting-refusal most (job .sizes) (job .marks) none (job .sides) room n ∙ ap (λ (b : List ℕ). intoRoom b room) (sym (report-refused job none (job .sides) n)))
 ]
@@ -170,11 +163,11 @@ made-traced most job f sides room l e few m w held =
     ∙ ap (λ (b : List ℕ). intoRoom b room) (trace-sizes job f sides l)
 
 pass-sides : (most : Limits) (job : Job) → Sound most job → Sides job (pass job (job .sides) .sidesAfter)
-pass-sides most job s = pass-holds most job s (job .sides) (given-sides most job s) .moves .next
+pass-sides most job s = pass-holds most job s (job .sides) (given-sides most job s) .any .moves .next
 
 -- the lists hold what is told, refused or not
 pub pass-held : (most : Limits) (job : Job) (l : Lent) → length (l .gains) ≡ fileCount job → let e = passEnds most job l in holdsPass (job .sizes) (e .answer) (listing (e .lent)) ≡ true
-pass-held most job l g = elim (ℕ-discrete (check most job (fits job l) .number) 0) [
+pass-held most job l g = elim (ℕ-discrete (checkLent most job l .number) 0) [
   | yes z ↦ rw (answers most job l .passDone z) (pass-told most job (accepted most job (fits job l) z .sound) l (answers most job l .fitting z))
   | no n ↦ rw (
     answers most job l .passRefused n,
@@ -190,25 +183,25 @@ pass-held most job l g = elim (ℕ-discrete (check most job (fits job l) .number
 
 -- and are as long as before
 pub pass-long : (most : Limits) (job : Job) (l : Lent) → let e = passEnds most job l in (length (e .sides) ≡ length (job .sides)) × (length (e .lent .recipes) ≡ length (l .recipes))
-pass-long most job l = elim (ℕ-discrete (check most job (fits job l) .number) 0) [
+pass-long most job l = elim (ℕ-discrete (checkLent most job l .number) 0) [
   | yes z ↦
       let s : Sound most job = accepted most job (fits job l) z .sound in
-      let m = pass-holds most job s (job .sides) (given-sides most job s) .moves in
-      rw (answers most job l .passDone z) (m .next .long ∙ sym (s .sidesLong), left most job s (job .sides) (tries job (job .sides)) l (answers most job l .fitting z) m .recipes .long)
+      let p = pass-holds most job s (job .sides) (given-sides most job s) in
+      rw (answers most job l .passDone z) (p .any .moves .next .long ∙ sym (s .sidesLong), left most job s (job .sides) (tries job (job .sides)) l (answers most job l .fitting z) (p .any .moves) (p .scans) .recipes .long)
   | no n ↦ rw (answers most job l .passRefused n) (refl, refl)
 ]
 
 -- what a pass leaves, told; and where it was made its lists hold it
 pub pass-traced : (most : Limits) (job : Job) (l : Lent) (room : List ℕ) →
     let e = passEnds most job l in tracing most (job .sizes) (job .marks) (e .answer) (e .sides) (listing (e .lent)) room ≡ intoRoom (trace job (e .answer) (e .sides) (listing (e .lent))) room
-pass-traced most job l room = elim (ℕ-discrete (check most job (fits job l) .number) 0) [
+pass-traced most job l room = elim (ℕ-discrete (checkLent most job l .number) 0) [
   | yes z ↦
       let s : Sound most job = accepted most job (fits job l) z .sound in
       let p : Pass = pass job (job .sides) in
       rw (answers most job l .passDone z)
       (made-traced most job (figuresOf done p (p ∷ [])) (p .sidesAfter) room (listing (leaves job l p)) (told p) (s .fewFiles) (s .marksLong) (pass-sides most job s) (pass-told most job s l (answers most job l .fitting z)))
   | no n ↦
-      let none : Figures = noFigures (check most job (fits job l)) in
+      let none : Figures = noFigures (checkLent most job l) in
       rw (answers most job l .passRefused n)
       (tracing-refusal most (job .sizes) (job .marks) none (job .sides) (listing l) room n ∙ ap (λ (b : List ℕ). intoRoom b room) (sym (trace-refused job none (job .sides) (listing l) n)))
 ]

@@ -9,80 +9,90 @@ use borrow.Author.Tests.{eq-eqb, ne-eqb}
 use Rattle.rules.specs.declared.Verdict.{Verdict}
 use Rattle.rules.specs.declared.RunFigures.{RunFigures}
 use Rattle.rules.specs.Lists.{allBelow}
-use Rattle.rules.specs.Job.{Job, Limits, TwoByte, fits}
+use Rattle.rules.specs.Job.{Job, Limits, TwoByte}
 use Rattle.rules.specs.Split.{cut, balanced}
-use Rattle.rules.specs.Check.{done, refuseIf, _orElse_, check1to6, check7to10, check, checkJob}
-use Rattle.rules.specs.Pass.{Pass, tries, pass}
-use Rattle.rules.specs.Run.{settles, mostPasses, passes, run, lastOf, figuresOf, runFiguresOf, Ended, leftBy}
+use Rattle.rules.specs.Check.{done, refuseIf, _orElse_, checkSound, checkRest, check, checkJob, checkLent}
+use Rattle.rules.specs.Pass.{Pass, passOf, tries, pass}
+use Rattle.rules.specs.Run.{settles, passBy, mostPasses, passes, run, lastOf, lastBy, figuresOf, runFiguresOf, Ended, leftBy}
 use Rattle.rules.specs.Stored.{jobOf, readVerdict}
 use Rattle.rules.specs.Report.{refusal, allRoom, allLent, allRun, prints}
 use Rattle.rules.specs.Writing.{headerFor, blocksOf, withSides, HandedOut, resettles}
-use Rattle.rules.specs.Theorems.{Sound, Accepted}
-use Rattle.rules.specs.RoundTrip.{BlocksHold, lastPass, resettled, ResettledHolds, ResettleRefuses, HandsBack}
-use Rattle.rules.proofs.Verdicts.{passes-both, both-pass, chain-go}
+use Rattle.rules.specs.Theorems.{Sound, Accepted, LawfulTry}
+use Rattle.rules.specs.RoundTrip.{BlocksHold, resettledBy, Sideless, ResettledHoldsBy, lastPass, resettled, ResettledHolds, ResettleRefuses, HandsBack}
+use Rattle.rules.proofs.Verdicts.{zero-of, passes-both, both-pass, chain-go}
+use Rattle.rules.proofs.Refusals.{rest-chain}
 use Rattle.rules.proofs.SoundJob.{sound}
-use Rattle.rules.proofs.Proved.{accepted, check-writes, answers, run-holds}
-use Rattle.rules.proofs.OtherSides.{same-recipes, same-size, same-pass, check-again}
+use Rattle.rules.proofs.Proved.{accepted, run-holds-by, tries-lawful, check-writes, answers}
+use Rattle.rules.proofs.OtherSides.{same-recipes, same-size, same-passOf, same-tries, check-again}
 use Rattle.rules.proofs.Reports.{last-sides}
 use Rattle.rules.proofs.Lending.{runText, room-enough, lent-enough, prints-run}
 use Rattle.rules.proofs.Reading.{read-holds}
-use Rattle.rules.proofs.Runs.{onePass, pass-from, settled-none, settled-stays, settled-only, Passes, passes-come, come-last, turns-some}
+use Rattle.rules.proofs.Runs.{pass-from, settled-none, settled-stays, settled-only, Passes, passes-come, come-last, turns-some}
 use Rattle.rules.proofs.RoundTrip.{blocks-hold, read-few, read-length}
 use Rattle.rules.proofs.CutOff.{resettles-no}
 
 -- ---- the sides after a run
 
-module _ (job : Job) (settled : settles (lastPass job) ≡ true) where
-  -- the last pass is the pass from some sides
-  last-from : (before : List ℕ) × (lastPass job ≡ pass job before)
-  unfolding passes
-  last-from =
-      let try : List ℕ → List ℕ = tries job in
-      let came : Passes job try (mostPasses job) (job .sides) (run job) = passes-come job try (mostPasses job) (job .sides) in
-      let last = come-last job try (λ x. List ℕ) (λ x y. y) came [] (onePass job try (job .sides)) (job .sides, [], refl) in
-      (last .0, last .2)
+module _ (try : Job → List ℕ → List ℕ) (job : Job) (same : Sideless try job) where
+  -- the last pass, and the job taken up again
+  abbrev lastOne : Pass
+  lastOne = lastBy job (try job)
 
-  settled-there : settles (pass job (last-from .0)) ≡ true
-  settled-there = ap settles (sym (last-from .1)) ∙ settled
+  abbrev again : Job
+  again = resettledBy try job
 
-  -- which it left as they were, so that the next is the same pass
-  next-same : pass (resettled job) (lastPass job .sidesAfter) ≡ lastPass job
-  next-same =
-      let sides : List ℕ = lastPass job .sidesAfter in
-      let there : sides ≡ last-from .0 = ap (λ (p : Pass). p .sidesAfter) (last-from .1) ∙ settled-stays job (tries job) (last-from .0) settled-there in
-      same-pass job sides sides ∙ ap (pass job) there ∙ sym (last-from .1)
+  module _ (settled : settles lastOne ≡ true) where
+    -- the last pass is the pass from some sides
+    last-from : (before : List ℕ) × (lastOne ≡ passBy job (try job) before)
+    unfolding passes
+    last-from =
+        let came : Passes job (try job) (mostPasses job) (job .sides) (passes job (try job)) = passes-come job (try job) (mostPasses job) (job .sides) in
+        let last = come-last job (try job) (λ x. List ℕ) (λ x y. y) came [] (passBy job (try job) (job .sides)) (job .sides, [], refl) in
+        (last .0, last .2)
 
-  run-again : run (resettled job) ≡ lastPass job ∷ []
-  unfolding passes
-  run-again =
-      let new : Job = resettled job in
-      settled-only new (tries new) (mostPasses new) (new .sides) (turns-some new) (ap settles next-same ∙ settled) ∙ ap (λ (p : Pass). p ∷ []) next-same
+    settled-there : settles (passBy job (try job) (last-from .0)) ≡ true
+    settled-there = ap settles (sym (last-from .1)) ∙ settled
 
-  none-kept : lastPass job .kept ≡ 0
-  none-kept = ap (λ (p : Pass). p .kept) (last-from .1) ∙ settled-none job (tries job) (last-from .0) settled-there
+    -- which it left as they were, so that the next is the same pass
+    next-same : passBy again (try again) (lastOne .sidesAfter) ≡ lastOne
+    next-same =
+        let sides : List ℕ = lastOne .sidesAfter in
+        let there : sides ≡ last-from .0 = ap (λ (p : Pass). p .sidesAfter) (last-from .1) ∙ settled-stays job (try job) (last-from .0) settled-there in
+        same-passOf job sides sides (try again sides) ∙ ap (λ (t : List ℕ → List ℕ). passOf job sides (t sides)) (same sides) ∙ ap (passBy job (try job)) there ∙ sym (last-from .1)
 
-  resettled-still : resettled (resettled job) ≡ resettled job
-  unfolding lastOf
-  resettled-still = ap (λ (ps : List Pass). withSides job (lastOf (pass (resettled job) (resettled job .sides)) ps .sidesAfter)) run-again
+    run-again : passes again (try again) ≡ lastOne ∷ []
+    unfolding passes
+    run-again =
+        settled-only again (try again) (mostPasses again) (again .sides) (turns-some again) (ap settles next-same ∙ settled) ∙ ap (λ (p : Pass). p ∷ []) next-same
+
+    none-kept : lastOne .kept ≡ 0
+    none-kept = ap (λ (p : Pass). p .kept) (last-from .1) ∙ settled-none job (try job) (last-from .0) settled-there
+
+    resettled-still : resettledBy try again ≡ again
+    unfolding lastOf
+    resettled-still = ap (λ (ps : List Pass). withSides job (lastOf (passBy again (try again) (again .sides)) ps .sidesAfter)) run-again
+
+  pub resettled-holds-by : (most : Limits) → LawfulTry job (try job) → checkJob most job .number ≡ 0 → ResettledHoldsBy try most job
+  resettled-holds-by most lawful ok =
+      let a : Accepted most job = accepted most job true ok in
+      let r = run-holds-by most job (a .sound) (try job) lawful in
+      let sides : List ℕ = lastOne .sidesAfter in
+      record {
+        accepted = check-again job sides most true ok (r .next) (ap (balanced job) (sym (r .size)) ∙ r .returns (a .balanced));
+        cut = pass-from again (try again) sides ∙ ap (cut sides) (same-recipes job sides) ∙ sym (r .cut);
+        size = same-size job sides 0 sides ∙ sym (r .size);
+        settled = λ e. (run-again e, none-kept e);
+        still = resettled-still;
+      }
 
 pub resettled-holds : (most : Limits) (job : Job) → checkJob most job .number ≡ 0 → ResettledHolds most job
-resettled-holds most job ok =
-    let a : Accepted most job = accepted most job true ok in
-    let r = run-holds most job (a .sound) in
-    let sides : List ℕ = lastPass job .sidesAfter in
-    record {
-      accepted = check-again job sides most true ok (last-sides most job (a .sound)) (ap (balanced job) (sym (r .size)) ∙ r .returns (a .balanced));
-      cut = pass-from (resettled job) (tries (resettled job)) sides ∙ ap (cut sides) (same-recipes job sides) ∙ sym (r .cut);
-      size = same-size job sides 0 sides ∙ sym (r .size);
-      settled = λ e. (run-again job e, none-kept job e);
-      still = λ e. resettled-still job e;
-    }
+resettled-holds most job ok = resettled-holds-by tries job (same-tries job) most (tries-lawful most job (accepted most job true ok .sound)) ok
 
 -- ---- the run of the program
 
 module _ (most : Limits) (job : Job) (s : Sound most job) where
   -- its lists are long enough, so that the check of the run is that of the job
-  run-check : check most job (fits job (allLent most job)) ≡ checkJob most job
+  run-check : checkLent most job (allLent most job) ≡ checkJob most job
   run-check = ap (check most job) (lent-enough most job (s .fewFiles) (s .fewRecipes) (s .fewPins))
 
   run-refused : checkJob most job .number ≢ 0 → allRun most job .answer .figures .verdict ≡ checkJob most job
@@ -123,18 +133,17 @@ module _ (most : Limits) (input : List ℕ) (read : readVerdict most input (allR
         (ap (λ (x : Ended RunFigures). record { output = blocksOf (withSides (jobOf input) (x .sides)); errors = [] }) e)
 
     -- the new job passes 1 to 10, and so its blocks are read and run
-    passes-nine : checkJob most new .number ≡ 0
-    passes-nine = ap (λ (v : Verdict). v .number) (resettled-holds most (jobOf input) ok .accepted)
+    new-passes : checkJob most new .number ≡ 0
+    new-passes = ap (λ (v : Verdict). v .number) (resettled-holds most (jobOf input) ok .accepted)
 
-    passes-six : check1to6 most new true .number ≡ 0
-    unfolding check
-    passes-six = passes-both (check1to6 most new true) (check7to10 most new) passes-nine .0
+    new-sound : checkSound most new true .number ≡ 0
+    new-sound = passes-both (checkSound most new true) (checkRest most new) (zero-of (rest-chain most new true) new-passes) .0
 
     new-blocks : BlocksHold most new
-    new-blocks = blocks-hold most new (check-writes most new true passes-nine)
+    new-blocks = blocks-hold most new (check-writes most new true new-passes)
 
     new-read : readVerdict most (blocksOf new) (allRoom most) ≡ done
-    new-read = new-blocks .verdict (allRoom most) ∙ ap (λ (b : Bool). refuseIf (not b) 3 0) (let s = sound most new true passes-six in room-enough most (headerFor new) (s .fewFiles) (s .fewRecipes) (s .fewPins))
+    new-read = new-blocks .verdict (allRoom most) ∙ ap (λ (b : Bool). refuseIf (not b) 3 0) (let s = sound most new true new-sound in room-enough most (headerFor new) (s .fewFiles) (s .fewRecipes) (s .fewPins))
 
     new-prints : prints most (blocksOf new) ≡ runText new
     new-prints =

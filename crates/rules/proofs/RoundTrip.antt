@@ -15,7 +15,7 @@ use Rattle.rules.specs.declared.Verdict.{Verdict}
 use Rattle.rules.specs.Lists.{upTo, inTurn, allBelow}
 use Rattle.rules.specs.Job.{Job, Limits, TwoByte, fileCount, recipeCount, pinCount, bound, pin}
 use Rattle.rules.specs.Split.{sizeOf}
-use Rattle.rules.specs.Check.{done, refuseIf, _orElse_, badK, check1Of, check2Of, check1, check2, check3, check4to6, check1to6}
+use Rattle.rules.specs.Check.{done, refuseIf, _orElse_, badK, checkCounts, checkLists, checkLengths, checkContents, checkSound}
 use Rattle.rules.specs.Stored.{blockCheck, word, blockAt, valueIn, value, headerOf, boundsAt, pinsAt, blockCount, kindOf, headerValues, valuesIn, laidOut, blockVerdict, blocksVerdict, jobOf, Room, roomy, layoutVerdict, readVerdict, written, reading}
 use Rattle.rules.specs.Writing.{blockOf, headerFor, headerFigures, fileValue, jobValue, jobValues, jobBlock, blocksOf, checkWritten}
 use Rattle.rules.specs.Theorems.{Sound}
@@ -26,8 +26,9 @@ use Rattle.rules.proofs.Count.{getD-tabled, length-tabled}
 use Rattle.rules.proofs.Entries.{below-any}
 use Rattle.rules.proofs.SoundJob.{good-k, fine-k, sound}
 use Rattle.rules.proofs.Blocks.{blocks-pass, blocks-each}
+use Rattle.rules.proofs.Refusals.{layout-chain, read-chain}
 use Rattle.rules.proofs.Reading.{read-files, read-recipes, read-pins, part-small, value-small, read-writes, read-holds}
-use Rattle.rules.proofs.Proved.{plain-later}
+use Rattle.rules.proofs.Proved.{plain-contents}
 use Rattle.rules.proofs.InTurn.{inTurn-length, inTurn-part, inTurn-is, inTurn-below}
 use Rattle.rules.proofs.Words.{block-length, block-check, block-value, block-below, block-laid, block-is, laid-out}
 
@@ -291,22 +292,22 @@ module _ (most : Limits) (job : Job) (s : Sound most job) where
 -- ---- reading them
 
 module _ (most : Limits) (job : Job) (ok : checkWritten most job true .number ≡ 0) where
-  abbrev six : check1to6 most job true .number ≡ 0
-  six = passes-both (check1to6 most job true) (refuseIf (badK (job .k)) 7 0) ok .0
+  parts : (checkSound most job true .number ≡ 0) × (refuseIf (badK (job .k)) 7 0 .number ≡ 0)
+  unfolding checkWritten checkSound
+  parts = passes-both (checkSound most job true) (refuseIf (badK (job .k)) 7 0) ok
 
   abbrev fine : Sound most job
-  fine = sound most job true six
+  fine = sound most job true (parts .0)
 
   wide : badK (job .k) ≡ false
-  wide = fine-k (job .k) (good-k (job .k) 6 (passes-both (check1to6 most job true) (refuseIf (badK (job .k)) 7 0) ok .1))
+  wide = fine-k (job .k) (good-k (job .k) 6 (parts .1))
 
   -- 1, 2 and 4 to 6, of the header's figures and of the job
-  parts-pass : (check1Of (fileCount job) (recipeCount job) .number ≡ 0) × (check2Of most (fileCount job) (recipeCount job) (pinCount job) .number ≡ 0) × (check4to6 job .number ≡ 0)
-  unfolding check1to6 check1 check2
+  parts-pass : (checkCounts most (fileCount job) (recipeCount job) (pinCount job) .number ≡ 0) × (checkContents job .number ≡ 0)
+  unfolding checkSound checkLengths checkCounts checkLists checkContents
   parts-pass =
-      let a = passes-both (check1 job) (check2 most job orElse check3 job true orElse check4to6 job) six in
-      let b = passes-both (check2 most job) (check3 job true orElse check4to6 job) (a .1) in
-      (a .0, b .0, passes-both (check3 job true) (check4to6 job) (b .1) .1)
+      let a = passes-both (checkLengths most job true) (checkContents job) (parts .0) in
+      (passes-both (checkCounts most (fileCount job) (recipeCount job) (pinCount job)) (checkLists job true) (a .0) .0, a .1)
 
   -- the length and the further blocks
   abbrev further : Verdict
@@ -324,19 +325,17 @@ module _ (most : Limits) (job : Job) (ok : checkWritten most job true .number �
 
   -- all before the room is looked at passes
   layout-is : (room : Room) → layoutVerdict most (blocksOf job) room ≡ (refuseIf (not (roomy (headerFor job) room)) 3 0 orElse further)
-  unfolding layoutVerdict
   layout-is room =
       let enough : ltb (length (blocksOf job)) 512 ≡ false = le-ltb (length (blocksOf job)) 512 (omega (arith, blocks-length job)) in
-      rw (stored-header job)
-      (sym (refuse-go 20 0 enough (chain-go refl (block-passes most job fine 0 (omega arith)) (refuse-go 22 0 wide (chain-go refl (parts-pass .0) (chain-go refl (parts-pass .1) refl))))))
+      layout-chain most (blocksOf job) room ∙ rw (stored-header job)
+      (sym (refuse-go 20 0 enough (chain-go refl (block-passes most job fine 0 (omega arith)) (refuse-go 22 0 wide (chain-go refl (parts-pass .0) refl)))))
 
   blocks-verdict : (room : Room) → readVerdict most (blocksOf job) room ≡ refuseIf (not (roomy (headerFor job) room)) 3 0
-  unfolding readVerdict
   blocks-verdict room =
-      ap₂ (λ (v w : Verdict). v orElse w) (layout-is room) (ap check4to6 (stored-job most job fine)) ∙ go (roomy (headerFor job) room)
+      read-chain most (blocksOf job) room ∙ ap₂ (λ (v w : Verdict). v orElse w) (layout-is room) (ap checkContents (stored-job most job fine)) ∙ go (roomy (headerFor job) room)
     where
-      go : (b : Bool) → ((refuseIf (not b) 3 0 orElse further) orElse check4to6 job) ≡ refuseIf (not b) 3 0
-      go true = sym (chain-go refl further-passes (sym (plain-later job (parts-pass .2))))
+      go : (b : Bool) → ((refuseIf (not b) 3 0 orElse further) orElse checkContents job) ≡ refuseIf (not b) 3 0
+      go true = sym (chain-go refl further-passes (sym (plain-contents job (parts-pass .1))))
       go false = refl
 
   pub blocks-read : (room : Room) → roomy (headerFor job) room ≡ true
@@ -439,16 +438,15 @@ read-few bytes small = rw (read-files bytes) (value-small bytes small 0 0)
 -- an accepted file: as long as its header makes it, and each block passes
 module _ (most : Limits) (bytes : List ℕ) (room : Room) (ok : readVerdict most bytes room .number ≡ 0) where
   read-blocks : (length bytes ≡ 512 * blockCount (headerOf bytes)) × ((b : ℕ) → b < blockCount (headerOf bytes) → blockVerdict (headerOf bytes) bytes b .number ≡ 0)
-  unfolding readVerdict layoutVerdict
+  unfolding readVerdict layoutVerdict blockVerdict blocksVerdict checkCounts checkContents
   read-blocks =
       let h : Header = headerOf bytes in
-      let a = passes-both (layoutVerdict most bytes room) (check4to6 (jobOf bytes)) ok in
+      let a = passes-both (layoutVerdict most bytes room) (checkContents (jobOf bytes)) ok in
       let b = passes-both (refuseIf (ltb (length bytes) 512) 20 0) _ (a .0) in
       let c = passes-both (blockVerdict h bytes 0) _ (b .1) in
       let w = passes-both (refuseIf (badK (h .k)) 22 0) _ (c .1) in
-      let d = passes-both (check1Of (h .files) (h .recipes)) _ (w .1) in
-      let e = passes-both (check2Of most (h .files) (h .recipes) (h .pins)) _ (d .1) in
-      let f = passes-both (refuseIf (not (roomy h room)) 3 0) _ (e .1) in
+      let d = passes-both (checkCounts most (h .files) (h .recipes) (h .pins)) _ (w .1) in
+      let f = passes-both (refuseIf (not (roomy h room)) 3 0) _ (d .1) in
       let g = passes-both (refuseIf (not (eqb (length bytes) (512 * blockCount h))) 20 0) (blocksVerdict h bytes 1 (blockCount h - 1)) (f .1) in (
         eqb-true (length bytes) (512 * blockCount h) (not-no _ (not-refused (not (eqb (length bytes) (512 * blockCount h))) 19 0 (g .0))),
         (λ i l. elim (ℕ-discrete i 0) [

@@ -14,7 +14,7 @@ use borrow.Author.Tests.{ltb-false, leb-false, eqb-true, eqb-false, ne-eqb, lt-l
 use Rattle.rules.specs.Lists.{total, count, upTo, lowest, someBelow}
 use Rattle.rules.specs.Job.{Job, Limits, fileCount, recipeCount, pinCount, bound, pin, view, views, readIn, recipes}
 use Rattle.rules.specs.Split.{sizeOf, times}
-use Rattle.rules.specs.Check.{refuseIf, refuseAt, _orElse_, short, repeatsIn, badPin, badFile, badRatio, badK, check1Of, check2Of, check1, check2, check3, check4, check5, check6, check7, check8, mayEmpty, check10, check4to6, check1to6, check7and8and10}
+use Rattle.rules.specs.Check.{refuseIf, refuseAt, _orElse_, short, repeatsIn, badPin, badFile, badRatio, badK, empty, overMost, checkCounts, checkLists, checkBounds, checkPins, checkFiles, checkRatio, checkFree, mayEmpty, checkWindow, checkLengths, checkContents, checkSound, checkGoal}
 use Rattle.rules.specs.Theorems.{Distinct, Sound}
 use Rattle.rules.proofs.Count.{total-map, total-upTo, getD-mapped, getD-tabled, length-tabled, times-once}
 use Rattle.rules.proofs.Tests.{or-no, and-yes, and-no, not-no}
@@ -32,44 +32,42 @@ at-most m l n e h i = elim (decLt i n) [
 -- ---- each check, passed
 
 -- 1 and 2, of a job's counts and of a stored job's header
-pub ok1-of : (c n : ℕ) → check1Of c n .number ≡ 0 → (1 ≤ c) × (1 ≤ n)
-ok1-of c n h =
-    let r = or-no (eqb c 0) (eqb n 0) (not-refused (eqb c 0 || eqb n 0) 0 0 h) in
+pub some-of : (c n : ℕ) → empty c n ≡ false → (1 ≤ c) × (1 ≤ n)
+some-of c n h =
+    let r = or-no (eqb c 0) (eqb n 0) h in
     let a : c ≢ 0 = eqb-false c 0 (r .0) in
     let b : n ≢ 0 = eqb-false n 0 (r .1) in
     (omega arith, omega arith)
 
-pub ok2-of : (most : Limits) (c n p : ℕ) → check2Of most c n p .number ≡ 0 → (c ≤ most .files) × (n ≤ most .recipes) × (p ≤ most .pins)
-ok2-of most c n p h =
+pub few-of : (most : Limits) (c n p : ℕ) → overMost most c n p ≡ false → (c ≤ most .files) × (n ≤ most .recipes) × (p ≤ most .pins)
+few-of most c n p h =
     let x = ltb (most .files) c in
     let y = ltb (most .recipes) n in
     let z = ltb (most .pins) p in
-    let r = or-no (x || y) z (not-refused (x || y || z) 1 0 h) in
+    let r = or-no (x || y) z h in
     let q = or-no x y (r .0) in
     (ltb-false (most .files) c (q .0), ltb-false (most .recipes) n (q .1), ltb-false (most .pins) p (r .1))
 
+pub counts-pass : (most : Limits) (c n p : ℕ) → checkCounts most c n p .number ≡ 0 → (empty c n ≡ false) × (overMost most c n p ≡ false)
+unfolding checkCounts
+counts-pass most c n p h =
+    let r = passes-both (refuseIf (empty c n) 1 0) (refuseIf (overMost most c n p) 2 0) h in
+    (not-refused (empty c n) 0 0 (r .0), not-refused (overMost most c n p) 1 0 (r .1))
+
 module _ (job : Job) where
-  pub ok1 : check1 job .number ≡ 0 → (1 ≤ fileCount job) × (1 ≤ recipeCount job)
-  unfolding check1
-  ok1 h = ok1-of (fileCount job) (recipeCount job) h
-
-  pub ok2 : (most : Limits) → check2 most job .number ≡ 0 → (fileCount job ≤ (most .files)) × (recipeCount job ≤ (most .recipes)) × (pinCount job ≤ (most .pins))
-  unfolding check2
-  ok2 most h = ok2-of most (fileCount job) (recipeCount job) (pinCount job) h
-
-  pub ok3 : (lent : Bool) → check3 job lent .number ≡ 0 → (length (job .sides) ≡ fileCount job) × (length (job .marks) ≡ fileCount job)
-  unfolding check3
-  ok3 lent h =
+  pub lists-pass : (lent : Bool) → checkLists job lent .number ≡ 0 → (length (job .sides) ≡ fileCount job) × (length (job .marks) ≡ fileCount job)
+  unfolding checkLists
+  lists-pass lent h =
       let a = eqb (length (job .sides)) (fileCount job) in
       let b = eqb (length (job .marks)) (fileCount job) in
       let r = and-yes (a && b) lent (not-no (a && b && lent) (not-refused (not (a && b && lent)) 2 0 h)) in
       let q = and-yes a b (r .0) in
       (eqb-true (length (job .sides)) (fileCount job) (q .0), eqb-true (length (job .marks)) (fileCount job) (q .1))
 
-  pub ok4 : check4 job .number ≡ 0
+  pub bounds-pass : checkBounds job .number ≡ 0
       → (bound job 0 ≡ 0) × ((j : ℕ) → j < recipeCount job → 2 + bound job j ≤ bound job (suc j)) × (bound job (recipeCount job) ≡ pinCount job)
-  unfolding check4
-  ok4 h =
+  unfolding checkBounds
+  bounds-pass h =
       let n = recipeCount job in
       let a = eqb (bound job 0) 0 in
       let c = eqb (bound job n) (pinCount job) in
@@ -80,11 +78,11 @@ module _ (job : Job) where
         eqb-true (bound job n) (pinCount job) (not-no c (not-refused (not c) 3 n (q .1))),
       )
 
-  ok5 : check5 job .number ≡ 0
+  pins-pass : checkPins job .number ≡ 0
       → ((k : ℕ) → k < pinCount job → pin job k < fileCount job)
       × ((j i k : ℕ) → j < recipeCount job → bound job j ≤ i → i < k → k < bound job (suc j) → k < pinCount job → pin job i ≢ pin job k)
-  unfolding check5 badPin
-  ok5 h =
+  unfolding checkPins badPin
+  pins-pass h =
       let fine : (k : ℕ) → k < pinCount job → badPin job k ≡ false
       = none-below (badPin job) (pinCount job) (not-refused (someBelow (badPin job) (pinCount job)) 4 (lowest (badPin job) (pinCount job)) h) in
       let parts : (k : ℕ) → k < pinCount job → (leb (fileCount job) (pin job k) ≡ false) × (someBelow (repeatsIn job k) (recipeCount job) ≡ false)
@@ -99,10 +97,10 @@ module _ (job : Job) where
             eqb-false (pin job i) (pin job k) t),
       )
 
-  ok6 : check6 job .number ≡ 0
+  files-pass : checkFiles job .number ≡ 0
       → (f : ℕ) → f < fileCount job → (1 ≤ sizeOf job f) × (getD (job .sides) f 0 ≤ 1) × (getD (job .marks) f 0 ≤ 2)
-  unfolding check6
-  ok6 h f l =
+  unfolding checkFiles
+  files-pass h f l =
       let a = eqb (sizeOf job f) 0 in
       let b = ltb 1 (getD (job .sides) f 0) in
       let c = ltb 2 (getD (job .marks) f 0) in
@@ -122,10 +120,10 @@ pub fine-k : (k : ℕ) → (1 ≤ k) × (k ≤ 4) → badK k ≡ false
 fine-k k w = rw (ne-eqb k 0 (λ e. omega (arith, w .0)), le-ltb 4 k (w .1)) refl
 
 -- 7, which no sound job need pass
-pub ok7 : (most : Limits) (job : Job) → check7 most job .number ≡ 0
+pub ratio-pass : (most : Limits) (job : Job) → checkRatio most job .number ≡ 0
     → ((1 ≤ job .num) × (job .num < job .den) × (job .den ≤ most .den)) × ((1 ≤ job .k) × (job .k ≤ 4))
-unfolding check7
-ok7 most job h =
+unfolding checkRatio
+ratio-pass most job h =
     let both = passes-both (refuseIf (badRatio most job) 7 0) (refuseIf (badK (job .k)) 7 0) h in
     let r = or-no (eqb (job .num) 0 || leb (job .den) (job .num)) (ltb (most .den) (job .den)) (not-refused (badRatio most job) 6 0 (both .0)) in
     let q = or-no (eqb (job .num) 0) (leb (job .den) (job .num)) (r .0) in
@@ -133,44 +131,51 @@ ok7 most job h =
     ((omega arith, leb-false (job .den) (job .num) (q .1), ltb-false (most .den) (job .den) (r .1)), good-k (job .k) 6 (both .1))
 
 -- 7, 8 and 10, which stand before 9
-pub ok-before : (most : Limits) (job : Job) → check7and8and10 most job .number ≡ 0 → (check7 most job .number ≡ 0) × (check8 job .number ≡ 0) × (mayEmpty job ≡ false)
-unfolding check7and8and10 check10
-ok-before most job h =
-    let a = passes-both (check7 most job) (check8 job orElse check10 job) h in
-    let b = passes-both (check8 job) (check10 job) (a .1) in
+pub goal-pass : (most : Limits) (job : Job) → checkGoal most job .number ≡ 0 → (checkRatio most job .number ≡ 0) × (checkFree job .number ≡ 0) × (mayEmpty job ≡ false)
+unfolding checkGoal checkRatio checkFree checkWindow
+goal-pass most job h =
+    let a = passes-both (checkRatio most job) (checkFree job orElse checkWindow job) h in
+    let b = passes-both (checkFree job) (checkWindow job) (a .1) in
     (a .0, b .0, not-refused (mayEmpty job) 9 0 (b .1))
 
+-- 1 to 3, and then 4 to 6
+pub lengths-pass : (most : Limits) (job : Job) (lent : Bool) → checkLengths most job lent .number ≡ 0
+    → ((1 ≤ fileCount job) × (1 ≤ recipeCount job)) × ((fileCount job ≤ most .files) × (recipeCount job ≤ most .recipes) × (pinCount job ≤ most .pins))
+    × (length (job .sides) ≡ fileCount job) × (length (job .marks) ≡ fileCount job)
+unfolding checkLengths checkCounts checkLists
+lengths-pass most job lent z =
+    let a = passes-both (checkCounts most (fileCount job) (recipeCount job) (pinCount job)) (checkLists job lent) z in
+    let counts = counts-pass most (fileCount job) (recipeCount job) (pinCount job) (a .0) in
+    let lists = lists-pass job lent (a .1) in
+    (some-of (fileCount job) (recipeCount job) (counts .0), few-of most (fileCount job) (recipeCount job) (pinCount job) (counts .1), lists .0, lists .1)
+
 -- a job for which the check gives none of 1 to 6
-pub sound : (most : Limits) (job : Job) (lent : Bool) → check1to6 most job lent .number ≡ 0 → Sound most job
-unfolding check1to6 check4to6
+pub sound : (most : Limits) (job : Job) (lent : Bool) → checkSound most job lent .number ≡ 0 → Sound most job
+unfolding checkSound checkLengths checkContents checkBounds checkPins checkFiles
 sound most job lent ok =
-    let a = passes-both (check1 job) (check2 most job orElse check3 job lent orElse check4to6 job) ok in
-    let b = passes-both (check2 most job) (check3 job lent orElse check4to6 job) (a .1) in
-    let c = passes-both (check3 job lent) (check4to6 job) (b .1) in
-    let d = passes-both (check4 job) (check5 job orElse check6 job) (c .1) in
-    let e = passes-both (check5 job) (check6 job) (d .1) in
-    let r1 = ok1 job (a .0) in
-    let r2 = ok2 job most (b .0) in
-    let r3 = ok3 job lent (c .0) in
-    let r4 = ok4 job (d .0) in
-    let r5 = ok5 job (e .0) in
-    let r6 = ok6 job (e .1) in
+    let all = passes-both (checkLengths most job lent) (checkContents job) ok in
+    let long = lengths-pass most job lent (all .0) in
+    let held = passes-both (checkBounds job) (checkPins job orElse checkFiles job) (all .1) in
+    let rest = passes-both (checkPins job) (checkFiles job) (held .1) in
+    let bounds = bounds-pass job (held .0) in
+    let pins = pins-pass job (rest .0) in
+    let files = files-pass job (rest .1) in
     record {
-      someFile = r1 .0;
-      someRecipe = r1 .1;
-      fewFiles = r2 .0;
-      fewRecipes = r2 .1;
-      fewPins = r2 .2;
-      sidesLong = r3 .0;
-      marksLong = r3 .1;
-      first = r4 .0;
-      two = r4 .1;
-      last = r4 .2;
-      pinsBelow = r5 .0;
-      apart = r5 .1;
-      sizes = λ f h. r6 f h .0;
-      binary = at-most 1 (job .sides) (fileCount job) (r3 .0) (λ i h. r6 i h .1);
-      marks = at-most 2 (job .marks) (fileCount job) (r3 .1) (λ i h. r6 i h .2);
+      someFile = long .0 .0;
+      someRecipe = long .0 .1;
+      fewFiles = long .1 .0;
+      fewRecipes = long .1 .1;
+      fewPins = long .1 .2;
+      sidesLong = long .2;
+      marksLong = long .3;
+      first = bounds .0;
+      two = bounds .1;
+      last = bounds .2;
+      pinsBelow = pins .0;
+      apart = pins .1;
+      sizes = λ f h. files f h .0;
+      binary = at-most 1 (job .sides) (fileCount job) (long .2) (λ i h. files i h .1);
+      marks = at-most 2 (job .marks) (fileCount job) (long .3) (λ i h. files i h .2);
     }
 
 -- ---- what a sound job has

@@ -104,6 +104,12 @@ module _ (rs : List (List ℕ)) where
   cuts-length st [] = refl
   cuts-length st (m ∷ ms) = ap suc (cuts-length (moved st m) ms)
 
+  -- the last of the ends is where the scans end
+  pub ends-last : (n : ℕ) (st : State) (ms : List ℕ) → getD (n ∷ endsFrom rs n st ms) (length ms) 0 ≡ n + length (scans rs st ms)
+  unfolding endsFrom scans
+  ends-last n st [] = sym (add-zero n)
+  ends-last n st (f ∷ fs) = omega (arith, ends-last (n + length (scansOf rs st f)) (moved st f) fs, length-append (scansOf rs st f) (scans rs (moved st f) fs))
+
   pub ends-length : (n : ℕ) (st : State) (ms : List ℕ) → length (endsFrom rs n st ms) ≡ length ms
   unfolding endsFrom
   ends-length n st [] = refl

@@ -15,7 +15,7 @@ use Rattle.rules.specs.Move.{State, moved, scansOf, scans, endsFrom, sta
 use Rattle.rules.specs.Pass.{Pass, passOf, tries, pass, leaves}
 use Rattle.rules.specs.Run.{figuresOf}
 use Rattle.rules.specs.Trace.{Listing, listing, scansBefore, badEnd, holdsPass}
-use Rattle.rules.specs.Theorems.{Sound, MovesHold, Left}
+use Rattle.rules.specs.Theorems.{Sound, MovesHold, Left, PassHolds}
 use Rattle.rules.proofs.Proved.{pass-holds, left, given-sides}
 use Rattle.rules.proofs.Searches.{some-none}
 use Rattle.rules.proofs.Steps.{ends-length}
@@ -43,11 +43,14 @@ module _ (most : Limits) (job : Job) (s : Sound most job) (l : Lent) (ok : fits 
   abbrev one : Pass
   one = pass job (job .sides)
 
-  these-hold : MovesHold job (job .sides) (tries job (job .sides))
-  these-hold = pass-holds most job s (job .sides) (given-sides most job s) .moves
+  held : PassHolds job (job .sides)
+  held = pass-holds most job s (job .sides) (given-sides most job s)
+
+  abbrev these-hold : MovesHold job (job .sides) (tries job (job .sides))
+  these-hold = held .any .moves
 
   there : Left job l one
-  there = left most job s (job .sides) (tries job (job .sides)) l ok these-hold
+  there = left most job s (job .sides) (tries job (job .sides)) l ok these-hold (held .scans)
 
   abbrev told : Listing
   told = listing (leaves job l one)
@@ -63,7 +66,7 @@ module _ (most : Limits) (job : Job) (s : Sound most job) (l : Lent) (ok : fits 
 
   few-scans : length (scans (recipes job) (start job (job .sides)) (tries job (job .sides))) ≤ 4 * recipeCount job
   unfolding passOf
-  few-scans = these-hold .scans
+  few-scans = held .scans .scans
 
   no-bad-end : (i : ℕ) → i < length (tries job (job .sides)) → badEnd told i ≡ false
   no-bad-end i h =

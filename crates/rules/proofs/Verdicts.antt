@@ -10,7 +10,7 @@ use borrow.Author.Tests.{ltb-true, le-ltb, eqb-true, eqb-false, eq-eqb, ne-eqb}
 use Rattle.rules.specs.declared.Verdict.{Verdict}
 use Rattle.rules.specs.Lists.{lowest, someBelow}
 use Rattle.rules.specs.Job.{Job, Limits, fileCount, recipeCount, pinCount}
-use Rattle.rules.specs.Check.{done, isDone, refuseIf, _orElse_, check1, check2, check3, check4to6, check1to6, measure}
+use Rattle.rules.specs.Check.{done, isDone, refuseIf, _orElse_, empty, overMost, checkContents, checkSound, measure}
 use Rattle.rules.specs.Theorems.{AtLowest}
 use Rattle.rules.proofs.Tests.{and-both}
 use Rattle.rules.proofs.Searches.{none-below, lowest-passes, below-lowest}
@@ -32,6 +32,9 @@ passes-both v w h = go (eqb (v .number) 0) refl h
     go true e k = (eqb-true (v .number) 0 e, k)
     go false e k = absurd (eqb-false (v .number) 0 e k)
 
+pub chain-pass : (v w : Verdict) → v ≡ done → w ≡ done → (v orElse w) ≡ done
+chain-pass v w e f = rw (e, f) refl
+
 -- what follows a check counts only where it lets through
 pub chain-same : (v w w' : Verdict) → (v .number ≡ 0 → w ≡ w') → (v orElse w) ≡ (v orElse w')
 chain-same v w w' f = go (eqb (v .number) 0) refl
@@ -50,23 +53,6 @@ or-assoc v w x = go (eqb (v .number) 0) refl
 
 pub or-three : (u v w x : Verdict) → ((u orElse v orElse w) orElse x) ≡ (u orElse v orElse w orElse x)
 or-three u v w x = or-assoc u (v orElse w) x ∙ ap (λ (y : Verdict). u orElse y) (or-assoc v w x)
-
--- o is the first refusal of three checks: the chain stops at it, or goes on
-module _ {o p v1 v2 v3 u v w : Verdict} (e : o ≡ (v1 orElse p)) (f : p ≡ (v2 orElse v3)) (g : v1 ≡ u) (h : v2 ≡ v) (k : v3 ≡ w) where
-  first : o ≡ (u orElse v orElse w)
-  first = e ∙ ap₂ _orElse_ g (f ∙ ap₂ _orElse_ h k)
-
-  pub three-stop : (x : Verdict) → (o .number ≡ 0 → ⊥) → o ≡ (u orElse v orElse w orElse x)
-  three-stop x n = chain-stop x first n ∙ or-three u v w x
-
-  pub three-go : {r x : Verdict} → o .number ≡ 0 → r ≡ x → r ≡ (u orElse v orElse w orElse x)
-  three-go {x = x} z q = chain-go first z q ∙ or-three u v w x
-
-  pub three-pass : o .number ≡ 0 → (u .number ≡ 0) × (v .number ≡ 0) × (w .number ≡ 0)
-  three-pass z =
-      let l = passes-both u (v orElse w) (zero-of first z) in
-      let m = passes-both v w (l .1) in
-      (l .0, m .0, m .1)
 
 -- a test that refuses, in a chain
 pub refuse-stop : {t : Bool} {r : Verdict} (n p : ℕ) (w : Verdict) → t ≡ true → r ≡ refuseIf true (suc n) p → r ≡ (refuseIf t (suc n) p orElse w)
@@ -118,23 +104,25 @@ at-lowest k test n = record {
 
 -- ---- the measure
 
-pub measure-verdict : (most : Limits) (job : Job) → measure most job .verdict ≡ check1to6 most job true
+pub measure-verdict : (most : Limits) (job : Job) → measure most job .verdict ≡ checkSound most job true
 unfolding measure
-measure-verdict most job = go (isDone (check1to6 most job true)) refl
+measure-verdict most job = go (isDone (checkSound most job true)) refl
   where
-    go : (b : Bool) → isDone (check1to6 most job true) ≡ b → measure most job .verdict ≡ check1to6 most job true
+    go : (b : Bool) → isDone (checkSound most job true) ≡ b → measure most job .verdict ≡ checkSound most job true
     go true e = rw (e, measure)
     go false e = rw (e, measure)
 
 -- of a job that passes 1 to 3
 module _ (most : Limits) (job : Job) where
-  pub first-three : 1 ≤ fileCount job → 1 ≤ recipeCount job → fileCount job ≤ most .files → recipeCount job ≤ most .recipes → pinCount job ≤ most .pins
-      → length (job .sides) ≡ fileCount job → length (job .marks) ≡ fileCount job → check1to6 most job true ≡ check4to6 job
-  unfolding check1to6 check1 check2 check3
-  first-three c n few-files few-recipes few-pins sides marks =
+  pub sound-contents : 1 ≤ fileCount job → 1 ≤ recipeCount job → fileCount job ≤ most .files → recipeCount job ≤ most .recipes → pinCount job ≤ most .pins
+      → length (job .sides) ≡ fileCount job → length (job .marks) ≡ fileCount job → checkSound most job true ≡ checkContents job
+  unfolding checkSound checkContents
+  sound-contents c n few-files few-recipes few-pins sides marks =
       let none : (eqb (fileCount job) 0 || eqb (recipeCount job) 0) ≡ false = simp (ne-eqb (fileCount job) 0 (λ e. omega arith), ne-eqb (recipeCount job) 0 (λ e. omega arith)) in
       let over : (ltb (most .files) (fileCount job) || ltb (most .recipes) (recipeCount job) || ltb (most .pins) (pinCount job)) ≡ false =
       simp (le-ltb (most .files) (fileCount job) few-files, le-ltb (most .recipes) (recipeCount job) few-recipes, le-ltb (most .pins) (pinCount job) few-pins) in
       let long : (eqb (length (job .sides)) (fileCount job) && eqb (length (job .marks)) (fileCount job) && true) ≡ true =
       and-both (and-both (eq-eqb (length (job .sides)) (fileCount job) sides) (eq-eqb (length (job .marks)) (fileCount job) marks)) refl in
-      sym (refuse-go 1 0 none (refuse-go 2 0 over (refuse-go 3 0 (ap not long) refl)))
+      let counts : done ≡ (refuseIf (empty (fileCount job) (recipeCount job)) 1 0 orElse refuseIf (overMost most (fileCount job) (recipeCount job) (pinCount job)) 2 0)
+      = refuse-go 1 0 none (ap (λ (b : Bool). refuseIf b 2 0) (sym over)) in
+      sym (chain-go {a = done} (chain-go {a = done} counts refl (ap (λ (b : Bool). refuseIf (not b) 3 0) (sym long))) refl refl)

@@ -14,7 +14,7 @@ use Rattle.rules.specs.declared.Verdict.{Verdict}
 use Rattle.rules.specs.Lists.{total, count, largest, upTo, lowest}
 use Rattle.rules.specs.Job.{Job, Limits, files}
 use Rattle.rules.specs.Split.{weight, smax, sizeOn, balanced}
-use Rattle.rules.specs.Check.{refuseIf, _orElse_, badK, check1, check2, check3, check4, badPin, check5, check6, check7, check8, check10, check9, check4to6, check1to6, check7and8and10, check7to10, check}
+use Rattle.rules.specs.Check.{refuseIf, _orElse_, badK, badPin, checkContents, check}
 use Rattle.rules.specs.Stored.{blockAt, value, headerOf, headerValues, valuesIn, laidOut, badCheck, badLayout, underOne, blockVerdict, Room, layoutVerdict, readVerdict, jobOf}
 use Rattle.rules.specs.Wider.{countRead, HeaderCounts, OneAsBefore, WiderWorked}
 use Rattle.rules.proofs.Verdicts.{passes-both, not-refused}
@@ -23,7 +23,7 @@ use Rattle.rules.proofs.SoundJob.{good-k}
 use Rattle.rules.proofs.Words.{laid-out}
 
 pub worked : WiderWorked
-unfolding total count largest upTo lowest files weight smax sizeOn balanced check1 check2 check3 check4 badPin check5 check6 check7 check8 check10 check9 check4to6 check7and8and10 check7to10 check1to6 check
+unfolding total count largest upTo lowest files weight smax sizeOn balanced badPin check
 worked = record { one = refl; two = refl; three = refl; checked = refl }
 
 pub one-as-before : (job : Job) → OneAsBefore job
@@ -82,9 +82,9 @@ module _ (most : Limits) (bytes : List ℕ) (room : Room) where
     ]
 
   counted : readVerdict most bytes room .number ≡ 0 → (countRead bytes ≡ headerValues k) × ((1 ≤ k) × (k ≤ 4))
-  unfolding readVerdict layoutVerdict blockVerdict
+  unfolding readVerdict layoutVerdict blockVerdict checkContents
   counted ok =
-      let a = passes-both (layoutVerdict most bytes room) (check4to6 (jobOf bytes)) ok in
+      let a = passes-both (layoutVerdict most bytes room) (checkContents (jobOf bytes)) ok in
       let b = passes-both (refuseIf (underOne bytes) 20 0) _ (a .0) in
       let c = passes-both (blockVerdict (headerOf bytes) bytes 0) _ (b .1) in
       let d = passes-both (refuseIf (badK k) 22 0) _ (c .1) in

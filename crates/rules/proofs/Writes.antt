@@ -12,63 +12,43 @@ use borrow.Author.Tests.{eqb-true, eq-eqb, ne-eqb}
 use Rattle.rules.specs.declared.Verdict.{Verdict}
 use Rattle.rules.specs.Lists.{lowest, someBelow}
 use Rattle.rules.specs.Job.{Job, Limits, fileCount, recipeCount, pinCount, bound}
-use Rattle.rules.specs.Check.{refuseIf, refuseAt, _orElse_, badK, check1, check2, check3, short, check4, badPin, check5, badFile, check6, check4to6, check1to6}
+use Rattle.rules.specs.Check.{refuseIf, refuseAt, _orElse_, badK, badPin, soundRows, checkSound}
 use Rattle.rules.specs.Stored.{blockCount}
 use Rattle.rules.specs.Report.{refusal}
-use Rattle.rules.specs.Writing.{headerFor, blocksOf, writingOf, checkWritten, writeVerdict, writing, handsOut}
+use Rattle.rules.specs.Writing.{headerFor, blocksOf, writingOf, writtenRows, checkWritten, writeVerdict, writing, handsOut}
 use Rattle.rules.specs.RoundTrip.{WriteHolds}
-use Rattle.rules.proofs.Verdicts.{zero-of, passes-both, Plain, plain-if, plain-chain}
-use Rattle.rules.proofs.Proved.{lent-six}
+use Rattle.rules.proofs.Verdicts.{zero-of, passes-both, Plain}
+use Rattle.rules.proofs.Refusals.{lacks, within, plain-rows, few-given}
+use Rattle.rules.proofs.Proved.{lent-sound}
 use Rattle.rules.proofs.RoundTrip.{blocks-length}
 
 -- a number is given only by a check
-pub few-if : (b : Bool) (n p m : ℕ) → n ≤ m → refuseIf b n p .number ≤ m
-few-if true n p m h = h
-few-if false n p m h = omega arith
-
-pub few-or : (v w : Verdict) (m : ℕ) → v .number ≤ m → w .number ≤ m → (v orElse w) .number ≤ m
-few-or v w m h k = go (eqb (v .number) 0)
-  where
-    go : (b : Bool) → cond b w v .number ≤ m
-    go true = k
-    go false = h
-
-pub few-numbers : (most : Limits) (job : Job) (lent : Bool) → check1to6 most job lent .number ≤ 6
-unfolding check1to6 check4to6 check1 check2 check3 check4 check5 check6
-few-numbers most job lent =
-    let c : ℕ = fileCount job in
-    let n : ℕ = recipeCount job in
-    let fours : Verdict = refuseAt 4 (short job) n orElse refuseIf (not (eqb (bound job n) (pinCount job))) 4 n in
-    few-or (check1 job) (check2 most job orElse check3 job lent orElse check4to6 job) 6 (few-if (eqb c 0 || eqb n 0) 1 0 6 (omega arith))
-    (few-or (check2 most job) (check3 job lent orElse check4to6 job) 6 (few-if (ltb (most .files) c || ltb (most .recipes) n || ltb (most .pins) (pinCount job)) 2 0 6 (omega arith))
-    (few-or (check3 job lent) (check4to6 job) 6 (few-if (not (eqb (length (job .sides)) c && eqb (length (job .marks)) c && lent)) 3 0 6 (omega arith))
-    (few-or (check4 job) (check5 job orElse check6 job) 6
-    (few-or (refuseIf (not (eqb (bound job 0) 0)) 4 0) fours 6 (few-if (not (eqb (bound job 0) 0)) 4 0 6 (omega arith))
-    (few-or (refuseAt 4 (short job) n) (refuseIf (not (eqb (bound job n) (pinCount job))) 4 n) 6
-    (few-if (someBelow (short job) n) 4 (lowest (short job) n) 6 (omega arith)) (few-if (not (eqb (bound job n) (pinCount job))) 4 n 6 (omega arith))))
-    (few-or (check5 job) (check6 job) 6
-    (few-if (someBelow (badPin job) (pinCount job)) 5 (lowest (badPin job) (pinCount job)) 6 (omega arith)) (few-if (someBelow (badFile job) c) 6 (lowest (badFile job) c) 6 (omega arith))))))
+pub few-numbers : (most : Limits) (job : Job) (lent : Bool) → checkSound most job lent .number ≤ 6
+unfolding checkSound within
+few-numbers most job lent = few-given 6 (soundRows most job lent) refl
 
 -- 1 to 6 and then k
 plain-written : (most : Limits) (job : Job) (lent : Bool) → Plain (checkWritten most job lent)
-plain-written most job lent = plain-chain (check1to6 most job lent) (refuseIf (badK (job .k)) 7 0) (plain-if (badK (job .k)) 6 0)
+unfolding checkWritten lacks
+plain-written most job lent = plain-rows (writtenRows most job lent) refl
 
 lent-written : (most : Limits) (job : Job) (lent : Bool) → checkWritten most job lent .number ≡ 0 → lent ≡ true
-lent-written most job lent z = lent-six most job lent (passes-both (check1to6 most job lent) (refuseIf (badK (job .k)) 7 0) z .0)
+unfolding checkWritten checkSound
+lent-written most job lent z = lent-sound most job lent (passes-both (checkSound most job lent) (refuseIf (badK (job .k)) 7 0) z .0)
 
 pub write-holds : (most : Limits) (job : Job) (out : List ℕ) → WriteHolds most job out
-unfolding writing
+unfolding writing checkWritten checkSound
 write-holds most job out =
     let n : ℕ = 512 * blockCount (headerFor job) in
     let v : Verdict = writeVerdict most job out in
     record {
       refused = λ z. rw (ne-eqb (v .number) 0 z, writing) refl;
-      numbers = few-or (check1to6 most job _) (refuseIf (badK (job .k)) 7 0) 7 (omega (arith, few-numbers most job (eqb (length out) n))) (few-if (badK (job .k)) 7 0 7 (omega arith));
+      numbers = unfold within in few-given 7 (writtenRows most job (eqb (length out) n)) refl;
       writes = λ z. rw (eq-eqb (v .number) 0 z, writing) (ap (λ (w : Verdict). writingOf w (blocksOf job)) (plain-written most job _ z));
       exact = λ z. eqb-true (length out) n (lent-written most job _ z);
       passes = λ z. ap (λ (b : Bool). checkWritten most job b .number) (sym (lent-written most job _ z)) ∙ z;
       all = λ e. ap (checkWritten most job) (eq-eqb (length out) n e);
-      carried = λ num den cap. unfold check1to6 check4to6 check1 check2 check3 check4 check5 badPin check6 in refl;
+      carried = λ num den cap. unfold checkWritten badPin in refl;
       long = elim (ℕ-discrete (v .number) 0) [
         | yes z ↦ rw (eq-eqb (v .number) 0 z, writing) (blocks-length job ∙ sym (eqb-true (length out) n (lent-written most job _ z)))
         | no z ↦ rw (ne-eqb (v .number) 0 z, writing) refl

@@ -11,7 +11,7 @@ use Rattle.rules.specs.declared.BalanceFigures.{BalanceFigures}
 use Rattle.rules.specs.Lists.{bit, total, listed}
 use Rattle.rules.specs.Job.{Job, Limits, fileCount, files, recipes, scratchFor}
 use Rattle.rules.specs.Split.{onSide, cut, gain, isFree, weighs, unreadFiles, unreadRecipes, weight, tolerance, sizeA, largeEnough, smallEnough}
-use Rattle.rules.specs.Check.{isDone, refuseIf, _orElse_, check1to6, check7and8and10}
+use Rattle.rules.specs.Check.{isDone, _orElse_, Rows, _followedBy_, row, firstGiven, soundRows, goalRows}
 use Rattle.rules.specs.Move.{State, start, moved, after, greater, firstBelow, movesBy}
 use Rattle.rules.specs.Stored.{jobOf, readVerdict}
 use Rattle.rules.specs.Report.{line, firstLines, sizeLine, tells, ofFiles, Printing, telling, allRoom, allLent}
@@ -66,11 +66,17 @@ mostA job = total (λ f. bit (isFree job f || onSide (job .sides) 0 f) * weighs 
 unfoldable pub noneBalanced : Job → Bool
 noneBalanced job = tooLarge job (leastA job) || tooSmall job (mostA job)
 
-unfoldable pub check1to8and10 : Limits → Job → Bool → Verdict
-check1to8and10 most job lent = check1to6 most job lent orElse check7and8and10 most job
+abbrev pub beforeStartRows : Limits → Job → Bool → Rows
+beforeStartRows most job lent = soundRows most job lent followedBy goalRows most job
+
+unfoldable pub checkBeforeStart : Limits → Job → Bool → Verdict
+checkBeforeStart most job lent = firstGiven (beforeStartRows most job lent)
+
+abbrev pub balanceRows : Limits → Job → Bool → Rows
+balanceRows most job lent = beforeStartRows most job lent followedBy row 9 (noneBalanced job) 0
 
 unfoldable pub balanceCheck : Limits → Job → Bool → Verdict
-balanceCheck most job lent = check1to8and10 most job lent orElse refuseIf (noneBalanced job) 9 0
+balanceCheck most job lent = firstGiven (balanceRows most job lent)
 
 -- ---- the call: it is lent the job, whose sides change, and a pass's scratch
 

@@ -11,15 +11,14 @@ use Rattle.rules.specs.declared.Verdict.{Verdict}
 use Rattle.rules.specs.Lists.{listed}
 use Rattle.rules.specs.Job.{Job, Limits, fileCount, recipes, Lent, scratchFor, fits, limitsOf}
 use Rattle.rules.specs.Split.{sideOf, cut, gain, isFree, sizeA, balanced}
-use Rattle.rules.specs.Check.{done, _orElse_, check9, check}
+use Rattle.rules.specs.Check.{done, _orElse_, checkStart, check, checkLent}
 use Rattle.rules.specs.Move.{start, after, Frees}
 use Rattle.rules.specs.Stored.{jobOf, readVerdict}
-use Rattle.rules.specs.Refusals.{Row, row, rows7and8and10, rows1to6}
 use Rattle.rules.specs.Report.{refusal, allRoom, allLent}
 use Rattle.rules.specs.Writing.{blocksOf, withSides}
 use Rattle.rules.specs.Marked.{small, archive}
-use Rattle.rules.specs.Balance.{tooLarge, tooSmall, heavy, freeOn, balanceChoice, balanceMoves, balanceSides, noneBalanced, check1to8and10, balanceCheck, balanceVerdict, balancingOf, balanceFigures, noBalanceFigures, balancing, balanceLines, balances}
-use Rattle.rules.specs.Theorems.{Sides, stateAt, MovesHold, Listed, FirstGiven, mostBytes}
+use Rattle.rules.specs.Balance.{tooLarge, tooSmall, heavy, freeOn, balanceChoice, balanceMoves, balanceSides, noneBalanced, checkBeforeStart, balanceRows, balanceCheck, balanceVerdict, balancingOf, balanceFigures, noBalanceFigures, balancing, balanceLines, balances}
+use Rattle.rules.specs.Theorems.{Sides, stateAt, MovesHold, ScansHold, Listed, inOrder, FirstGiven, mostBytes}
 
 -- ---- the two tests are the halves of the balance test (Balance `halves`, of any job and any |A|)
 
@@ -55,6 +54,7 @@ pub record BalanceHolds (job : Job) : Type 0 where
   -- each move is of a file then still free, so what holds of any such moves holds of these: they are at most C (`few`), and no file is moved twice (`once`)
   pub frees : Frees (start job (job .sides)) (balanceMoves job)
   pub moves : MovesHold job (job .sides) (balanceMoves job)
+  pub scans : ScansHold job (job .sides) (balanceMoves job)
   -- all moves are from the side that held too much at the start, and at each of them that side still does
   pub from : (u i : ℕ) → heavy job (sizeA job (job .sides)) ≡ some u → i < length (balanceMoves job) → sideOf (job .sides) (getD (balanceMoves job) i 0) ≡ u
   pub while : (u i : ℕ) → heavy job (sizeA job (job .sides)) ≡ some u → i < length (balanceMoves job) → heavy job (sizeA job (balancedTo job i)) ≡ some u
@@ -76,30 +76,23 @@ pub record BalanceHolds (job : Job) : Type 0 where
 
 -- ---- the numbers for no: the first row that is given is the answer (Balancing `balance-rows`, of any job)
 
--- 9: no assignment of the free files is balanced; the other rows are those of the check of a job
-abbrev pub lastRows : Limits → Job → List Row
-lastRows most job = rows7and8and10 most job ++ (row 9 (noneBalanced job) 0 ∷ [])
-
-abbrev pub balanceRows : Limits → Job → Bool → List Row
-balanceRows most job lent = rows1to6 most job lent ++ lastRows most job
-
 abbrev pub BalanceRows : Limits → Job → Bool → Type 0
-BalanceRows most job lent = FirstGiven (balanceRows most job lent) (balanceCheck most job lent)
+BalanceRows most job lent = FirstGiven (inOrder (balanceRows most job lent)) (balanceCheck most job lent)
 
--- ---- 9 is given exactly if no assignment of the free files is balanced (Balancing `nine-exactly`, of any job)
+-- ---- 9 is given exactly if no assignment of the free files is balanced (Balancing `balance-refuses`, of any job)
 
-pub record NineExactly (most : Limits) (job : Job) (lent : Bool) : Type 0 where
+pub record BalanceRefuses (most : Limits) (job : Job) (lent : Bool) : Type 0 where
   -- where it is given, none is
   pub given : balanceCheck most job lent .number ≡ 9 → (sides : List ℕ) → Assignment job sides → balanced job (sizeA job sides) ≡ false
   -- where none is, it is given, after 1 to 8 and 10
-  pub exactly : check1to8and10 most job lent .number ≡ 0 → ((sides : List ℕ) → Assignment job sides → balanced job (sizeA job sides) ≡ false)
+  pub exactly : checkBeforeStart most job lent .number ≡ 0 → ((sides : List ℕ) → Assignment job sides → balanced job (sizeA job sides) ≡ false)
       → balanceCheck most job lent ≡ record { number = 9; place = 0 }
   -- where the job passes, one is: the sides that the moves leave
   pub possible : balanceCheck most job lent .number ≡ 0 → Assignment job (balanceSides job) × (balanced job (sizeA job (balanceSides job)) ≡ true)
   -- 1 to 8 and 10 are those of the check of a job, as before; it ends in a 9 of its own
-  pub before : check most job lent ≡ (check1to8and10 most job lent orElse check9 job)
-  pub numbers : (check1to8and10 most job lent .number ≤ 10) × (check1to8and10 most job lent .number ≢ 9)
-  pub first : check1to8and10 most job lent .number ≢ 0 → balanceCheck most job lent ≡ check1to8and10 most job lent
+  pub before : check most job lent ≡ (checkBeforeStart most job lent orElse checkStart job)
+  pub numbers : (checkBeforeStart most job lent .number ≤ 10) × (checkBeforeStart most job lent .number ≢ 9)
+  pub first : checkBeforeStart most job lent .number ≢ 0 → balanceCheck most job lent ≡ checkBeforeStart most job lent
 
 -- ---- the call (Balancing `balance-answers`, of any input)
 
@@ -121,7 +114,7 @@ pub record BalanceAnswers (most : Limits) (job : Job) (scratch : List ℕ) : Typ
   pub even : balanceVerdict most job scratch .number ≡ 0 → balanced job (sizeA job (balancing most job scratch .sides)) ≡ true
   pub passes : balanceVerdict most job scratch .number ≡ 0 → check most (withSides job (balancing most job scratch .sides)) true ≡ done
   pub runs : balanceVerdict most job scratch .number ≡ 0 → (l : Lent) → fits (withSides job (balancing most job scratch .sides)) l ≡ true
-      → check most (withSides job (balancing most job scratch .sides)) (fits (withSides job (balancing most job scratch .sides)) l) ≡ done
+      → checkLent most (withSides job (balancing most job scratch .sides)) l ≡ done
 
 -- ---- the program (Balancing `program-holds`, of any input)
 

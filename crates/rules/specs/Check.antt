@@ -1,4 +1,4 @@
--- Document 01, "Numbers for no": the check of a job, 1 to 8, 10 and 9 in this order, each with its place. Assumes nothing.
+-- Document 01, "Numbers for no": its table, row by row, and the check of a job: the first row that is given, in the order 1 to 8, 10 and 9. Assumes nothing.
 use Prim.Native.Nat.{ℕ, suc, _+_, _*_}
 use mathlib.Core.Bool.{Bool, true, false, not, cond, _&&_, _||_}
 use lib.ListN.{length, getD}
@@ -6,8 +6,10 @@ use lib.Dec.{leb, ltb, eqb}
 use Rattle.rules.specs.declared.Verdict.{Verdict}
 use Rattle.rules.specs.declared.Measure.{Measure}
 use Rattle.rules.specs.Lists.{count, lowest, someBelow}
-use Rattle.rules.specs.Job.{Job, Limits, fileCount, recipeCount, pinCount, bound, pin, files, recipes}
+use Rattle.rules.specs.Job.{Job, Limits, fileCount, recipeCount, pinCount, bound, pin, files, recipes, Lent, fits}
 use Rattle.rules.specs.Split.{sizeOf, isFree, unreadFiles, unreadRecipes, weight, tolerance, sizeA, balanced, cut}
+
+-- ---- verdicts
 
 abbrev pub done : Verdict
 done = record { number = 0; place = 0 }
@@ -29,35 +31,51 @@ infixr 20 _orElse_
 abbrev pub _orElse_ : Verdict → Verdict → Verdict
 v orElse w = cond (isDone v) w v
 
--- ---- 1 and 2, of a job's counts and of a stored job's header
+-- ---- rows: number, given when, place
 
--- C or N is 0
+pub record Row : Type 0 where
+  pub number : ℕ
+  pub given : Bool
+  pub place : ℕ
+
+-- one after the other
+infixr 20 _followedBy_
+pub data Rows : Type 0 where
+  none : Rows
+  one : Row → Rows
+  _followedBy_ : Rows → Rows → Rows
+
+abbrev pub row : ℕ → Bool → ℕ → Rows
+row n given place = one (record { number = n; given = given; place = place })
+
+-- given if some i below n passes the test, at the lowest
+abbrev pub rowAt : ℕ → (ℕ → Bool) → ℕ → Rows
+rowAt k test n = row k (someBelow test n) (lowest test n)
+
+-- the first that is given is the answer, and done where none is
+abbrev pub firstGiven : Rows → Verdict
+firstGiven none = done
+firstGiven (one r) = refuseIf (r .given) (r .number) (r .place)
+firstGiven (xs followedBy ys) = firstGiven xs orElse firstGiven ys
+
+-- ---- 1: C or N is 0; 2: C, N or P over its most; of a job's counts, and of those in a stored job's header
+
 abbrev pub empty : ℕ → ℕ → Bool
 empty c n = eqb c 0 || eqb n 0
 
--- C, N or P over its most
 abbrev pub overMost : Limits → ℕ → ℕ → ℕ → Bool
 overMost most c n p = ltb (most .files) c || ltb (most .recipes) n || ltb (most .pins) p
 
-abbrev pub check1Of : ℕ → ℕ → Verdict
-check1Of c n = refuseIf (empty c n) 1 0
-
-abbrev pub check2Of : Limits → ℕ → ℕ → ℕ → Verdict
-check2Of most c n p = refuseIf (overMost most c n p) 2 0
-
-unfoldable pub check1 : Job → Verdict
-check1 job = check1Of (fileCount job) (recipeCount job)
-
-unfoldable pub check2 : Limits → Job → Verdict
-check2 most job = check2Of most (fileCount job) (recipeCount job) (pinCount job)
+abbrev pub countRows : Limits → ℕ → ℕ → ℕ → Rows
+countRows most c n p = row 1 (empty c n) 0 followedBy row 2 (overMost most c n p) 0
 
 -- ---- 3: sides or marks not C long, or a lent list of wrong length; `lent` says that those are right
 
 abbrev pub wrongLength : Job → Bool → Bool
 wrongLength job lent = not (eqb (length (job .sides)) (fileCount job) && eqb (length (job .marks)) (fileCount job) && lent)
 
-unfoldable pub check3 : Job → Bool → Verdict
-check3 job lent = refuseIf (wrongLength job lent) 3 0
+abbrev pub listRows : Job → Bool → Rows
+listRows job lent = row 3 (wrongLength job lent) 0
 
 -- ---- 4: first bound not 0; then a recipe j with fewer than two pins; then last bound not P
 
@@ -71,11 +89,8 @@ short job j = ltb (bound job (suc j)) (2 + bound job j)
 abbrev pub endsWrong : Job → Bool
 endsWrong job = not (eqb (bound job (recipeCount job)) (pinCount job))
 
-unfoldable pub check4 : Job → Verdict
-check4 job =
-    refuseIf (startsLate job) 4 0
-    orElse refuseAt 4 (short job) (recipeCount job)
-    orElse refuseIf (endsWrong job) 4 (recipeCount job)
+abbrev pub boundRows : Job → Rows
+boundRows job = row 4 (startsLate job) 0 followedBy rowAt 4 (short job) (recipeCount job) followedBy row 4 (endsWrong job) (recipeCount job)
 
 -- ---- 5: a pin is C or more, or repeats an earlier pin of its recipe
 
@@ -88,16 +103,16 @@ repeatsIn job k j =
 unfoldable pub badPin : Job → ℕ → Bool
 badPin job k = leb (fileCount job) (pin job k) || someBelow (repeatsIn job k) (recipeCount job)
 
-unfoldable pub check5 : Job → Verdict
-check5 job = refuseAt 5 (badPin job) (pinCount job)
+abbrev pub pinRows : Job → Rows
+pinRows job = rowAt 5 (badPin job) (pinCount job)
 
 -- ---- 6: size 0, side over 1 or mark over 2
 
 abbrev pub badFile : Job → ℕ → Bool
 badFile job f = eqb (sizeOf job f) 0 || ltb 1 (getD (job .sides) f 0) || ltb 2 (getD (job .marks) f 0)
 
-unfoldable pub check6 : Job → Verdict
-check6 job = refuseAt 6 (badFile job) (fileCount job)
+abbrev pub fileRows : Job → Rows
+fileRows job = rowAt 6 (badFile job) (fileCount job)
 
 -- ---- 7: num 0, num not below den, or den over its most; then k not 1 to 4 (document 02, order 6)
 
@@ -107,16 +122,16 @@ badRatio most job = eqb (job .num) 0 || leb (job .den) (job .num) || ltb (most .
 abbrev pub badK : ℕ → Bool
 badK k = eqb k 0 || ltb 4 k
 
-unfoldable pub check7 : Limits → Job → Verdict
-check7 most job = refuseIf (badRatio most job) 7 0 orElse refuseIf (badK (job .k)) 7 0
+abbrev pub ratioRows : Limits → Job → Rows
+ratioRows most job = row 7 (badRatio most job) 0 followedBy row 7 (badK (job .k)) 0
 
 -- ---- 8: no file is free
 
 abbrev pub noneFree : Job → Bool
 noneFree job = eqb (count (isFree job) (files job)) 0
 
-unfoldable pub check8 : Job → Verdict
-check8 job = refuseIf (noneFree job) 8 0
+abbrev pub freeRows : Job → Rows
+freeRows job = row 8 (noneFree job) 0
 
 -- ---- 10: the window would allow a vault of size 0 (document 02, order 8)
 
@@ -127,44 +142,102 @@ allowsEmpty num den w m = leb (num * w) (den * m) || leb (den * w) (num * w + de
 abbrev pub mayEmpty : Job → Bool
 mayEmpty job = allowsEmpty (job .num) (job .den) (weight job) (tolerance job)
 
-unfoldable pub check10 : Job → Verdict
-check10 job = refuseIf (mayEmpty job) 10 0
+abbrev pub windowRows : Job → Rows
+windowRows job = row 10 (mayEmpty job) 0
 
 -- ---- 9: the start is not balanced
 
 abbrev pub badStart : Job → Bool
 badStart job = not (balanced job (sizeA job (job .sides)))
 
-unfoldable pub check9 : Job → Verdict
-check9 job = refuseIf (badStart job) 9 0
+abbrev pub startRows : Job → Rows
+startRows job = row 9 (badStart job) 0
 
--- ---- in their order: 10 stands after 8 and before 9
+-- ---- in their order, and in pieces: 10 stands after 8 and before 9
 
-unfoldable pub check4to6 : Job → Verdict
-check4to6 job = check4 job orElse check5 job orElse check6 job
+-- 1 to 3: how many of each, and how long the lists are
+abbrev pub lengthRows : Limits → Job → Bool → Rows
+lengthRows most job lent = countRows most (fileCount job) (recipeCount job) (pinCount job) followedBy listRows job lent
+
+-- 4 to 6: what the lists hold
+abbrev pub contentRows : Job → Rows
+contentRows job = boundRows job followedBy pinRows job followedBy fileRows job
+
+-- 1 to 6, which measure, reader and writer ask
+abbrev pub soundRows : Limits → Job → Bool → Rows
+soundRows most job lent = lengthRows most job lent followedBy contentRows job
 
 -- 7, 8 and 10, which stand before the 9 of a pass and before that of the balancing
-unfoldable pub check7and8and10 : Limits → Job → Verdict
-check7and8and10 most job = check7 most job orElse check8 job orElse check10 job
+abbrev pub goalRows : Limits → Job → Rows
+goalRows most job = ratioRows most job followedBy freeRows job followedBy windowRows job
 
-unfoldable pub check7to10 : Limits → Job → Verdict
-check7to10 most job = check7and8and10 most job orElse check9 job
+-- 7 to 10, which a pass and a run ask besides
+abbrev pub restRows : Limits → Job → Rows
+restRows most job = goalRows most job followedBy startRows job
 
-unfoldable pub check1to6 : Limits → Job → Bool → Verdict
-check1to6 most job lent = check1 job orElse check2 most job orElse check3 job lent orElse check4to6 job
+abbrev pub allRows : Limits → Job → Bool → Rows
+allRows most job lent = soundRows most job lent followedBy restRows most job
+
+-- ---- the checks
+
+unfoldable pub checkCounts : Limits → ℕ → ℕ → ℕ → Verdict
+checkCounts most c n p = firstGiven (countRows most c n p)
+
+unfoldable pub checkLists : Job → Bool → Verdict
+checkLists job lent = firstGiven (listRows job lent)
+
+unfoldable pub checkBounds : Job → Verdict
+checkBounds job = firstGiven (boundRows job)
+
+unfoldable pub checkPins : Job → Verdict
+checkPins job = firstGiven (pinRows job)
+
+unfoldable pub checkFiles : Job → Verdict
+checkFiles job = firstGiven (fileRows job)
+
+unfoldable pub checkRatio : Limits → Job → Verdict
+checkRatio most job = firstGiven (ratioRows most job)
+
+unfoldable pub checkFree : Job → Verdict
+checkFree job = firstGiven (freeRows job)
+
+unfoldable pub checkWindow : Job → Verdict
+checkWindow job = firstGiven (windowRows job)
+
+unfoldable pub checkStart : Job → Verdict
+checkStart job = firstGiven (startRows job)
+
+unfoldable pub checkLengths : Limits → Job → Bool → Verdict
+checkLengths most job lent = firstGiven (lengthRows most job lent)
+
+unfoldable pub checkContents : Job → Verdict
+checkContents job = firstGiven (contentRows job)
+
+unfoldable pub checkSound : Limits → Job → Bool → Verdict
+checkSound most job lent = firstGiven (soundRows most job lent)
+
+unfoldable pub checkGoal : Limits → Job → Verdict
+checkGoal most job = firstGiven (goalRows most job)
+
+unfoldable pub checkRest : Limits → Job → Verdict
+checkRest most job = firstGiven (restRows most job)
 
 -- a pass and a run give 1 to 10; the check of a job, as a call of its own, the same with nothing lent
 unfoldable pub check : Limits → Job → Bool → Verdict
-check most job lent = check1to6 most job lent orElse check7to10 most job
+check most job lent = firstGiven (allRows most job lent)
 
 abbrev pub checkJob : Limits → Job → Verdict
 checkJob most job = check most job true
+
+-- of a call that is lent these lists
+abbrev pub checkLent : Limits → Job → Lent → Verdict
+checkLent most job l = check most job (fits job l)
 
 -- ---- the measure: 1 to 6, else the cut and |A| and what could not be read, nothing moved
 
 unfoldable pub measure : Limits → Job → Measure
 measure most job =
-    let v = check1to6 most job true in
+    let v = checkSound most job true in
     elim (isDone v) [
       | true ↦ record {
         verdict = v;

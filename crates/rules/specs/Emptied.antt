@@ -7,20 +7,19 @@ use mathlib.Core.Bool.{true, false, _||_}
 use mathlib.Core.List.{List, [], _∷_, _++_, map}
 use lib.ListN.{length}
 use Rattle.rules.specs.declared.Difference.{Difference}
-use Rattle.rules.specs.Job.{Job, asJob, Limits, limitsOf, Lent, fits}
+use Rattle.rules.specs.Job.{Job, asJob, Limits, limitsOf, Lent}
 use Rattle.rules.specs.Split.{weight, sizeOn, sizeA, balanced}
-use Rattle.rules.specs.Check.{mayEmpty, check, checkJob, measure}
-use Rattle.rules.specs.Pass.{tries, pass}
-use Rattle.rules.specs.Run.{run, lastOf, passEnds, runEnds}
+use Rattle.rules.specs.Check.{mayEmpty, checkJob, checkLent, measure}
+use Rattle.rules.specs.Pass.{passOf}
+use Rattle.rules.specs.Run.{passes, lastBy, passEnds, runEnds}
 use Rattle.rules.specs.Stored.{jobOf, Room, readVerdict}
 use Rattle.rules.specs.Report.{text, prints}
 use Rattle.rules.specs.Trace.{traces}
 use Rattle.rules.specs.Writing.{writeVerdict}
-use Rattle.rules.specs.Balance.{balanceCheck, balanceVerdict, balancing}
+use Rattle.rules.specs.Balance.{balanceSides, noneBalanced, balanceCheck, balanceVerdict, balancing}
 use Rattle.rules.specs.Compare.{comparing}
 use Rattle.rules.specs.Marked.{small, checked}
-use Rattle.rules.specs.Theorems.{Binary, Sides, stateAt, stateIn}
-use Rattle.rules.specs.Balancing.{balancedTo}
+use Rattle.rules.specs.Theorems.{Binary, Sides, stateAt, Lawful, LawfulTry, stateIn}
 
 -- ---- 10 is given where the window would allow a vault of size 0 (Emptied `window-allows`, of any job whose num is not over its den)
 
@@ -28,9 +27,9 @@ use Rattle.rules.specs.Balancing.{balancedTo}
 abbrev pub WindowAllows : Job → Type 0
 WindowAllows job = mayEmpty job ≡ (balanced job 0 || balanced job (weight job))
 
--- ---- measure, reader, writer and the comparing never give it (Emptied `never-ten`, of any input)
+-- ---- measure, reader, writer and the comparing never give it (Emptied `never-window`, of any input)
 
-pub record NeverTen (most : Limits) : Type 0 where
+pub record NeverWindow (most : Limits) : Type 0 where
   pub measure : (job : Job) → measure most job .verdict .number ≢ 10
   pub read : (bytes : List ℕ) (room : Room) → readVerdict most bytes room .number ≢ 10
   pub write : (job : Job) (out : List ℕ) → writeVerdict most job out .number ≢ 10
@@ -47,24 +46,25 @@ pub record BothHold (job : Job) (sides : List ℕ) : Type 0 where
 pub record NoneEmptied (job : Job) : Type 0 where
   -- no balanced split of it has an empty vault, whoever made it
   pub split : (sides : List ℕ) → Binary sides → balanced job (sizeA job sides) ≡ true → BothHold job sides
-  -- so none that a pass meets on the way from a balanced start, nor the one that it returns
-  pub met : (sides : List ℕ) → Sides job sides → balanced job (sizeA job sides) ≡ true → (k : ℕ) → BothHold job (stateAt job sides (tries job sides) k .sides)
-  pub returned : (sides : List ℕ) → Sides job sides → balanced job (sizeA job sides) ≡ true → BothHold job (pass job sides .sidesAfter)
-  -- none that a run meets, in every pass after every move, nor the one that it returns
-  pub within : balanced job (sizeA job (job .sides)) ≡ true → (i k : ℕ) → i < length (run job) → BothHold job (stateIn job i k .sides)
-  pub ran : balanced job (sizeA job (job .sides)) ≡ true → BothHold job (lastOf (pass job (job .sides)) (run job) .sidesAfter)
-  -- none that a balancing meets on the way from a balanced start, where it leaves the sides as they are
-  pub balancing : balanced job (sizeA job (job .sides)) ≡ true → (i : ℕ) → BothHold job (balancedTo job i)
+  -- so none that a pass of lawful moves, as edition 1's are, meets on the way from a balanced start, nor the one that it returns
+  pub met : (sides ms : List ℕ) → Sides job sides → Lawful job sides ms → balanced job (sizeA job sides) ≡ true → (k : ℕ) → BothHold job (stateAt job sides ms k .sides)
+  pub returned : (sides ms : List ℕ) → Sides job sides → Lawful job sides ms → balanced job (sizeA job sides) ≡ true → BothHold job (passOf job sides ms .sidesAfter)
+  -- none that a run of such passes meets, in every pass after every move, nor the one that it returns
+  pub within : (try : List ℕ → List ℕ) → LawfulTry job try → balanced job (sizeA job (job .sides)) ≡ true → (i k : ℕ) → i < length (passes job try)
+      → BothHold job (stateIn job try i k .sides)
+  pub ran : (try : List ℕ → List ℕ) → LawfulTry job try → balanced job (sizeA job (job .sides)) ≡ true → BothHold job (lastBy job try .sidesAfter)
+  -- nor the one that a balancing leaves, whatever the start, where the free files can be balanced; on the way a vault may be empty, as it may be at the start
+  pub balancing : noneBalanced job ≡ false → BothHold job (balanceSides job)
 
 -- after a pass, a run or a balancing that is not refused each vault's readable size is over 0 (Emptied `calls-leave`, of any input)
 pub record CallsLeave (most : Limits) (job : Job) (l : Lent) : Type 0 where
   -- the start that the check lets through, and what the calls leave
-  pub start : check most job (fits job l) .number ≡ 0 → BothHold job (job .sides)
-  pub pass : check most job (fits job l) .number ≡ 0 → BothHold job (passEnds most job l .sides)
-  pub run : check most job (fits job l) .number ≡ 0 → BothHold job (runEnds most job l .sides)
+  pub start : checkLent most job l .number ≡ 0 → BothHold job (job .sides)
+  pub pass : checkLent most job l .number ≡ 0 → BothHold job (passEnds most job l .sides)
+  pub run : checkLent most job l .number ≡ 0 → BothHold job (runEnds most job l .sides)
   pub balancing : (scratch : List ℕ) → balanceVerdict most job scratch .number ≡ 0 → BothHold job (balancing most job scratch .sides)
   -- and on the way: all that is said above
-  pub met : check most job (fits job l) .number ≡ 0 → NoneEmptied job
+  pub met : checkLent most job l .number ≡ 0 → NoneEmptied job
   pub metBalancing : (scratch : List ℕ) → balanceVerdict most job scratch .number ≡ 0 → NoneEmptied job
 
 -- ---- document 01's m5, and jobs at the edges of the test (Emptied `worked`)
@@ -114,6 +114,6 @@ pub record EmptiedWorked : Type 0 where
   pub hitB : given edgeB 1 4 7 10 ≡ (10, 10) ∷ (10, 10) ∷ (10, 10) ∷ (10, 10) ∷ []
   pub missedB : given edgeB 2 5 8 11 ≡ (0, 0) ∷ (0, 0) ∷ (0, 0) ∷ (0, 0) ∷ []
   -- before 9: all three in A, which is too large for 1/3; and after 8: with no file free and none that could be read W is 0
-  pub before9 : checkJob (limitsOf 3 1 3 3) (edge 1 (0 ∷ 0 ∷ 0 ∷ []) 1 1) ≡ record { number = 10; place = 0 }
-  pub was9 : balanced (edge 1 (0 ∷ 0 ∷ 0 ∷ []) 1 1) 3 ≡ false
-  pub after8 : checkJob (limitsOf 2 1 2 2) (asJob (1 ∷ 1 ∷ []) (0 ∷ 1 ∷ []) (2 ∷ 2 ∷ []) (0 ∷ 2 ∷ []) (0 ∷ 1 ∷ []) 1 2 0 1) ≡ record { number = 8; place = 0 }
+  pub beforeStart : checkJob (limitsOf 3 1 3 3) (edge 1 (0 ∷ 0 ∷ 0 ∷ []) 1 1) ≡ record { number = 10; place = 0 }
+  pub unbalanced : balanced (edge 1 (0 ∷ 0 ∷ 0 ∷ []) 1 1) 3 ≡ false
+  pub afterFree : checkJob (limitsOf 2 1 2 2) (asJob (1 ∷ 1 ∷ []) (0 ∷ 1 ∷ []) (2 ∷ 2 ∷ []) (0 ∷ 2 ∷ []) (0 ∷ 1 ∷ []) 1 2 0 1) ≡ record { number = 8; place = 0 }

@@ -6,7 +6,6 @@ pub mod Move
 pub mod Pass
 pub mod Run
 pub mod Stored
-pub mod Refusals
 pub mod Report
 pub mod Trace
 pub mod Writing

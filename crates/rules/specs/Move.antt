@@ -8,7 +8,7 @@ use lib.ListN.{length, getD, take, drop, set}
 use lib.Dec.{ltb, eqb}
 use lib.IntN.{ℤ, pos, negsuc, _+ℤ_}
 use lib.Signed.{ltZ}
-use Rattle.rules.specs.Lists.{total, count}
+use Rattle.rules.specs.Lists.{total, count, those}
 use Rattle.rules.specs.Job.{Job, fileCount, recipes}
 use Rattle.rules.specs.Split.{other, sideOf, onSide, countOn, holds, gain, weight, sizeA, balanced}
 
@@ -36,8 +36,8 @@ lockedOn st u r = count (λ x. onSide (st .sides) u x && not (free st x)) r
 unfoldable pub moved : State → ℕ → State
 moved st f = record { sides = set (st .sides) f (other (sideOf (st .sides) f)); locks = set (st .locks) f 1 }
 
--- where a list of moves, one after the other, leads
-unfoldable pub stepsBy {ℓ} : {S : Type ℓ} → (S → ℕ → S) → S → List ℕ → S
+-- where a list of steps, one after the other, leads
+unfoldable pub stepsBy {ℓ κ} : {S : Type ℓ} {A : Type κ} → (S → A → S) → S → List A → S
 stepsBy step s [] = s
 stepsBy step s (f ∷ fs) = stepsBy step (step s f) fs
 
@@ -180,6 +180,32 @@ scanPins st t k (x ∷ xs) g =
 unfoldable pub scanAll : List (List ℕ) → State → ℕ → List Scan → List ℤ → List ℤ
 scanAll rs st t [] g = g
 scanAll rs st t (c ∷ cs) g = scanAll rs st t cs (scanPins st t (c .kind) (getD rs (c .recipe) []) g)
+
+-- the same, change by change: a file, and what its gain is changed by
+pub record Change : Type 0 where
+  pub file : ℕ
+  pub by : ℤ
+
+-- by a scan of kind k
+abbrev pub changeOf : ℕ → ℕ → Change
+changeOf k x = record { file = x; by = change k }
+
+-- the changes of one scan, pin by pin
+unfoldable pub changesIn : State → ℕ → ℕ → List ℕ → List Change
+changesIn st t k r = map (changeOf k) (those (touches st t k) r)
+
+-- those of scans, one after the other; a file may stand there twice
+unfoldable pub changesBy : List (List ℕ) → State → ℕ → List Scan → List Change
+changesBy rs st t [] = []
+changesBy rs st t (c ∷ cs) = changesIn st t (c .kind) (getD rs (c .recipe) []) ++ changesBy rs st t cs
+
+-- those of the move of f, in the order in which they happen
+abbrev pub changesOf : List (List ℕ) → State → ℕ → List Change
+changesOf rs st f = changesBy rs (moved st f) (other (sideOf (st .sides) f)) (scansOf rs st f)
+
+-- the gain list after one of them
+abbrev pub changed : List ℤ → Change → List ℤ
+changed g c = set g (c .file) (getD g (c .file) (pos 0) +ℤ c .by)
 
 -- the replay of what the lists say, and of nothing else: at each move the scans listed from n, where the last move's end, up to where its own end
 unfoldable pub replay : List (List ℕ) → State → List ℕ → ℕ → List ℕ → List Scan → List ℤ → List ℤ

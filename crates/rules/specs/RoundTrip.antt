@@ -8,11 +8,11 @@ use mathlib.Core.List.{List, [], _∷_}
 use lib.ListN.{length}
 use Rattle.rules.specs.Lists.{allBelow}
 use Rattle.rules.specs.Job.{Job, asJob, Limits, TwoByte, fileCount}
-use Rattle.rules.specs.Check.{done, refuseIf, check1to6, checkJob}
+use Rattle.rules.specs.Check.{done, refuseIf, checkJob}
 use Rattle.rules.specs.Stored.{headerOf, blockCount, jobOf, Room, roomy, readVerdict, written, reading}
 use Rattle.rules.specs.Split.{sizeA}
-use Rattle.rules.specs.Pass.{Pass, pass}
-use Rattle.rules.specs.Run.{settles, run, lastOf, runFiguresOf}
+use Rattle.rules.specs.Pass.{Pass, tries, pass}
+use Rattle.rules.specs.Run.{settles, passBy, passes, run, lastBy, runFiguresOf}
 use Rattle.rules.specs.Report.{refusal, report, allRoom, prints}
 use Rattle.rules.specs.Writing.{headerFor, blocksOf, writingOf, checkWritten, writeVerdict, writing, withSides, resettles}
 
@@ -63,24 +63,36 @@ pub record WriteHolds (most : Limits) (job : Job) (out : List ℕ) : Type 0 wher
 
 -- ---- the sides after a run, taken up again
 
--- the last pass of a job's run
-abbrev pub lastPass : Job → Pass
-lastPass job = lastOf (pass job (job .sides)) (run job)
+-- the job with the sides that its run leaves, where `try` says what moves a pass of a job tries
+abbrev pub resettledBy : (Job → List ℕ → List ℕ) → Job → Job
+resettledBy try job = withSides job (lastBy job (try job) .sidesAfter)
 
--- the job with the sides that its run leaves
+-- what is tried from these or those sides does not go by the job's own
+abbrev pub Sideless : (Job → List ℕ → List ℕ) → Job → Type 0
+Sideless try job = (sides : List ℕ) → try (withSides job sides) ≡ try job
+
+-- whoever chose the moves (Resettling `resettled-holds-by`, of a job that passes 1 to 10 and a `try` that is lawful and Sideless)
+pub record ResettledHoldsBy (try : Job → List ℕ → List ℕ) (most : Limits) (job : Job) : Type 0 where
+  -- it passes 1 to 10 again, so that it is never refused
+  pub accepted : checkJob most (resettledBy try job) ≡ done
+  -- it starts from the split that the run left: its cut before is the cut after, and so with |A|
+  pub cut : let new = resettledBy try job in passBy new (try new) (new .sides) .cutBefore ≡ lastBy job (try job) .cutAfter
+  pub size : let new = resettledBy try job in sizeA new (new .sides) ≡ lastBy job (try job) .sizeAfter
+  -- where the run settled, its own run is one pass, that one, which keeps no move and so leaves the sides as they are
+  pub settled : settles (lastBy job (try job)) ≡ true
+      → (let new = resettledBy try job in passes new (try new) ≡ lastBy job (try job) ∷ []) × (lastBy job (try job) .kept ≡ 0)
+  pub still : settles (lastBy job (try job)) ≡ true → resettledBy try (resettledBy try job) ≡ resettledBy try job
+
+-- edition 1: the last pass of a job's run, and the job with the sides that it leaves
+abbrev pub lastPass : Job → Pass
+lastPass job = lastBy job (tries job)
+
 abbrev pub resettled : Job → Job
-resettled job = withSides job (lastPass job .sidesAfter)
+resettled job = resettledBy tries job
 
 -- (Resettling `resettled-holds`, of a job that passes 1 to 10)
-pub record ResettledHolds (most : Limits) (job : Job) : Type 0 where
-  -- it passes 1 to 10 again, so that it is never refused
-  pub accepted : checkJob most (resettled job) ≡ done
-  -- it starts from the split that the run left: its cut before is the cut after, and so with |A|
-  pub cut : pass (resettled job) (resettled job .sides) .cutBefore ≡ lastPass job .cutAfter
-  pub size : sizeA (resettled job) (resettled job .sides) ≡ lastPass job .sizeAfter
-  -- where the run settled, its own run is one pass, that one, which keeps no move and so leaves the sides as they are
-  pub settled : settles (lastPass job) ≡ true → (run (resettled job) ≡ lastPass job ∷ []) × (lastPass job .kept ≡ 0)
-  pub still : settles (lastPass job) ≡ true → resettled (resettled job) ≡ resettled job
+abbrev pub ResettledHolds : Limits → Job → Type 0
+ResettledHolds most job = ResettledHoldsBy tries most job
 
 -- ---- the program `resettle`
 

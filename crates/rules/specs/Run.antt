@@ -8,9 +8,9 @@ use Rattle.rules.specs.declared.Verdict.{Verdict}
 use Rattle.rules.specs.declared.Figures.{Figures}
 use Rattle.rules.specs.declared.RunFigures.{RunFigures}
 use Rattle.rules.specs.Lists.{total}
-use Rattle.rules.specs.Job.{Job, Limits, recipes, Lent, fits}
+use Rattle.rules.specs.Job.{Job, Limits, recipes, Lent}
 use Rattle.rules.specs.Split.{cut}
-use Rattle.rules.specs.Check.{isDone, check}
+use Rattle.rules.specs.Check.{isDone, checkLent}
 use Rattle.rules.specs.Pass.{Pass, passOf, tries, pass, leaves}
 
 -- ---- the passes
@@ -19,11 +19,15 @@ use Rattle.rules.specs.Pass.{Pass, passOf, tries, pass, leaves}
 abbrev pub settles : Pass → Bool
 settles p = eqb (p .cutAfter) (p .cutBefore)
 
--- passes follow one another until one leaves the cut equal, at most n of them; `try` says what moves a pass tries
+-- whoever chooses: `try` says what moves a pass tries, and this is the pass from these sides
+abbrev pub passBy : Job → (List ℕ → List ℕ) → List ℕ → Pass
+passBy job try sides = passOf job sides (try sides)
+
+-- passes follow one another until one leaves the cut equal, at most n of them
 unfoldable pub passesBy : Job → (List ℕ → List ℕ) → ℕ → List ℕ → List Pass
 passesBy job try zero sides = []
 passesBy job try (suc n) sides =
-    let p = passOf job sides (try sides) in
+    let p = passBy job try sides in
     p ∷ elim (settles p) [ true ↦ [] | false ↦ passesBy job try n (p .sidesAfter) ]
 
 -- the cap; with none, each pass that goes on lessens the cut, so one more than the starting cut is enough
@@ -41,6 +45,10 @@ run job = passes job (tries job)
 unfoldable pub lastOf : Pass → List Pass → Pass
 lastOf first [] = first
 lastOf first (p ∷ ps) = lastOf p ps
+
+-- the last pass of a run
+abbrev pub lastBy : Job → (List ℕ → List ℕ) → Pass
+lastBy job try = lastOf (passBy job try (job .sides)) (passes job try)
 
 -- ---- the answers
 
@@ -105,13 +113,13 @@ unchanged job l a = record { answer = a; sides = job .sides; lent = l }
 -- a pass is a run of one
 unfoldable pub passEnds : Limits → Job → Lent → Ended Figures
 passEnds most job l =
-    let v = check most job (fits job l) in
+    let v = checkLent most job l in
     let p = pass job (job .sides) in
     elim (isDone v) [ true ↦ leftBy job l (figuresOf v p (p ∷ [])) p | false ↦ unchanged job l (noFigures v) ]
 
 unfoldable pub runEnds : Limits → Job → Lent → Ended RunFigures
 runEnds most job l =
-    let v = check most job (fits job l) in
+    let v = checkLent most job l in
     let first = pass job (job .sides) in
     elim (isDone v) [
       | true ↦ leftBy job l (runFiguresOf v first (run job)) (lastOf first (run job))

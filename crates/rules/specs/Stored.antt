@@ -9,7 +9,7 @@ use Rattle.rules.specs.declared.Header.{Header}
 use Rattle.rules.specs.declared.ReadFigures.{ReadFigures}
 use Rattle.rules.specs.Lists.{upTo, someBelow, onto}
 use Rattle.rules.specs.Job.{Job, Limits}
-use Rattle.rules.specs.Check.{done, isDone, refuseIf, _orElse_, badK, check1Of, check2Of, check4to6}
+use Rattle.rules.specs.Check.{isDone, Rows, none, _followedBy_, row, firstGiven, countRows, badK, contentRows}
 
 -- ---- the check of a block
 
@@ -87,7 +87,7 @@ valuesIn h b =
     (cond (ltb b (pinsAt h)) (heldIn 253 (h .recipes + 1) (b - boundsAt h))
     (heldIn 253 (h .pins) (b - pinsAt h))))
 
--- ---- a block's verdict: its check, then its layout
+-- ---- 21: a block's check is wrong; 22: its head or contents break the layout
 
 -- a file's second value, side + 2·mark, over 5
 abbrev pub overSecond : ℕ → Bool
@@ -108,16 +108,19 @@ badCheck block = not (eqb (word block 510) (blockCheck block))
 abbrev pub badLayout : Header → List ℕ → ℕ → Bool
 badLayout h block b = not (laidOut block b (kindOf h b) (valuesIn h b))
 
-unfoldable pub blockVerdict : Header → List ℕ → ℕ → Verdict
-blockVerdict h bytes b =
-    let block = blockAt bytes b in
-    refuseIf (badCheck block) 21 b
-    orElse refuseIf (badLayout h block b) 22 b
+abbrev pub blockRows : Header → List ℕ → ℕ → Rows
+blockRows h bytes b = row 21 (badCheck (blockAt bytes b)) b followedBy row 22 (badLayout h (blockAt bytes b) b) b
 
--- the first refusal of the n blocks from b on
+unfoldable pub blockVerdict : Header → List ℕ → ℕ → Verdict
+blockVerdict h bytes b = firstGiven (blockRows h bytes b)
+
+-- of the n blocks from b on
+unfoldable pub furtherRows : Header → List ℕ → ℕ → ℕ → Rows
+furtherRows h bytes b zero = none
+furtherRows h bytes b (suc n) = blockRows h bytes b followedBy furtherRows h bytes (suc b) n
+
 unfoldable pub blocksVerdict : Header → List ℕ → ℕ → ℕ → Verdict
-blocksVerdict h bytes b zero = done
-blocksVerdict h bytes b (suc n) = blockVerdict h bytes b orElse blocksVerdict h bytes (suc b) n
+blocksVerdict h bytes b n = firstGiven (furtherRows h bytes b n)
 
 -- ---- the job that is stored
 
@@ -155,6 +158,8 @@ roomy h r =
     leb (h .files) (length (r .sizes)) && leb (h .files) (length (r .sides)) && leb (h .files) (length (r .marks))
     && leb (h .recipes + 1) (length (r .bounds)) && leb (h .pins) (length (r .pins))
 
+-- ---- 20: stored job shorter or longer than it must be; and the order of reading
+
 abbrev pub underOne : List ℕ → Bool
 underOne bytes = ltb (length bytes) 512
 
@@ -164,21 +169,26 @@ wrongTotal h bytes = not (eqb (length bytes) (512 * blockCount h))
 
 -- under 512 bytes 20; block 0 check 21, layout 22, a seventh value that is no k 22; 1 and 2 from the header; 3 for a lent list too short;
 -- total length not as the header makes it 20; each further block, 21 then 22
-unfoldable pub layoutVerdict : Limits → List ℕ → Room → Verdict
-layoutVerdict most bytes room =
+abbrev pub layoutRows : Limits → List ℕ → Room → Rows
+layoutRows most bytes room =
     let h = headerOf bytes in
-    refuseIf (underOne bytes) 20 0
-    orElse blockVerdict h bytes 0
-    orElse refuseIf (badK (h .k)) 22 0
-    orElse check1Of (h .files) (h .recipes)
-    orElse check2Of most (h .files) (h .recipes) (h .pins)
-    orElse refuseIf (not (roomy h room)) 3 0
-    orElse refuseIf (wrongTotal h bytes) 20 0
-    orElse blocksVerdict h bytes 1 (blockCount h - 1)
+    row 20 (underOne bytes) 0
+    followedBy blockRows h bytes 0
+    followedBy row 22 (badK (h .k)) 0
+    followedBy countRows most (h .files) (h .recipes) (h .pins)
+    followedBy row 3 (not (roomy h room)) 0
+    followedBy row 20 (wrongTotal h bytes) 0
+    followedBy furtherRows h bytes 1 (blockCount h - 1)
 
--- reading stops after check 6; the run of the job adds 7 to 10
+unfoldable pub layoutVerdict : Limits → List ℕ → Room → Verdict
+layoutVerdict most bytes room = firstGiven (layoutRows most bytes room)
+
+-- then 4 to 6: reading stops after check 6; the run of the job adds 7 to 10
+abbrev pub readRows : Limits → List ℕ → Room → Rows
+readRows most bytes room = layoutRows most bytes room followedBy contentRows (jobOf bytes)
+
 unfoldable pub readVerdict : Limits → List ℕ → Room → Verdict
-readVerdict most bytes room = layoutVerdict most bytes room orElse check4to6 (jobOf bytes)
+readVerdict most bytes room = firstGiven (readRows most bytes room)
 
 -- what the reader answers and what its lists then hold: it writes the job's entries and no entry beyond
 pub record Reading : Type 0 where

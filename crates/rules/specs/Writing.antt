@@ -11,7 +11,7 @@ use Rattle.rules.specs.declared.Handed.{Handed}
 use Rattle.rules.specs.Lists.{upTo, inTurn, padded, onto}
 use Rattle.rules.specs.Job.{Job, Limits, fileCount, recipeCount, pinCount, bound, pin}
 use Rattle.rules.specs.Split.{sizeOf}
-use Rattle.rules.specs.Check.{isDone, refuseIf, _orElse_, badK, check1to6}
+use Rattle.rules.specs.Check.{isDone, refuseIf, _orElse_, Rows, _followedBy_, row, firstGiven, badK, soundRows}
 use Rattle.rules.specs.Stored.{blockCheck, boundsAt, pinsAt, blockCount, kindOf, valuesIn, jobOf, readVerdict}
 use Rattle.rules.specs.Report.{refusal, allRoom, allRun}
 
@@ -88,8 +88,11 @@ abbrev pub writingOf : Verdict → List ℕ → Writing
 writingOf v out = record { verdict = v; out = out }
 
 -- 1 to 6, and then 7 for k alone (order 6)
-abbrev pub checkWritten : Limits → Job → Bool → Verdict
-checkWritten most job lent = check1to6 most job lent orElse refuseIf (badK (job .k)) 7 0
+abbrev pub writtenRows : Limits → Job → Bool → Rows
+writtenRows most job lent = soundRows most job lent followedBy row 7 (badK (job .k)) 0
+
+unfoldable pub checkWritten : Limits → Job → Bool → Verdict
+checkWritten most job lent = firstGiven (writtenRows most job lent)
 
 -- an output list not exactly as long as the blocks is refused as 3
 abbrev pub writeVerdict : Limits → Job → List ℕ → Verdict

@@ -10,7 +10,7 @@ use lib.ListN.{length, length-map}
 use Rattle.rules.specs.Job.{Job, Limits, fileCount, recipeCount, recipes, Lent, lentOf, scratchFor, fits}
 use Rattle.rules.specs.Move.{start, scans, endsFrom}
 use Rattle.rules.specs.Pass.{gainsWhen, cutsAfter, passOf, tries, pass, leaves}
-use Rattle.rules.specs.Theorems.{Sound, Sides, MovesHold, Left}
+use Rattle.rules.specs.Theorems.{Sound, Sides, MovesHold, ScansHold, Left, PassHolds}
 use Rattle.rules.proofs.Entries.{listed-again}
 use Rattle.rules.proofs.Proved.{left, pass-holds}
 use Rattle.rules.proofs.Steps.{gains-length, cuts-length, ends-length}
@@ -18,21 +18,21 @@ use Rattle.rules.proofs.Fits.{long-enough}
 
 -- ---- the lists after two passes are the second's
 
-module _ (job : Job) (l : Lent) (x y ms ns : List ℕ) (a : MovesHold job x ms) (b : MovesHold job y ns) where
+module _ (job : Job) (l : Lent) (x y ms ns : List ℕ) (a : MovesHold job x ms) (c : ScansHold job x ms) (b : MovesHold job y ns) (d : ScansHold job y ns) where
   pub leaves-again : leaves job (leaves job l (passOf job x ms)) (passOf job y ns) ≡ leaves job l (passOf job y ns)
   unfolding leaves passOf
   leaves-again =
       let rs : List (List ℕ) = recipes job in
-      let c : ℕ = fileCount job in
+      let m : ℕ = fileCount job in
       let n : ℕ = 4 * recipeCount job in
-      let few : length ms ≤ c = a .few in
-      let few' : length ns ≤ c = b .few in
-      let tried = listed-again c 0 ms ns (l .tried) few few' in
-      let gained = listed-again c (pos 0) (gainsWhen rs (start job x) ms) (gainsWhen rs (start job y) ns) (l .gained) (rw gains-length few) (rw gains-length few') in
-      let cuts = listed-again c 0 (cutsAfter rs (start job x) ms) (cutsAfter rs (start job y) ns) (l .cuts) (rw cuts-length few) (rw cuts-length few') in
-      let ends = listed-again c 0 (endsFrom rs 0 (start job x) ms) (endsFrom rs 0 (start job y) ns) (l .ends) (rw ends-length few) (rw ends-length few') in
-      let recipes = listed-again n 0 (map (λ s. s .recipe) (scans rs (start job x) ms)) (map (λ s. s .recipe) (scans rs (start job y) ns)) (l .recipes) (rw length-map (a .scans)) (rw length-map (b .scans)) in
-      let kinds = listed-again n 0 (map (λ s. s .kind) (scans rs (start job x) ms)) (map (λ s. s .kind) (scans rs (start job y) ns)) (l .kinds) (rw length-map (a .scans)) (rw length-map (b .scans)) in
+      let few : length ms ≤ m = a .few in
+      let few' : length ns ≤ m = b .few in
+      let tried = listed-again m 0 ms ns (l .tried) few few' in
+      let gained = listed-again m (pos 0) (gainsWhen rs (start job x) ms) (gainsWhen rs (start job y) ns) (l .gained) (rw gains-length few) (rw gains-length few') in
+      let cuts = listed-again m 0 (cutsAfter rs (start job x) ms) (cutsAfter rs (start job y) ns) (l .cuts) (rw cuts-length few) (rw cuts-length few') in
+      let ends = listed-again m 0 (endsFrom rs 0 (start job x) ms) (endsFrom rs 0 (start job y) ns) (l .ends) (rw ends-length few) (rw ends-length few') in
+      let recipes = listed-again n 0 (map (λ s. s .recipe) (scans rs (start job x) ms)) (map (λ s. s .recipe) (scans rs (start job y) ns)) (l .recipes) (rw length-map (c .scans)) (rw length-map (d .scans)) in
+      let kinds = listed-again n 0 (map (λ s. s .kind) (scans rs (start job x) ms)) (map (λ s. s .kind) (scans rs (start job y) ns)) (l .kinds) (rw length-map (c .scans)) (rw length-map (d .scans)) in
       let scratch = listed-again (scratchFor job) 0 [] [] (l .scratch) (omega arith) (omega arith) in
       λ i. lentOf (passOf job y ns .gains) (tried i) (gained i) (cuts i) (ends i) (recipes i) (kinds i) (scratch i)
 
@@ -52,8 +52,9 @@ pub record Alike (job : Job) (l : Lent) (standing : List ℕ) (lent : Lent) : Ty
 pub leaves-alike : (most : Limits) (job : Job) → Sound most job → (l : Lent) → fits job l ≡ true → (before : List ℕ) → Sides job before
     → Alike job l (pass job before .sidesAfter) (leaves job l (pass job before))
 leaves-alike most job s l ok before w =
-    let m : MovesHold job before (tries job before) = pass-holds most job s before w .moves in
-    let v : Left job l (pass job before) = left most job s before (tries job before) l ok m in
+    let p : PassHolds job before = pass-holds most job s before w in
+    let m : MovesHold job before (tries job before) = p .any .moves in
+    let v : Left job l (pass job before) = left most job s before (tries job before) l ok m (p .scans) in
     record {
       sides = m .next .long ∙ sym (s .sidesLong);
       gains = ap length (v .gains) ∙ m .all ∙ sym (long-enough job l ok .gains);

@@ -97,8 +97,8 @@ module _ {most : Limits} {job : Job} (ok : Accepted most job) (l : Lent) where
 
   starts-next : (before : List ℕ) → Starts job before → Starts job (pass job before .sidesAfter)
   starts-next before w = record {
-    fit = pass-holds most job s before (w .fit) .moves .next;
-    balanced = rw (← pass-size job (tries job) before) (pass-holds most job s before (w .fit) .returns (w .balanced));
+    fit = pass-holds most job s before (w .fit) .any .moves .next;
+    balanced = rw (← pass-size job (tries job) before) (pass-holds most job s before (w .fit) .any .returns (w .balanced));
   }
 
   -- each pass is one from such sides
@@ -182,9 +182,11 @@ module _ {most : Limits} {job : Job} (ok : Accepted most job) (l : Lent) where
       let same : q ≡ p = ap (pass job) (r .standing) ∙ sym (pass-there j h) in
       let here : pass (withSides job sides) sides ≡ q = same-pass job sides sides in
       let b = came r in
+      let u = pass-holds most job s (b .0) (b .1 .fit) in
+      let v = pass-holds most job s sides (starts-there r .fit) in
       let left : leaves (withSides job sides) lent (pass (withSides job sides) sides) ≡ leaves job l q
       = same-leaves job sides lent (pass (withSides job sides) sides) ∙ ap₂ (leaves job) (r .lists ∙ ap (leaves job l) (b .2)) here
-      ∙ leaves-again job l (b .0) sides (tries job (b .0)) (tries job sides) (pass-holds most job s (b .0) (b .1 .fit) .moves) (pass-holds most job s sides (starts-there r .fit) .moves) in
+      ∙ leaves-again job l (b .0) sides (tries job (b .0)) (tries job sides) (u .any .moves) (u .scans) (v .any .moves) (v .scans) in
       let answer : f ≡ figuresOf done p (p ∷ []) = ap (λ (x : Ended Figures). x .answer) e ∙ ap (λ (x : Pass). figuresOf done x (x ∷ [])) (here ∙ same) in
       let last : lastAt job (suc (suc j)) ≡ p = last-is (suc j) h in
       record {
@@ -235,8 +237,9 @@ module _ {most : Limits} {job : Job} (ok : Accepted most job) (l : Lent) where
         (length (p .tried) ≤ 65536) × (p .kept ≤ 65536) × (length (p .scanned) ≤ 65536) × (p .visited ≤ 262144)
     one-small j h =
         let b = pass-at j h in
-        let x = pass-holds most job s (b .0) (b .1 .fit) .moves in
-        rw (b .2) (few-tried (b .0) (x .few), few-kept (b .0) (x .prefix) (x .few), omega (arith, x .scans, s .fewRecipes, narrow .recipes), omega (arith, x .visits, s .fewPins, narrow .pins))
+        let p = pass-holds most job s (b .0) (b .1 .fit) in
+        let x = p .any .moves in
+        rw (b .2) (few-tried (b .0) (x .few), few-kept (b .0) (x .prefix) (x .few), omega (arith, p .scans .scans, s .fewRecipes, narrow .recipes), omega (arith, p .scans .visits, s .fewPins, narrow .pins))
       where
         few-tried : (before : List ℕ) → length (tries job before) ≤ fileCount job → length (pass job before .tried) ≤ 65536
         few-tried before f = unfold passOf in omega (arith, s .fewFiles, narrow .files)

@@ -13,13 +13,13 @@ use Rattle.rules.specs.declared.Figures.{Figures}
 use Rattle.rules.specs.Lists.{bit, total, largest, upTo}
 use Rattle.rules.specs.Job.{Job, Limits, fileCount, files, isRead, Lent, lentOf, fits}
 use Rattle.rules.specs.Split.{sizeOf, isFree, weighs, unreadFiles, unreadRecipes, weight, smax, tolerance}
-use Rattle.rules.specs.Check.{check1to6, check}
+use Rattle.rules.specs.Check.{checkSound, check}
 use Rattle.rules.specs.Run.{endedOf, Ended, noFigures, passEnds}
 use Rattle.rules.specs.Theorems.{Sound}
 use Rattle.rules.proofs.Count.{bit-most, total-upTo, largest-upTo}
 use Rattle.rules.proofs.SoundJob.{sound}
 use Rattle.rules.proofs.Verdicts.{zero-of}
-use Rattle.rules.proofs.Proved.{lent-six, answers}
+use Rattle.rules.proofs.Proved.{lent-sound, answers}
 use Rattle.job.specs.Survey.{checkFor}
 use Rattle.job.specs.declared.figures.Survey.{Survey}
 use Rattle.tables.specs.LayingOut.{LaysOut}
@@ -93,11 +93,11 @@ module _ {balancing : Bool} {most : Limits} {job : Job} {l : Lent} {g : List ℤ
     begins-as e = e ∙ ap (λ (x : Survey). begun (x .size) (x .cut)) found
 
     -- it passed 1 to 6
-    six-done : check1to6 most job (fits job l) .number ≡ 0
-    six-done = let-through balancing most job (fits job l) (a .lays .answer) d
+    sound-done : checkSound most job (fits job l) .number ≡ 0
+    sound-done = let-through balancing most job (fits job l) (a .lays .answer) d
 
     sound-is : Sound most job
-    sound-is = sound most job (fits job l) six-done
+    sound-is = sound most job (fits job l) sound-done
 
     wide-is : (1 ≤ job .k) × (job .k ≤ 4)
     wide-is = wide-through balancing most job (fits job l) check-done
@@ -121,7 +121,7 @@ module _ {balancing : Bool} {most : Limits} {job : Job} {l : Lent} {g : List ℤ
         scans = omega (arith, sound-is .fewRecipes, a .narrow .recipes);
         weight = weight-small;
       };
-      fitting = lent-six most job (fits job l) six-done;
+      fitting = lent-sound most job (fits job l) sound-done;
       measured = record {
         den = ap (λ (w : Window). w .den) e;
         aim = ap (λ (w : Window). w .aim) e ∙ ap (λ (x : Survey). job .num * x .weight) found;

@@ -68,5 +68,6 @@ pub beyond-numbers : (job : Job) (x y : List ℕ)
     → drop (scratchFor job) x ≡ drop (scratchFor job) y
 beyond-numbers job x y e =
     let m : ℕ = countsAt (fileCount job) (pinCount job) + 4 * recipeCount job in
-    let n : m + 16 ≡ scratchFor job = omega arith in
-    ap (λ (i : ℕ). drop i x) (sym n) ∙ sym (drop-drop 16 m x) ∙ ap (drop 16) e ∙ drop-drop 16 m y ∙ ap (λ (i : ℕ). drop i y) n
+    let room : ℕ = 2 * fileCount job + 15 in
+    let n : m + room ≡ scratchFor job = omega arith in
+    ap (λ (i : ℕ). drop i x) (sym n) ∙ sym (drop-drop room m x) ∙ ap (drop room) e ∙ drop-drop room m y ∙ ap (λ (i : ℕ). drop i y) n

@@ -14,7 +14,7 @@ use Rattle.split.specs.declared.scan.Way.{Way}
 use Rattle.rules.proofs.GainKept.{scan-length}
 use Rattle.tables.proofs.Parts.{part-set-above}
 use Rattle.tables.specs.Zones.{part}
-use Rattle.split.specs.Scanning.{scannedBy, Scanned, scanned, scanIf, NearVisits, RoomFor, Fits, kindThere, countT, lockedT, countF, Treated, recount, treatOne, Treatable}
+use Rattle.split.specs.Scanning.{visitedBy, Scanned, scanned, scanIf, NearVisits, RoomFor, Fits, kindThere, countT, lockedT, countF, Treated, recount, treatOne, Treatable}
 use Rattle.split.proofs.ScanLaws.{scan-abs}
 
 -- ---- what comes later: lists as long, and no fewer scans and visits
@@ -62,7 +62,7 @@ pub record Scannable (x : Scanned) (n : ℕ) : Type 0 where
 
 module _ (st : State) (t j : ℕ) (r : List ℕ) (kind : ℕ) (x : Scanned) where
   abbrev scanMade : Scanned
-  scanMade = scanned (scanPins st t kind r (x .gains)) (set (x .recipes) (x .progress .scans) j) (set (x .kinds) (x .progress .scans) kind) (scannedBy (x .progress) (length r))
+  scanMade = scanned (scanPins st t kind r (x .gains)) (set (x .recipes) (x .progress .scans) j) (set (x .kinds) (x .progress .scans) kind) (visitedBy (x .progress) (length r))
 
   pub scan-none : kind ≡ 0 → scanIf st t j r kind x ≡ x
   unfolding scanIf
@@ -73,13 +73,13 @@ module _ (st : State) (t j : ℕ) (r : List ℕ) (kind : ℕ) (x : Scanned) wher
   scan-made n = rw (ne-eqb kind 0 n)
 
   -- the code's two steps: the gains scanned, and the record with one scan more
-  pub scan-done : {g : List ℤ} {p : Progress} → (kind ≡ 0 → ⊥) → g ≡ scanPins st t kind r (x .gains) → p ≡ scannedBy (x .progress) (length r)
+  pub scan-done : {g : List ℤ} {p : Progress} → (kind ≡ 0 → ⊥) → g ≡ scanPins st t kind r (x .gains) → p ≡ visitedBy (x .progress) (length r)
       → scanned g (set (x .recipes) (x .progress .scans) j) (set (x .kinds) (x .progress .scans) kind) p ≡ scanIf st t j r kind x
   scan-done n e f =
       ap₂ (λ (g : List ℤ) (p : Progress). scanned g (set (x .recipes) (x .progress .scans) j) (set (x .kinds) (x .progress .scans) kind) p) e f ∙ sym (scan-made n)
 
   pub scan-fits : (kind ≡ 0 → ⊥) → Fits (scanIf st t j r kind x) → Scannable x (length r)
-  unfolding scannedBy
+  unfolding visitedBy
   scan-fits n f =
       let m : Fits scanMade = subst Fits (scan-made n) f in
       record {
@@ -89,7 +89,7 @@ module _ (st : State) (t j : ℕ) (r : List ℕ) (kind : ℕ) (x : Scanned) wher
       }
 
   later-made : Later x scanMade
-  unfolding scannedBy
+  unfolding visitedBy
   later-made = record {
     gains = scan-length st t kind r (x .gains);
     recipes = length-set (x .recipes) (x .progress .scans) j;
@@ -99,7 +99,7 @@ module _ (st : State) (t j : ℕ) (r : List ℕ) (kind : ℕ) (x : Scanned) wher
   }
 
   near-made : GainsNear x → GainsNear scanMade
-  unfolding scannedBy
+  unfolding visitedBy
   near-made h = record { near = λ f. omega (arith, h .near f, scan-abs st t kind r (x .gains) f) }
 
   pub later-if : Later x (scanIf st t j r kind x)

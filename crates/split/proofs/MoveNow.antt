@@ -17,7 +17,7 @@ use Rattle.rules.proofs.SoundJob.{bound-le, view-length, view-below, recipe-at,
 use Rattle.rules.proofs.NeverFree.{read-short, unread-locked, scans-whole}
 use Rattle.rules.proofs.Steps.{scans-append}
 use Rattle.split.specs.declared.progress.Progress.{Progress}
-use Rattle.tables.specs.Zones.{cellsAt, endsAt, roomAt, countsAt, sideAt, part, stateIn, cellsOf, Counts}
+use Rattle.tables.specs.Zones.{cellsAt, countsAt, sideAt, part, stateIn, endIn, cellsOf, Counts}
 use Rattle.split.specs.Scanning.{Treated, treated, treatAll, Fits, Ready}
 use Rattle.choice.specs.Choosing.{sizeBy}
 use Rattle.tables.specs.Ending.{turned}
@@ -135,10 +135,10 @@ module _ {job : Job} {ms : List ℕ} (v : Line job ms) (small : Small job) {l : 
   map-more : (h : Scan → ℕ) → map h (scans rs (begins job) (made ms k)) ++ map h (scansOf rs st f) ≡ map h (scans rs (begins job) (made ms (suc k)))
   map-more h = sym (ap (map h) more ∙ map-append h (scans rs (begins job) (made ms k)) (scansOf rs st f))
 
-  below : (a m : ℕ) → cellsAt c ≤ a → a + m ≤ roomAt c p → part a m (treatMove (job .sizes) (job .bounds) (job .pins) f b .scratch) ≡ part a m z
+  below : (a m : ℕ) → cellsAt c ≤ a → a + m ≤ countsAt c p → part a m (treatMove (job .sizes) (job .bounds) (job .pins) f b .scratch) ≡ part a m z
   below a m l h = beside-part (did .beside) a m (omega arith) ∙ part-set-below a m z f 1 (omega (arith, x .below))
 
-  entry : (i : ℕ) → cellsAt c ≤ i → i < roomAt c p → getD (treatMove (job .sizes) (job .bounds) (job .pins) f b .scratch) i 0 ≡ getD z i 0
+  entry : (i : ℕ) → cellsAt c ≤ i → i < countsAt c p → getD (treatMove (job .sizes) (job .bounds) (job .pins) f b .scratch) i 0 ≡ getD z i 0
   entry i l h = beside-entry (did .beside) i (omega arith) ∙ getD-set-other z f i 1 0 (λ e. omega (arith, x .below))
 
   visits-more : (us vs : List Scan) → visits ws (us ++ vs) ≡ visits ws us + visits ws vs
@@ -208,7 +208,7 @@ module _ {job : Job} {ms : List ℕ} (v : Line job ms) (small : Small job) {l : 
 
   -- where the file's cells end
   abbrev until : ℕ
-  until = cellsAt c + getD z (endsAt c p + f) 0
+  until = cellsAt c + endIn c p z f
 
   ready : Ready (wayTo c n p (sideOf (turned (b .sides) f) f)) (viewOf (job .bounds) (job .pins)) until (cellsOf c p z f) locked
   ready =

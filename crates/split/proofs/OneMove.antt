@@ -16,7 +16,7 @@ use Rattle.rules.proofs.Machine.{wide-is}
 use Rattle.rules.proofs.Signed.{up, down, diff-eq, diff-pos}
 use Rattle.split.specs.declared.progress.Progress.{Progress}
 use Rattle.split.specs.declared.scan.Way.{Way}
-use Rattle.tables.specs.Zones.{startsAt, endsAt, part, stateOf, cellsOf}
+use Rattle.tables.specs.Zones.{part, stateOf, startIn, endIn, cellsOf}
 use Rattle.split.specs.Scanning.{NearVisits, Fits, Treated, treated, treatAll, Ready}
 use Rattle.tables.specs.Ending.{turned}
 use Rattle.split.specs.Moving.{shiftedTo, shiftOf, countedOn, cutBy, wayTo, Locked, Board, board, treatFrom, treatMove, moveOne}
@@ -68,7 +68,7 @@ module _ {sizes bounds pins : List ℕ} {f : ℕ} {sides : List ℕ} {y : Treate
   -- the lock lies below the cells
   cells : part a (e - a) locked ≡ cellsOf (length sizes) (length pins) (y .scratch) f
   cells =
-      let k : e - a ≡ getD (y .scratch) (endsAt (length sizes) (length pins) + f) 0 - getD (y .scratch) (startsAt (length sizes) (length pins) + f) 0
+      let k : e - a ≡ endIn (length sizes) (length pins) (y .scratch) f - startIn (length sizes) (length pins) (y .scratch) f
       = omega (arith, h .cells .first, h .cells .last) in
       part-set-below a (e - a) (y .scratch) f 1 (omega (arith, m .file, h .cells .first))
       ∙ ap₂ (λ (i n : ℕ). part i n (y .scratch)) (h .cells .first) k

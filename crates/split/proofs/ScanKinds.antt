@@ -14,7 +14,7 @@ use Rattle.rules.proofs.Count.{is0, is1}
 use Rattle.rules.proofs.Locked.{kindsBy, kinds-by}
 use Rattle.rules.proofs.OneMove.{Moves, left-count, left-locked}
 use Rattle.tables.specs.Zones.{countsAt, CountsOf}
-use Rattle.split.specs.Scanning.{Scanned, scanned, scannedBy, scanIf, kindBy, kindThere, kindLeft, countT, lockedT, countF, lockedF}
+use Rattle.split.specs.Scanning.{Scanned, scanned, visitedBy, scanIf, kindBy, kindThere, kindLeft, countT, lockedT, countF, lockedF}
 use Rattle.split.specs.Moving.{wayTo}
 use Rattle.split.proofs.Recount.{counts-seen}
 
@@ -39,7 +39,7 @@ module _ (k count locked : ℕ) where
 unfoldable pub scanOne : State → ℕ → ℕ → List ℕ → ℕ → Scanned → Scanned
 scanOne st t j r kind x =
     scanned (scanPins st t kind r (x .gains)) (set (x .recipes) (x .progress .scans) j) (set (x .kinds) (x .progress .scans) kind)
-    (scannedBy (x .progress) (length r))
+    (visitedBy (x .progress) (length r))
 
 -- scans, one after the other
 unfoldable pub scansBy {ℓ} : {A : Type ℓ} → (A → Scanned → Scanned) → List A → Scanned → Scanned

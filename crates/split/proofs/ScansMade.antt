@@ -11,7 +11,7 @@ use Rattle.rules.specs.Lists.{total, onto}
 use Rattle.rules.specs.Move.{State, Scan, scanAll, visits}
 use Rattle.rules.proofs.Entries.{onto-length}
 use Rattle.split.specs.declared.progress.Progress.{Progress}
-use Rattle.split.specs.Scanning.{Scanned, scannedBy}
+use Rattle.split.specs.Scanning.{Scanned, visitedBy}
 use Rattle.split.proofs.ScanKinds.{scanOne, scansBy}
 
 -- a listed scan of one of the recipes rs, in the state after the move to side t
@@ -55,7 +55,7 @@ module _ (rs : List (List ℕ)) (st : State) (t : ℕ) where
 
   pub progress-made : (cs : List Scan) (x : Scanned)
       → scansMade rs st t cs x .progress ≡ withScans (x .progress) (x .progress .scans + length cs) (x .progress .visits + visits rs cs)
-  unfolding scansBy scanOne scannedBy visits total
+  unfolding scansBy scanOne visitedBy visits total
   progress-made [] x = ap₂ (withScans (x .progress)) (sym (add-zero (x .progress .scans))) (sym (add-zero (x .progress .visits)))
   progress-made (c ∷ cs) x =
       let n : x .progress .scans + 1 + length cs ≡ x .progress .scans + length (c ∷ cs) = omega arith in
@@ -65,7 +65,7 @@ module _ (rs : List (List ℕ)) (st : State) (t : ℕ) where
   -- a list of x that each scan writes one entry to, where the scans so far end
   module _ (entry : Scan → ℕ) (list : Scanned → List ℕ) (writes : (c : Scan) (x : Scanned) → list (scanIn rs st t c x) ≡ set (list x) (x .progress .scans) (entry c)) where
     entries-set : (cs : List Scan) (x : Scanned) → list (scansMade rs st t cs x) ≡ sets (list x) (x .progress .scans) (map entry cs)
-    unfolding scansBy scanOne scannedBy
+    unfolding scansBy scanOne visitedBy
     entries-set [] x = refl
     entries-set (c ∷ cs) x = entries-set cs (scanIn rs st t c x) ∙ rw (writes c x, add-one)
 

@@ -13,8 +13,8 @@ use Rattle.split.proofs.balancing.balance.Kinds as balance-kinds
 use Rattle.split.proofs.balancing.balance.Reads as balance
 use Rattle.split.proofs.pass_once.Kinds as pass-kinds
 use Rattle.split.proofs.pass_once.Reads as pass
-use Rattle.split.proofs.checked.refused.Kinds as refused-kinds
-use Rattle.split.proofs.checked.refused.Reads as refused
+use Rattle.split.proofs.from_job.refused.Kinds as refused-kinds
+use Rattle.split.proofs.from_job.refused.Reads as refused
 
 -- the answer, the sides and the other lent lists; a run is lent the same
 abbrev pub leaves : {A : Type 0} (κs : Lfts 13) → A → AtExit (endedOf 13 pass-kinds.ps pass-kinds.r) κs → Ended A

@@ -8,7 +8,7 @@ use Rattle.rules.specs.Job.{viewOf}
 use Rattle.rules.specs.Split.{sideOf}
 use Rattle.rules.proofs.Signed.{up, down}
 use Rattle.split.specs.declared.progress.Progress.{Progress}
-use Rattle.tables.specs.Zones.{cellsAt, startsAt, endsAt, countsAt, cellsOf}
+use Rattle.tables.specs.Zones.{cellsAt, countsAt, startIn, endIn, cellsOf}
 use Rattle.split.specs.Scanning.{Treated, NearVisits, Fits, Ready}
 use Rattle.tables.specs.Ending.{turned}
 use Rattle.split.specs.Moving.{wayTo, treatFrom}
@@ -28,11 +28,11 @@ pub record Movable (sizes bounds pins : List ℕ) (f : ℕ) (sides : List ℕ) (
   pub scratchLong : countsAt (length sizes) (length pins) + 4 * (length bounds - 1) ≤ length (y .scratch)
   pub few : (length sizes < 65536) × (length bounds < 65536) × (length pins < 65536)
   -- the file's cells, and its recipes one after the other
-  pub order : getD (y .scratch) (startsAt (length sizes) (length pins) + f) 0 ≤ getD (y .scratch) (endsAt (length sizes) (length pins) + f) 0
-  pub inside : getD (y .scratch) (endsAt (length sizes) (length pins) + f) 0 ≤ length pins
+  pub order : startIn (length sizes) (length pins) (y .scratch) f ≤ endIn (length sizes) (length pins) (y .scratch) f
+  pub inside : endIn (length sizes) (length pins) (y .scratch) f ≤ length pins
   pub ready :
       Ready (wayTo (length sizes) (length bounds - 1) (length pins) (sideOf (turned sides f) f)) (viewOf bounds pins)
-      (cellsAt (length sizes) + getD (y .scratch) (endsAt (length sizes) (length pins) + f) 0) (cellsOf (length sizes) (length pins) (y .scratch) f) (set (y .scratch) f 1)
+      (cellsAt (length sizes) + endIn (length sizes) (length pins) (y .scratch) f) (cellsOf (length sizes) (length pins) (y .scratch) f) (set (y .scratch) f 1)
   pub room : NearVisits (y .scanned .gains) (y .scanned .progress .visits)
   pub fits : Fits (treatFrom sizes bounds pins f sides y .scanned)
   -- |A| and the cut after it

@@ -11,7 +11,7 @@ use Rattle.rules.specs.Split.{other, sideOf}
 use Rattle.rules.proofs.Signed.{up, down}
 use Rattle.split.specs.declared.progress.Progress.{Progress}
 use Rattle.split.specs.declared.scan.Way.{Way}
-use Rattle.tables.specs.Zones.{cellsAt, startsAt, endsAt, countsAt, sideAt, stateIn, cellsOf}
+use Rattle.tables.specs.Zones.{cellsAt, countsAt, sideAt, stateIn, startIn, endIn, cellsOf}
 use Rattle.split.specs.Scanning.{Treated, treated, treatAll}
 use Rattle.choice.specs.Choosing.{sizeBy}
 use Rattle.tables.specs.Ending.{turned}
@@ -81,8 +81,8 @@ board sides tried gained cuts ends scratch gains recipes kinds p = record {
 
 -- the file is locked, and its cells are told
 pub record Locked (c p f : ℕ) (z z' : List ℕ) (from to : ℕ) : Type 0 where
-  pub first : from ≡ cellsAt c + getD z (startsAt c p + f) 0
-  pub last : to ≡ cellsAt c + getD z (endsAt c p + f) 0
+  pub first : from ≡ cellsAt c + startIn c p z f
+  pub last : to ≡ cellsAt c + endIn c p z f
   pub held : z' ≡ set z f 1
 
 -- |A| and the cut after the move of f

@@ -19,8 +19,8 @@ abbrev pub shiftedBy : ℤ → ℕ → ℕ → ℕ → ℕ → ℕ → ℤ
 shiftedBy g lock side there left kind = cond (eqb lock 0 && reaches (eqb side there) (eqb side left) kind) (g +ℤ change kind) g
 
 -- one scan more, of a recipe with this many files
-unfoldable pub scannedBy : Progress → ℕ → Progress
-scannedBy p len = record {
+unfoldable pub visitedBy : Progress → ℕ → Progress
+visitedBy p len = record {
   size = p .size;
   cut = p .cut;
   moves = p .moves;
@@ -46,7 +46,7 @@ unfoldable pub scanIf : State → ℕ → ℕ → List ℕ → ℕ → Scanned �
 scanIf st t j r kind x =
     cond (eqb kind 0) x
     (scanned (scanPins st t kind r (x .gains)) (set (x .recipes) (x .progress .scans) j) (set (x .kinds) (x .progress .scans) kind)
-    (scannedBy (x .progress) (length r)))
+    (visitedBy (x .progress) (length r)))
 
 -- the gains are within the visits made and some more, so a scan's changes fit
 pub record NearVisits (gains : List ℤ) (visits : ℕ) : Type 0 where

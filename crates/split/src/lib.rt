@@ -1,15 +1,15 @@
 // One pass, and the balancing that makes a start for it.
 mod balancing;
-mod checked;
+mod from_job;
 mod moves;
 mod progress;
 mod scan;
 
 pub use balancing::balance;
-use checked::extent_of;
-pub use checked::refused;
-use checked::window_of;
 use choice::choose;
+use from_job::extent_of;
+pub use from_job::refused;
+use from_job::window_of;
 use job::Job;
 use moves::treat_move;
 use progress::Progress;

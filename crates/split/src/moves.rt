@@ -8,7 +8,7 @@ ghost use Rattle.split.specs.Scanning.{treated};
 ghost use Rattle.tables.specs.Ending.{turned};
 ghost use Rattle.split.specs.Moving.{cutBy, wayTo, Locked, shiftOf, treatFrom};
 ghost use Rattle.split.specs.Movable.{Shiftable, Movable};
-use super::checked::extent_of;
+use super::from_job::extent_of;
 use super::progress::Progress;
 use super::scan::Way;
 use super::scan::treat_all;
@@ -55,7 +55,7 @@ fn lock(scratch: &mut [u16], extent: Extent, f: usize) -> Span
 {
     let zones = zones_of(extent);
     let from = zones.cells + wide(scratch[zones.starts + f]);
-    let to = zones.cells + wide(scratch[zones.ends + f]);
+    let to = zones.cells + wide(scratch[zones.starts + f + 1]);
     scratch[f] = 1;
     Span { from, to }
 }

@@ -2,7 +2,7 @@
 // `best` moves are the shortest prefix of least cut so far, `least` is its cut and `atbest` its |A|.
 ghost use mathlib.Core.Path.{_≡_};
 ghost use Prim.Native.Nat.{_+_, _<_, _^_};
-ghost use Rattle.split.specs.Scanning.{scannedBy};
+ghost use Rattle.split.specs.Scanning.{visitedBy};
 ghost use Rattle.split.specs.Moving.{begun, shiftedTo, countedOn};
 ghost use Rattle.split.specs.Playing.{figuresFrom, balancedFrom};
 use rules::BalanceFigures;
@@ -45,10 +45,10 @@ impl Progress {
         self
     }
 
-    // One scan more.
-    pub fn scanned(mut self, len: usize) -> Self
+    // One scan more, which visits so many files.
+    pub fn visited(mut self, len: usize) -> Self
         requires { ⌜ (self .scans < 2 ^ 63) × (self .visits + len < 2 ^ 63) ⌝ }
-        ensures { λ r. ⌜ r ≡ scannedBy self len ⌝ }
+        ensures { λ r. ⌜ r ≡ visitedBy self len ⌝ }
     {
         self.scans += 1;
         self.visits += len as u64;

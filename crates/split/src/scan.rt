@@ -7,7 +7,7 @@ ghost use Rattle.rules.specs.Job.{viewOf};
 ghost use Rattle.rules.specs.Move.{scanPins};
 ghost use Rattle.rules.proofs.Signed.{abs};
 ghost use Rattle.tables.specs.Zones.{part, stateOf};
-ghost use Rattle.split.specs.Scanning.{shiftedBy, RoomFor, NearVisits, Fits, scanned, scanIf, kindThere, kindLeft, kindsNow, recount, treated, treatAll, Countable, Ready};
+ghost use Rattle.split.specs.Scanning.{shiftedBy, RoomFor, NearVisits, Fits, scanned, scanIf, kindBy, kindsNow, recount, treated, treatAll, Countable, Ready};
 use super::progress::Progress;
 use job::wide;
 
@@ -90,39 +90,24 @@ fn scan_if(
     recipes[at] = j;
     kinds[at] = kind;
     scan_pins(gains, sides, scratch, pins, way, kind);
-    p.scanned(pins.len())
+    p.visited(pins.len())
 }
 
-// Kind 1: T is 0. Kind 2: T is 1 and that file is free.
-fn kind_there(t: u16, locked: u16) -> u16
-    ensures { λ r. ⌜ r ≡ kindThere t locked ⌝ }
+// By a count of files: the first kind where there is none, the next where there is one and it is free, else 0. Kinds 1 and 2 go by T, 3 and 4 by F.
+fn kind_by(first: u16, count: u16, locked: u16) -> u16
+    requires { ⌜ first < 65535 ⌝ }
+    ensures { λ r. ⌜ r ≡ kindBy first count locked ⌝ }
 {
-    if t == 0 {
-        return 1;
+    if count == 0 {
+        return first;
     }
-    if t != 1 {
+    if count != 1 {
         return 0;
     }
     if locked != 0 {
         return 0;
     }
-    2
-}
-
-// Kind 3: F is 0. Kind 4: F is 1 and that file is free.
-fn kind_left(f: u16, held: u16) -> u16
-    ensures { λ r. ⌜ r ≡ kindLeft f held ⌝ }
-{
-    if f == 0 {
-        return 3;
-    }
-    if f != 1 {
-        return 0;
-    }
-    if held != 0 {
-        return 0;
-    }
-    4
+    first + 1
 }
 
 // The kinds of recipe j's scans by its counts; then the moved file leaves one side and joins the other, locked.
@@ -138,10 +123,12 @@ fn recount_one(scratch: &mut [u16], j: u16, way: Way) -> Kinds
     let f = scratch[left] - 1;
     let t = scratch[there];
     let l = scratch[locked];
-    let first = kind_there(t, l);
-    let second = kind_left(f, scratch[staying]);
+    let held = scratch[staying];
+    let joined = t + 1;
+    let first = kind_by(1, t, l);
+    let second = kind_by(3, f, held);
     scratch[left] = f;
-    scratch[there] = t + 1;
+    scratch[there] = joined;
     scratch[locked] = l + 1;
     Kinds { first, second }
 }

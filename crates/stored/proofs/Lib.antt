@@ -1,4 +1,5 @@
 pub mod Blocks
 pub mod Filled
 pub mod Readings
+pub mod JobTaken
 pub mod Unique

@@ -15,12 +15,13 @@ use Rattle.rules.specs.declared.Header.{Header}
 use Rattle.rules.specs.declared.ReadFigures.{ReadFigures}
 use Rattle.rules.specs.Lists.{onto}
 use Rattle.rules.specs.Job.{Job, Limits}
-use Rattle.rules.specs.Check.{refuseIf, _orElse_, badK, check1Of, check2Of, check4to6, «measure»}
+use Rattle.rules.specs.Check.{refuseIf, _orElse_, badK, checkCounts, checkContents, «measure»}
 use Rattle.rules.specs.Report.{allRoom}
 use Rattle.rules.specs.Stored.{Room, Reading, blockAt, headerOf, headerValues, boundsAt, pinsAt, blockCount, roomy, jobOf, blockVerdict, blocksVerdict, layoutVerdict, readVerdict, written, noHeader, reading}
 use Rattle.rules.proofs.Tests.{and-yes, not-no}
-use Rattle.rules.proofs.Verdicts.{or-assoc, or-three, chain-stop, chain-go, refuse-stop, refuse-go, zero-of, passes-both, not-refused, measure-verdict, first-three}
-use Rattle.rules.proofs.SoundJob.{ok1-of, ok2-of}
+use Rattle.rules.proofs.Verdicts.{or-assoc, or-three, chain-stop, chain-go, refuse-stop, refuse-go, zero-of, passes-both, not-refused, measure-verdict, sound-contents}
+use Rattle.rules.proofs.SoundJob.{some-of, few-of, counts-pass}
+use Rattle.rules.proofs.Refusals.{layout-chain, read-chain}
 use Rattle.rules.proofs.Blocks.{blocks-split}
 use Rattle.rules.proofs.Entries.{onto-take, onto-least}
 use Rattle.rules.proofs.Reading.{read-files, read-sides, read-marks, read-bounds, read-pins, read-holds, reading-verdict}
@@ -40,24 +41,24 @@ module _ (most : Limits) (bytes : List ℕ) (room : Room) where
   length-verdict = refuseIf (not (eqb (length bytes) (512 * blockCount (headerOf bytes)))) 20 0
 
   -- block 0 and its header, each further block, then 4 to 6
-  pub by-stages : (openingVerdict most bytes room orElse blocks-past orElse check4to6 (jobOf bytes)) ≡ readVerdict most bytes room
-  unfolding readVerdict layoutVerdict openingVerdict
+  pub by-stages : (openingVerdict most bytes room orElse blocks-past orElse checkContents (jobOf bytes)) ≡ readVerdict most bytes room
+  unfolding openingVerdict
   by-stages =
       let h : Header = headerOf bytes in
       let a : Verdict = refuseIf (ltb (length bytes) 512) 20 0 in
       let b : Verdict = blockVerdict h bytes 0 in
       let w : Verdict = refuseIf (badK (h .k)) 22 0 in
-      let c : Verdict = check1Of (h .files) (h .recipes) in
-      let d : Verdict = check2Of most (h .files) (h .recipes) (h .pins) in
+      let c : Verdict = checkCounts most (h .files) (h .recipes) (h .pins) in
       let e : Verdict = refuseIf (not (roomy h room)) 3 0 in
       let f : Verdict = figuresVerdict most h room in
-      sym (or-assoc (openingVerdict most bytes room) blocks-past (check4to6 (jobOf bytes)))
-      ∙ ap (λ (v : Verdict). v orElse check4to6 (jobOf bytes))
+      sym (or-assoc (openingVerdict most bytes room) blocks-past (checkContents (jobOf bytes)))
+      ∙ ap (λ (v : Verdict). v orElse checkContents (jobOf bytes))
       (or-three a b (f orElse length-verdict) blocks-past
       ∙ ap (λ (v : Verdict). a orElse b orElse v)
       (or-assoc f length-verdict blocks-past
-      ∙ or-assoc w (c orElse d orElse e) (length-verdict orElse blocks-past)
-      ∙ ap (λ (v : Verdict). w orElse v) (or-three c d e (length-verdict orElse blocks-past))))
+      ∙ or-three w c e (length-verdict orElse blocks-past))
+      ∙ sym (layout-chain most bytes room))
+      ∙ sym (read-chain most bytes room)
 
   pub opening-tells : openingVerdict most bytes room .number ≡ 0 → (length bytes ≡ 512 * blockCount (headerOf bytes)) × Allowed most (headerOf bytes)
   unfolding openingVerdict
@@ -67,10 +68,9 @@ module _ (most : Limits) (bytes : List ℕ) (room : Room) where
       let b = passes-both (blockVerdict h bytes 0) _ (a .1) in
       let c = passes-both (figuresVerdict most h room) length-verdict (b .1) in
       let w = passes-both (refuseIf (badK (h .k)) 22 0) _ (c .0) in
-      let d = passes-both (check1Of (h .files) (h .recipes)) _ (w .1) in
-      let e = passes-both (check2Of most (h .files) (h .recipes) (h .pins)) _ (d .1) in
-      let some = ok1-of (h .files) (h .recipes) (d .0) in
-      let few = ok2-of most (h .files) (h .recipes) (h .pins) (e .0) in (
+      let d = counts-pass most (h .files) (h .recipes) (h .pins) (passes-both (checkCounts most (h .files) (h .recipes) (h .pins)) _ (w .1) .0) in
+      let some = some-of (h .files) (h .recipes) (d .0) in
+      let few = few-of most (h .files) (h .recipes) (h .pins) (d .1) in (
         eqb-true (length bytes) (512 * blockCount h) (not-no _ (not-refused _ 19 0 (c .1))),
         record { some-files = some .0; some-recipes = some .1; few-files = few .0; few-recipes = few .1; few-pins = few .2 },
       )
@@ -158,7 +158,7 @@ module _ {most : Limits} {h : Header} (c : Allowed most h) where
   }
 
   -- its job passes 1 to 3
-  pub own-verdict : {r : Room} {m : Measure} → Ample (h .files) (h .recipes) (h .pins) r → m ≡ «measure» most (firstOf h r) → m .verdict ≡ check4to6 (firstOf h r)
+  pub own-verdict : {r : Room} {m : Measure} → Ample (h .files) (h .recipes) (h .pins) r → m ≡ «measure» most (firstOf h r) → m .verdict ≡ checkContents (firstOf h r)
   own-verdict {r} w q =
       let sizes = length-take-le (h .files) (r .sizes) (w .sizes) in
       let sides = length-take-le (h .files) (r .sides) (w .sides) in
@@ -166,7 +166,7 @@ module _ {most : Limits} {h : Header} (c : Allowed most h) where
       let bounds = length-take-le (h .recipes + 1) (r .bounds) (w .bounds) in
       let pins = length-take-le (h .pins) (r .pins) (w .pins) in
       ap (λ (x : Measure). x .verdict) q ∙ measure-verdict most (firstOf h r)
-      ∙ first-three most (firstOf h r)
+      ∙ sound-contents most (firstOf h r)
       (omega (arith, sizes, c .some-files)) (omega (arith, bounds, c .some-recipes)) (omega (arith, sizes, c .few-files))
       (omega (arith, bounds, c .few-recipes)) (omega (arith, pins, c .few-pins))
       (sides ∙ sym sizes) (marks ∙ sym sizes)
@@ -243,7 +243,7 @@ module _ (most : Limits) (bytes : List ℕ) (room : Room) where
   stopped-opening e n =
       let v : Verdict = openingVerdict most bytes room in
       let k : v .number ≡ 0 → ⊥ = λ z. n (zero-of (sym (answer-verdict v (headerOf bytes) e)) z) in
-      e ∙ answer-no v (headerOf bytes) k ∙ refused-by (headerOf bytes) (chain-stop (blocks-past most bytes room orElse check4to6 (jobOf bytes)) refl k ∙ by-stages most bytes room) k ∙ by-answer
+      e ∙ answer-no v (headerOf bytes) k ∙ refused-by (headerOf bytes) (chain-stop (blocks-past most bytes room orElse checkContents (jobOf bytes)) refl k ∙ by-stages most bytes room) k ∙ by-answer
 
   module _ {o : ReadFigures} (e : o ≡ answerBy (openingVerdict most bytes room) (headerOf bytes)) (z : o .verdict .number ≡ 0) where
     pub opened-header : o .header ≡ headerOf bytes
@@ -252,7 +252,7 @@ module _ (most : Limits) (bytes : List ℕ) (room : Room) where
     pub opened-tells : (length bytes ≡ 512 * blockCount (o .header)) × Allowed most (o .header)
     opened-tells = rw opened-header (opening-tells most bytes room (zero-of (answer-verdict (openingVerdict most bytes room) (headerOf bytes) e) z))
 
-    past : {v : Verdict} → v ≡ (blocks-past most bytes room orElse check4to6 (jobOf bytes)) → v ≡ readVerdict most bytes room
+    past : {v : Verdict} → v ≡ (blocks-past most bytes room orElse checkContents (jobOf bytes)) → v ≡ readVerdict most bytes room
     past w = chain-go (answer-verdict (openingVerdict most bytes room) (headerOf bytes) e) z w ∙ by-stages most bytes room
 
     module _ {v : Verdict} (f : v ≡ blocksVerdict (o .header) bytes 1 (blockCount (o .header) - 1)) where
@@ -260,9 +260,9 @@ module _ (most : Limits) (bytes : List ℕ) (room : Room) where
       blocks-of = rw opened-header at f
 
       pub stopped-further : {r : ReadFigures} → (v .number ≡ 0 → ⊥) → r ≡ readFigures v noHeader → r ≡ reading most bytes room .answer
-      stopped-further n q = q ∙ refused-by (headerOf bytes) (past (chain-stop (check4to6 (jobOf bytes)) blocks-of n)) n ∙ by-answer
+      stopped-further n q = q ∙ refused-by (headerOf bytes) (past (chain-stop (checkContents (jobOf bytes)) blocks-of n)) n ∙ by-answer
 
-      pub all-taken : {r : ReadFigures} {s : Verdict} {own : Room} → v .number ≡ 0 → Gathered bytes (o .header) own → s ≡ check4to6 (firstOf (o .header) own) → r ≡ answerBy s (o .header)
+      pub all-taken : {r : ReadFigures} {s : Verdict} {own : Room} → v .number ≡ 0 → Gathered bytes (o .header) own → s ≡ checkContents (firstOf (o .header) own) → r ≡ answerBy s (o .header)
           → r ≡ reading most bytes room .answer
       all-taken y g c q =
           let k = past (chain-go blocks-of y (rw (g .job) at c)) in
@@ -274,7 +274,7 @@ abbrev lengthsOf : Room → Lengths
 lengthsOf r = record { sizes = length (r .sizes); sides = length (r .sides); marks = length (r .marks); bounds = length (r .bounds); pins = length (r .pins) }
 
 by-length : (most : Limits) (bytes : List ℕ) (room : Room) → readVerdict most bytes (roomLong (lengthsOf room)) ≡ readVerdict most bytes room
-unfolding readVerdict layoutVerdict
+unfolding readVerdict
 by-length most bytes room = simp length-replicate
 
 module _ (most : Limits) (bytes : List ℕ) (room : Room) {r : ReadFigures} (e : r ≡ reading most bytes (roomLong (lengthsOf room)) .answer) where

@@ -8,9 +8,12 @@ use lib.Dec.{leb, ltb, eqb}
 use Rattle.rules.specs.declared.Verdict.{Verdict}
 use Rattle.rules.specs.declared.Header.{Header}
 use Rattle.rules.specs.declared.ReadFigures.{ReadFigures}
+use Rattle.job.specs.declared.Job.{Job as Figures}
 use Rattle.rules.specs.Job.{Job, Limits, asJob}
-use Rattle.rules.specs.Check.{isDone, refuseIf, _orElse_, badK, check1Of, check2Of}
+use Rattle.rules.specs.Check.{isDone, refuseIf, _orElse_, badK, checkCounts}
 use Rattle.rules.specs.Stored.{Room, word, valueIn, value, headerOf, blockCheck, overSecond, laidOut, blockCount, blockVerdict, jobOf, roomy, noHeader}
+use Rattle.stored.specs.declared.TakenUp.{TakenUp}
+use Rattle.stored.specs.Room.{listsOf}
 
 -- value v is beyond the n that the block has, and is not zero
 abbrev pub leftOver : List ℕ → ℕ → ℕ → Bool
@@ -88,8 +91,7 @@ pub record TakenFiles (bytes : List ℕ) (n : ℕ) (old new : Files) : Type 0 wh
 abbrev pub figuresVerdict : Limits → Header → Room → Verdict
 figuresVerdict most h room =
     refuseIf (badK (h .k)) 22 0
-    orElse check1Of (h .files) (h .recipes)
-    orElse check2Of most (h .files) (h .recipes) (h .pins)
+    orElse checkCounts most (h .files) (h .recipes) (h .pins)
     orElse refuseIf (not (roomy h room)) 3 0
 
 -- block 0 and what follows from its header, in the order of layoutVerdict
@@ -117,6 +119,10 @@ pub record Ample (c n p : ℕ) (r : Room) : Type 0 where
   pub bounds : n + 1 ≤ length (r .bounds)
   pub pins : p ≤ length (r .pins)
 
+-- the figures that a stored job's header has
+abbrev pub figuresIn : Header → Figures
+figuresIn h = record { num = h .num; den = h .den; cap = h .cap; k = h .k }
+
 -- the job of the first entries
 abbrev pub firstOf : Header → Room → Job
 firstOf h r =
@@ -127,6 +133,16 @@ firstOf h r =
 pub record Gathered (bytes : List ℕ) (h : Header) (r : Room) : Type 0 where
   pub enough : Ample (h .files) (h .recipes) (h .pins) r
   pub job : firstOf h r ≡ jobOf bytes
+
+-- the job that was taken up, and that there is one, within the limits
+abbrev pub jobTaken : TakenUp → Job
+jobTaken t = firstOf (t .read .header) (listsOf t)
+
+pub record Held (most : Limits) (t : TakenUp) : Type 0 where
+  pub enough : Ample (t .read .header .files) (t .read .header .recipes) (t .read .header .pins) (listsOf t)
+  pub fewFiles : t .read .header .files ≤ most .files
+  pub fewRecipes : t .read .header .recipes ≤ most .recipes
+  pub fewPins : t .read .header .pins ≤ most .pins
 
 abbrev pub readFigures : Verdict → Header → ReadFigures
 readFigures v h = record { verdict = v; header = h }

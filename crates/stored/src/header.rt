@@ -8,8 +8,7 @@ use crate::block::block_at;
 use crate::block::block_verdict;
 use job::Job;
 use job::bad_k;
-use job::check1;
-use job::check2;
+use job::check_counts;
 use job::or_else;
 use job::refuse_if;
 use layout::block_count;
@@ -93,15 +92,14 @@ fn figures_verdict(h: Header, lent: Lengths) -> Verdict
     let recipes = h.recipes as usize;
     let pins = h.pins as usize;
     let wrong = refuse_if(bad_k(h.k), 22, 0);
-    let none = check1(files, recipes);
-    let over = check2(files, recipes, pins);
+    let counts = check_counts(files, recipes, pins);
     let roomy = (files <= lent.sizes)
         & (files <= lent.sides)
         & (files <= lent.marks)
         & (recipes + 1 <= lent.bounds)
         & (pins <= lent.pins);
     let short = refuse_if(!roomy, 3, 0);
-    or_else(wrong, or_else(none, or_else(over, short)))
+    or_else(wrong, or_else(counts, short))
 }
 
 // Block 0, filled, checked and then taken apart; its k is looked at first, since the count of its values goes by it. Then k, 1 to 3 and the total length by its header.

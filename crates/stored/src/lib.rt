@@ -5,10 +5,10 @@ mod header;
 
 ghost use mathlib.Core.Path.{_≡_};
 ghost use Rattle.rules.specs.Job.{limitsOf};
-ghost use Rattle.rules.specs.Check.{check4to6};
+ghost use Rattle.rules.specs.Check.{checkContents};
 ghost use Rattle.rules.specs.Stored.{reading};
-ghost use Rattle.stored.specs.Room.{roomOf, roomLong};
-ghost use Rattle.stored.specs.Steps.{Allowed, Ample, Gathered, firstOf};
+ghost use Rattle.stored.specs.Room.{roomOf, roomLong, takingUp, listsOf};
+ghost use Rattle.stored.specs.Steps.{figuresIn, Allowed, Ample, Gathered, firstOf};
 use entries::hand_over;
 use entries::take_blocks;
 use header::Lengths;
@@ -19,6 +19,23 @@ use job::Job;
 use rules::Header;
 use rules::ReadFigures;
 use rules::Verdict;
+
+// A stored job that was taken up: what reading answers, and lists that are never too short, with the job in their first entries.
+pub struct TakenUp {
+    pub read: ReadFigures,
+    pub sizes: [u16; Job::MOST_FILES],
+    pub sides: [u16; Job::MOST_FILES],
+    pub marks: [u16; Job::MOST_FILES],
+    pub bounds: [u16; Job::MOST_RECIPES + 1],
+    pub pins: [u16; Job::MOST_PINS],
+}
+
+// The figures of a stored job.
+pub fn figures_of(h: Header) -> Job
+    ensures { λ r. ⌜ r ≡ figuresIn h ⌝ }
+{
+    Job::new(h.num, h.den, h.cap, h.k)
+}
 
 // 4 to 6, of the job in the first entries of the lists.
 fn sound_verdict(
@@ -31,9 +48,9 @@ fn sound_verdict(
 ) -> Verdict
     requires { do ⌜ Allowed (limitsOf (← ⟦Job::MOST_FILES⟧) (← ⟦Job::MOST_RECIPES⟧) (← ⟦Job::MOST_PINS⟧) (← ⟦Job::MOST_DEN⟧)) h ⌝ }
     requires { ⌜ Ample (h .files) (h .recipes) (h .pins) (roomOf (now sizes) (now sides) (now marks) (now bounds) (now pins)) ⌝ }
-    ensures { λ r. ⌜ r ≡ check4to6 (firstOf h (roomOf (now (sizes .entry)) (now (sides .entry)) (now (marks .entry)) (now (bounds .entry)) (now (pins .entry)))) ⌝ }
+    ensures { λ r. ⌜ r ≡ checkContents (firstOf h (roomOf (now (sizes .entry)) (now (sides .entry)) (now (marks .entry)) (now (bounds .entry)) (now (pins .entry)))) ⌝ }
 {
-    let figures = Job::new(h.num, h.den, h.cap, h.k);
+    let figures = figures_of(h);
     let c = h.files as usize;
     let n = h.recipes as usize + 1;
     let p = h.pins as usize;
@@ -123,4 +140,32 @@ pub fn read(
     hand_over(&own_bounds, n_bounds, bounds);
     hand_over(&own_pins, p, pins);
     figures
+}
+
+// A stored job, read into lists of its own: the answer and the lists are those of the reading, for every input.
+pub fn take_up(bytes: &[u8]) -> TakenUp
+    ensures { λ r. do ⌜ r .read ≡ takingUp (limitsOf (← ⟦Job::MOST_FILES⟧ .entry) (← ⟦Job::MOST_RECIPES⟧ .entry) (← ⟦Job::MOST_PINS⟧ .entry) (← ⟦Job::MOST_DEN⟧ .entry)) (now (bytes .entry)) .answer ⌝ }
+    ensures { λ r. do ⌜ listsOf r ≡ takingUp (limitsOf (← ⟦Job::MOST_FILES⟧ .entry) (← ⟦Job::MOST_RECIPES⟧ .entry) (← ⟦Job::MOST_PINS⟧ .entry) (← ⟦Job::MOST_DEN⟧ .entry)) (now (bytes .entry)) .room ⌝ }
+{
+    let mut sizes = [0u16; Job::MOST_FILES];
+    let mut sides = [0u16; Job::MOST_FILES];
+    let mut marks = [0u16; Job::MOST_FILES];
+    let mut bounds = [0u16; Job::MOST_RECIPES + 1];
+    let mut pins = [0u16; Job::MOST_PINS];
+    let answer = read(
+        bytes,
+        &mut sizes,
+        &mut sides,
+        &mut marks,
+        &mut bounds,
+        &mut pins,
+    );
+    TakenUp {
+        read: answer,
+        sizes,
+        sides,
+        marks,
+        bounds,
+        pins,
+    }
 }

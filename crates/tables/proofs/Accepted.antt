@@ -11,16 +11,16 @@ use borrow.Author.Tests.{eq-eqb, ne-eqb}
 use Rattle.rules.specs.declared.Verdict.{Verdict}
 use Rattle.rules.specs.Job.{Job, Limits, fileCount, recipeCount, pinCount, views, recipes, Lent, lentOf, fits}
 use Rattle.rules.specs.Split.{weight, tolerance, cut, sizeA, unreadFiles, unreadRecipes}
-use Rattle.rules.specs.Check.{_orElse_, check1to6, check7and8and10}
+use Rattle.rules.specs.Check.{_orElse_, checkSound, checkGoal}
 use Rattle.rules.specs.Theorems.{Binary, Sound}
 use Rattle.rules.proofs.Fits.{LongEnough, long-enough}
-use Rattle.rules.proofs.SoundJob.{ok7, ok-before, sound, views-distinct}
+use Rattle.rules.proofs.SoundJob.{ratio-pass, goal-pass, sound, views-distinct}
 use Rattle.rules.proofs.Verdicts.{zero-of, passes-both}
-use Rattle.rules.proofs.Proved.{lent-six}
+use Rattle.rules.proofs.Proved.{lent-sound}
 use Rattle.job.specs.declared.figures.Survey.{Survey}
 use Rattle.job.specs.Survey.{checkFor, surveyOf}
-use Rattle.job.specs.Totals.{nineFor}
-use Rattle.job.proofs.Whole.{nine-last}
+use Rattle.job.specs.Totals.{startFor}
+use Rattle.job.proofs.Whole.{start-last}
 use Rattle.tables.specs.Zones.{countsAt}
 use Rattle.tables.specs.Building.{Buildable}
 use Rattle.tables.specs.declared.lent.ListLengths.{ListLengths}
@@ -50,16 +50,16 @@ module _ (balancing : Bool) (most : Limits) (job : Job) (word : Bool) where
   survey-is e = rw (eq-eqb (checkFor balancing most job word .number) 0 e, surveyOf)
 
   -- where it lets through, so do 1 to 6
-  pub let-through : {s : Survey} → s ≡ surveyOf balancing most job word → s .verdict .number ≡ 0 → check1to6 most job word .number ≡ 0
+  pub let-through : {s : Survey} → s ≡ surveyOf balancing most job word → s .verdict .number ≡ 0 → checkSound most job word .number ≡ 0
   let-through e z =
-      passes-both (check1to6 most job word) (check7and8and10 most job orElse nineFor balancing job)
-      (zero-of (ap (λ (x : Survey). x .verdict) e ∙ verdict-is ∙ nine-last balancing most job word) z) .0
+      passes-both (checkSound most job word) (checkGoal most job orElse startFor balancing job)
+      (zero-of (ap (λ (x : Survey). x .verdict) e ∙ verdict-is ∙ start-last balancing most job word) z) .0
 
   -- and 7: k is 1 to 4
   pub wide-through : checkFor balancing most job word .number ≡ 0 → (1 ≤ job .k) × (job .k ≤ 4)
   wide-through z =
-      let later = passes-both (check1to6 most job word) (check7and8and10 most job orElse nineFor balancing job) (zero-of (nine-last balancing most job word) z) .1 in
-      ok7 most job (ok-before most job (passes-both (check7and8and10 most job) (nineFor balancing job) later .0) .0) .1
+      let later = passes-both (checkSound most job word) (checkGoal most job orElse startFor balancing job) (zero-of (start-last balancing most job word) z) .1 in
+      ratio-pass most job (goal-pass most job (passes-both (checkGoal most job) (startFor balancing job) later .0) .0) .1
 
 -- any word that is right for a job within its limits has one answer
 pub survey-late : (balancing : Bool) (most : Limits) (job : Job) (a b : Bool) → WordOn (most .files) (most .recipes) (most .pins) (fileCount job) (recipeCount job) (pinCount job) a b
@@ -112,13 +112,13 @@ module _ (job : Job) (gains : List ℤ) (z : List ℕ) (l : ListLengths) where
   some-fit : fits job some ≡ fitWord
   some-fit = rw (length-replicate {A = ℕ} (l .tried) 0, length-replicate (l .gained) (pos 0), length-replicate {A = ℕ} (l .cuts) 0, length-replicate {A = ℕ} (l .ends) 0, length-replicate {A = ℕ} (l .recipes) 0, length-replicate {A = ℕ} (l .kinds) 0) refl
 
-  pub builders-ask : (most : Limits) → Narrow most → check1to6 most job fitWord .number ≡ 0
+  pub builders-ask : (most : Limits) → Narrow most → checkSound most job fitWord .number ≡ 0
       → Buildable (job .bounds) (job .pins) (length (job .sides))
       × (((length gains ≡ length (job .sides)) × (length (job .marks) ≡ length (job .sides)))
       × ((countsAt (length (job .sides)) (pinCount job) + 4 * recipeCount job ≤ length z) × Binary (job .sides)))
   builders-ask most n ok =
       let s = sound most job fitWord ok in
-      let r : LongEnough job some = long-enough job some (some-fit ∙ lent-six most job fitWord ok) in (
+      let r : LongEnough job some = long-enough job some (some-fit ∙ lent-sound most job fitWord ok) in (
         buildable n s,
         (
           (r .gains ∙ sym (s .sidesLong), s .marksLong ∙ sym (s .sidesLong)),

@@ -17,7 +17,7 @@ use Rattle.rules.specs.Theorems.{Distinct}
 use Rattle.rules.proofs.Readable.{read-times, read-distinct}
 use Rattle.job.specs.Parts.{ofMarked}
 use Rattle.tables.specs.Zones.{part}
-use Rattle.tables.specs.Building.{viewsOf, readOf, readable, scannedOf, Buildable}
+use Rattle.tables.specs.Building.{viewsOf, readOf, readable, twoReadable, Buildable}
 use Rattle.tables.proofs.Parts.{part-length, part-entry}
 
 pub times-append : (f : ℕ) (a b : List ℕ) → times f (a ++ b) ≡ times f a + times f b
@@ -85,19 +85,19 @@ module _ (bounds pins : List ℕ) (c : ℕ) (able : Buildable bounds pins c) whe
           times-recipes f,
         )
 
-    scanned-read : (r : List ℕ) → read r ≡ readable marks (scannedOf marks r)
+    two-readable-read : (r : List ℕ) → read r ≡ readable marks (twoReadable marks r)
     unfolding readIn those
-    scanned-read r = go (leb 2 (length (readable marks r)))
+    two-readable-read r = go (leb 2 (length (readable marks r)))
       where
         go : (b : Bool) → cond b (readable marks r) [] ≡ readable marks (cond b r [])
         go true = refl
         go false = refl
 
     -- recipe j, as it may be scanned
-    module _ (j : ℕ) (h : j < length bounds - 1) (own : List ℕ) (is : own ≡ scannedOf marks (viewOf bounds pins j)) where
+    module _ (j : ℕ) (h : j < length bounds - 1) (own : List ℕ) (is : own ≡ twoReadable marks (viewOf bounds pins j)) where
       pub own-read : readable marks own ≡ getD (readOf marks bounds pins) j []
       own-read =
-          ap (readable marks) is ∙ sym (scanned-read (viewOf bounds pins j))
+          ap (readable marks) is ∙ sym (two-readable-read (viewOf bounds pins j))
           ∙ sym (getD-mapped read (viewsOf bounds pins) j [] [] (rw (length-tabled (viewOf bounds pins) (length bounds - 1)) h) ∙ ap read (getD-tabled (viewOf bounds pins) (length bounds - 1) j [] h))
 
       pub own-file : (k : ℕ) → k < length own → getD own k 0 < c

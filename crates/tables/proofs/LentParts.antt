@@ -7,13 +7,11 @@ use lib.ListN.{length, getD, take, drop}
 use lib.Seq.{length-take-le, take-take, take-at, drop-at, drop-drop, take-all, getD-drop}
 use borrow.Rule.Slice.PartMut.{putMid, same-len-mid, take-put, drop-put}
 use Rattle.rules.specs.Move.{State}
-use Rattle.rules.specs.Split.{times, recipesOf}
-use Rattle.tables.specs.Zones.{cellsAt, startsAt, endsAt, roomAt, countsAt, sideAt, part, Cells, Counts}
-use Rattle.tables.specs.Building.{readOf, Buildable}
+use Rattle.rules.specs.Split.{recipesOf}
+use Rattle.tables.specs.Zones.{cellsAt, startsAt, countsAt, sideAt, part, startIn, endIn, Cells, Counts}
 use Rattle.tables.specs.Filling.{startAt, endAt, startOf, Filled}
 use Rattle.tables.proofs.Parts.{part-length, part-entry, front-entry, front-part}
-use Rattle.tables.proofs.Filling.{start-within}
-use Rattle.tables.proofs.Placing.{recipes-many}
+use Rattle.tables.proofs.Filling.{start-after, starts-are}
 use Rattle.tables.proofs.Sides.{side-within, side-from}
 
 -- ---- `putMid a (e - a) xs ys`: the entries of xs from a up to e were lent and came back as ys
@@ -42,55 +40,49 @@ module _ {A : Type 0} where
 -- ---- cells and counts, carried from their zone to the scratch
 
 -- cells stand where the entries of their zone are the same
-pub cells-same : {rs : List (List ℕ)} {c p : ℕ} {z z' : List ℕ} → ((i : ℕ) → cellsAt c ≤ i → i < roomAt c p → getD z' i 0 ≡ getD z i 0)
-    → ((a k : ℕ) → cellsAt c ≤ a → a + k ≤ roomAt c p → part a k z' ≡ part a k z) → Cells rs c p z → Cells rs c p z'
+pub cells-same : {rs : List (List ℕ)} {c p : ℕ} {z z' : List ℕ} → ((i : ℕ) → cellsAt c ≤ i → i < countsAt c p → getD z' i 0 ≡ getD z i 0)
+    → ((a k : ℕ) → cellsAt c ≤ a → a + k ≤ countsAt c p → part a k z' ≡ part a k z) → Cells rs c p z → Cells rs c p z'
 cells-same {rs} {c} {p} {z} {z'} same parts d =
-    let from : (f : ℕ) → f < c → getD z' (startsAt c p + f) 0 ≡ getD z (startsAt c p + f) 0 = λ f h. same (startsAt c p + f) (omega arith) (omega arith) in
-    let to : (f : ℕ) → f < c → getD z' (endsAt c p + f) 0 ≡ getD z (endsAt c p + f) 0 = λ f h. same (endsAt c p + f) (omega arith) (omega arith) in
+    let from : (f : ℕ) → f < c → startIn c p z' f ≡ startIn c p z f = λ f h. same (startsAt c p + f) (omega arith) (omega arith) in
+    let to : (f : ℕ) → f < c → endIn c p z' f ≡ endIn c p z f = λ f h. same (startsAt c p + f + 1) (omega arith) (omega arith) in
     record {
       order = λ f h. rw (from f h, to f h) (d .order f h);
       inside = λ f h. rw (to f h) (d .inside f h);
       hold = λ f h.
           ap₂ (λ (a e : ℕ). part (cellsAt c + a) (e - a) z') (from f h) (to f h)
-          ∙ parts (cellsAt c + getD z (startsAt c p + f) 0) (getD z (endsAt c p + f) 0 - getD z (startsAt c p + f) 0) (omega arith) (omega (arith, d .order f h, d .inside f h))
+          ∙ parts (cellsAt c + startIn c p z f) (endIn c p z f - startIn c p z f) (omega arith) (omega (arith, d .order f h, d .inside f h))
           ∙ d .hold f h;
     }
 
 -- the cells of a zone that is filled, in a list that has the zone where they begin
-module _ (marks : List ℕ) {bounds pins : List ℕ} {c : ℕ} (able : Buildable bounds pins c) (z : List ℕ) {y : List ℕ} (here : part (cellsAt c) (length pins + 2 * c) z ≡ y)
-    (s : Filled pins c (recipesOf (readOf marks bounds pins)) y) where
-  abbrev mine : ℕ → List ℕ
-  mine = recipesOf (readOf marks bounds pins)
+module _ {rs : List (List ℕ)} {c p : ℕ} (fits : startOf rs c ≤ p) (z : List ℕ) {y : List ℕ} (here : part (cellsAt c) (p + c + 1) z ≡ y)
+    (s : Filled rs (startOf rs) p c (recipesOf rs) y) where
+  same : take (p + c + 1) (drop (cellsAt c) z) ≡ take (p + c + 1) y
+  same = here ∙ sym (take-all (p + c + 1) y (omega (arith, s .long)))
 
-  same : take (length pins + 2 * c) (drop (cellsAt c) z) ≡ take (length pins + 2 * c) y
-  same = here ∙ sym (take-all (length pins + 2 * c) y (omega (arith, s .long)))
+  entry : (i k : ℕ) → i < p + c + 1 → k ≡ cellsAt c + i → getD z k 0 ≡ getD y i 0
+  entry i k h e = ap (λ (j : ℕ). getD z j 0) e ∙ sym (getD-drop (cellsAt c) z i 0) ∙ front-entry (p + c + 1) (drop (cellsAt c) z) y same i h
 
-  entry : (i k : ℕ) → i < length pins + 2 * c → k ≡ cellsAt c + i → getD z k 0 ≡ getD y i 0
-  entry i k h e = ap (λ (j : ℕ). getD z j 0) e ∙ sym (getD-drop (cellsAt c) z i 0) ∙ front-entry (length pins + 2 * c) (drop (cellsAt c) z) y same i h
+  pub starts-from : (f : ℕ) → f ≤ c → startIn c p z f ≡ startOf rs f
+  starts-from f h = entry (startAt p f) _ (omega arith) (omega arith) ∙ starts-are s f h
 
-  pub starts-from : (f : ℕ) → f < c → getD z (startsAt c (length pins) + f) 0 ≡ startOf pins f
-  starts-from f h = entry (startAt (length pins) f) _ (omega arith) (omega arith) ∙ s .starts f h
+  ends-from : (f : ℕ) → f < c → endIn c p z f ≡ startOf rs f + length (recipesOf rs f)
+  ends-from f h = entry (endAt p f) _ (omega arith) (omega arith) ∙ s .ends f h
 
-  ends-from : (f : ℕ) → f < c → getD z (endsAt c (length pins) + f) 0 ≡ startOf pins f + length (mine f)
-  ends-from f h = entry (endAt c (length pins) f) _ (omega arith) (omega arith) ∙ s .ends f h
+  pub spare-from : (i : ℕ) → startOf rs c ≤ i → i < p → getD z (cellsAt c + i) 0 ≡ 0
+  spare-from i a b = entry i _ (omega arith) refl ∙ s .spare i a b
 
-  pub spare-from : (f i : ℕ) → f < c → getD z (endsAt c (length pins) + f) 0 ≤ i → i < startOf pins f + times f pins → getD z (cellsAt c + i) 0 ≡ 0
-  spare-from f i h a b = entry i _ (omega (arith, start-within c pins f (able .files) h)) refl ∙ s .spare f i h (omega (arith, ends-from f h)) b
-
-  within : (f : ℕ) → f < c → startOf pins f + length (mine f) ≤ length pins
-  within f h = omega (arith, recipes-many marks bounds pins c able f, start-within c pins f (able .files) h)
-
-  pub cells-from : Cells (readOf marks bounds pins) c (length pins) z
+  pub cells-from : Cells rs c p z
   cells-from =
       record {
-        order = λ f h. omega (arith, starts-from f h, ends-from f h);
-        inside = λ f h. omega (arith, ends-from f h, within f h);
+        order = λ f h. omega (arith, starts-from f (omega arith), ends-from f h);
+        inside = λ f h. omega (arith, ends-from f h, start-after rs f c h);
         hold = λ f h.
-            let e : getD z (endsAt c (length pins) + f) 0 - getD z (startsAt c (length pins) + f) 0 ≡ length (mine f) = omega (arith, starts-from f h, ends-from f h) in
-            ap₂ (λ (a k : ℕ). part (cellsAt c + a) k z) (starts-from f h) e
-            ∙ ap (take (length (mine f))) (sym (drop-drop (startOf pins f) (cellsAt c) z))
-            ∙ front-part (length pins + 2 * c) (drop (cellsAt c) z) y same (startOf pins f) (length (mine f)) (omega (arith, within f h))
-            ∙ s .hold f h;
+            let e : endIn c p z f - startIn c p z f ≡ length (recipesOf rs f) = omega (arith, starts-from f (omega arith), ends-from f h) in
+            ap₂ (λ (a k : ℕ). part (cellsAt c + a) k z) (starts-from f (omega arith)) e
+            ∙ ap (take (length (recipesOf rs f))) (sym (drop-drop (startOf rs f) (cellsAt c) z))
+            ∙ front-part (p + c + 1) (drop (cellsAt c) z) y same (startOf rs f) (length (recipesOf rs f)) (omega (arith, start-after rs f c h))
+            ∙ s .hold (start-after rs) f h;
       }
 
 -- the counts of a zone, in a list that has the zone at `at`
@@ -107,12 +99,11 @@ counts-from {n} {y} at z here c =
           };
     }
 
--- ---- the scratch z, its zones lent one after the other: z₁ the locks, z₂ the cells with starts and ends, z₃ the counts
+-- ---- the scratch z, its zones lent one after the other: z₁ the locks, z₂ the cells with their starts, z₃ the counts
 
--- where the code has the zones begin: a the cells, b the room, d the counts, and e their end
-pub record Begins (c p n a b d e : ℕ) : Type 0 where
+-- where the code has the zones begin: a the cells, d the counts, and e their end
+pub record Begins (c p n a d e : ℕ) : Type 0 where
   pub cells : a ≡ cellsAt c
-  pub room : b ≡ roomAt c p
   pub counts : d ≡ countsAt c p
   pub end : e ≡ countsAt c p + 4 * n
 
@@ -120,30 +111,30 @@ abbrev oneZone : ℕ → List ℕ → List ℕ → List ℕ
 oneZone a z z₁ = putMid 0 (a - 0) z z₁
 
 abbrev twoZones : ℕ → ℕ → List ℕ → List ℕ → List ℕ → List ℕ
-twoZones a b z z₁ z₂ = putMid a (b - a) (oneZone a z z₁) z₂
+twoZones a d z z₁ z₂ = putMid a (d - a) (oneZone a z z₁) z₂
 
-abbrev pub threeZones : ℕ → ℕ → ℕ → ℕ → List ℕ → List ℕ → List ℕ → List ℕ → List ℕ
-threeZones a b d e z z₁ z₂ z₃ = putMid d (e - d) (twoZones a b z z₁ z₂) z₃
+abbrev pub threeZones : ℕ → ℕ → ℕ → List ℕ → List ℕ → List ℕ → List ℕ → List ℕ
+threeZones a d e z z₁ z₂ z₃ = putMid d (e - d) (twoZones a d z z₁ z₂) z₃
 
 -- each comes back as long as it was lent
-pub record OneZone (c p n a b d e : ℕ) (z z₁ : List ℕ) : Type 0 where
-  pub begins : Begins c p n a b d e
+pub record OneZone (c p n a d e : ℕ) (z z₁ : List ℕ) : Type 0 where
+  pub begins : Begins c p n a d e
   pub fits : countsAt c p + 4 * n ≤ length z
   pub first : length z₁ ≡ length (part 0 (a - 0) z)
 
-pub record TwoZones (c p n a b d e : ℕ) (z z₁ z₂ : List ℕ) : Type 0 where
-  pub before : OneZone c p n a b d e z z₁
-  pub second : length z₂ ≡ length (part a (b - a) (oneZone a z z₁))
+pub record TwoZones (c p n a d e : ℕ) (z z₁ z₂ : List ℕ) : Type 0 where
+  pub before : OneZone c p n a d e z z₁
+  pub second : length z₂ ≡ length (part a (d - a) (oneZone a z z₁))
 
-pub record ThreeZones (c p n a b d e : ℕ) (z z₁ z₂ z₃ : List ℕ) : Type 0 where
-  pub before : TwoZones c p n a b d e z z₁ z₂
-  pub third : length z₃ ≡ length (part d (e - d) (twoZones a b z z₁ z₂))
+pub record ThreeZones (c p n a d e : ℕ) (z z₁ z₂ z₃ : List ℕ) : Type 0 where
+  pub before : TwoZones c p n a d e z z₁ z₂
+  pub third : length z₃ ≡ length (part d (e - d) (twoZones a d z z₁ z₂))
 
 -- the zone that is lent for the locks
-pub locks-room : {c p n a b d e : ℕ} (z : List ℕ) → Begins c p n a b d e → countsAt c p + 4 * n ≤ length z → length (part 0 (a - 0) z) ≡ c
+pub locks-room : {c p n a d e : ℕ} (z : List ℕ) → Begins c p n a d e → countsAt c p + 4 * n ≤ length z → length (part 0 (a - 0) z) ≡ c
 locks-room {a = a} z g fits = part-length 0 (a - 0) z (omega (arith, g .cells)) ∙ omega (arith, g .cells)
 
-module _ {c p n a b d e : ℕ} {z z₁ : List ℕ} (l : OneZone c p n a b d e z z₁) where
+module _ {c p n a d e : ℕ} {z z₁ : List ℕ} (l : OneZone c p n a d e z z₁) where
   one-long : length (oneZone a z z₁) ≡ length z
   one-long = same-len-mid 0 (a - 0) z z₁ (l .first)
 
@@ -153,55 +144,55 @@ module _ {c p n a b d e : ℕ} {z z₁ : List ℕ} (l : OneZone c p n a b d e z 
   first-long : length z₁ ≡ a - 0
   first-long = l .first ∙ part-length 0 (a - 0) z (omega (arith, first-in))
 
-  pub second-in : (a ≤ b) × (b ≤ length (oneZone a z z₁))
+  pub second-in : (a ≤ d) × (d ≤ length (oneZone a z z₁))
   second-in = omega (arith, l .fits, l .begins, one-long)
 
-  second-fits : length (part a (b - a) (oneZone a z z₁)) ≡ b - a
-  second-fits = part-length a (b - a) (oneZone a z z₁) (omega (arith, second-in))
+  second-fits : length (part a (d - a) (oneZone a z z₁)) ≡ d - a
+  second-fits = part-length a (d - a) (oneZone a z z₁) (omega (arith, second-in))
 
   -- the zone that is lent for the cells
-  pub cells-room : length (part a (b - a) (oneZone a z z₁)) ≡ p + 2 * c
+  pub cells-room : length (part a (d - a) (oneZone a z z₁)) ≡ p + c + 1
   cells-room = second-fits ∙ omega (arith, l .begins)
 
-module _ {c p n a b d e : ℕ} {z z₁ z₂ : List ℕ} (l : TwoZones c p n a b d e z z₁ z₂) where
-  two-long : length (twoZones a b z z₁ z₂) ≡ length z
-  two-long = same-len-mid a (b - a) (oneZone a z z₁) z₂ (l .second) ∙ one-long (l .before)
+module _ {c p n a d e : ℕ} {z z₁ z₂ : List ℕ} (l : TwoZones c p n a d e z z₁ z₂) where
+  two-long : length (twoZones a d z z₁ z₂) ≡ length z
+  two-long = same-len-mid a (d - a) (oneZone a z z₁) z₂ (l .second) ∙ one-long (l .before)
 
-  second-long : length z₂ ≡ b - a
+  second-long : length z₂ ≡ d - a
   second-long = l .second ∙ second-fits (l .before)
 
-  pub third-in : (d ≤ e) × (e ≤ length (twoZones a b z z₁ z₂))
+  pub third-in : (d ≤ e) × (e ≤ length (twoZones a d z z₁ z₂))
   third-in = omega (arith, l .before .fits, l .before .begins, two-long)
 
-  third-fits : length (part d (e - d) (twoZones a b z z₁ z₂)) ≡ e - d
-  third-fits = part-length d (e - d) (twoZones a b z z₁ z₂) (omega (arith, third-in))
+  third-fits : length (part d (e - d) (twoZones a d z z₁ z₂)) ≡ e - d
+  third-fits = part-length d (e - d) (twoZones a d z z₁ z₂) (omega (arith, third-in))
 
   -- the zone that is lent for the counts
-  pub counts-room : length (part d (e - d) (twoZones a b z z₁ z₂)) ≡ 4 * n
+  pub counts-room : length (part d (e - d) (twoZones a d z z₁ z₂)) ≡ 4 * n
   counts-room = third-fits ∙ omega (arith, l .before .begins)
 
-module _ {c p n a b d e : ℕ} {z z₁ z₂ z₃ : List ℕ} (l : ThreeZones c p n a b d e z z₁ z₂ z₃) where
-  abbrev g : Begins c p n a b d e
+module _ {c p n a d e : ℕ} {z z₁ z₂ z₃ : List ℕ} (l : ThreeZones c p n a d e z z₁ z₂ z₃) where
+  abbrev g : Begins c p n a d e
   g = l .before .before .begins
 
   abbrev one : List ℕ
   one = oneZone a z z₁
 
   abbrev two : List ℕ
-  two = twoZones a b z z₁ z₂
+  two = twoZones a d z z₁ z₂
 
   abbrev all : List ℕ
-  all = threeZones a b d e z z₁ z₂ z₃
+  all = threeZones a d e z z₁ z₂ z₃
 
   -- what each lending leaves below and beyond its zone
   first-beyond : (m : ℕ) → a ≤ m → drop m one ≡ drop m z
   first-beyond = put-beyond 0 a z z₁ (omega arith) (first-in (l .before .before)) (first-long (l .before .before))
 
   second-below : (m : ℕ) → m ≤ a → take m two ≡ take m one
-  second-below = put-below a b one z₂ (second-in (l .before .before) .0) (second-in (l .before .before) .1) (second-long (l .before))
+  second-below = put-below a d one z₂ (second-in (l .before .before) .0) (second-in (l .before .before) .1) (second-long (l .before))
 
-  second-beyond : (m : ℕ) → b ≤ m → drop m two ≡ drop m one
-  second-beyond = put-beyond a b one z₂ (second-in (l .before .before) .0) (second-in (l .before .before) .1) (second-long (l .before))
+  second-beyond : (m : ℕ) → d ≤ m → drop m two ≡ drop m one
+  second-beyond = put-beyond a d one z₂ (second-in (l .before .before) .0) (second-in (l .before .before) .1) (second-long (l .before))
 
   third-long : length z₃ ≡ e - d
   third-long = l .third ∙ third-fits (l .before)
@@ -228,18 +219,12 @@ module _ {c p n a b d e : ℕ} {z z₁ z₂ z₃ : List ℕ} (l : ThreeZones c p
       third-below c (omega (arith, g)) ∙ second-below c (omega (arith, g)) ∙ ap (λ (j : ℕ). take j one) k
       ∙ put-here 0 a z z₁ (omega arith) (first-in (l .before .before)) (first-long (l .before .before))
 
-  zones-middle : part (cellsAt c) (p + 2 * c) all ≡ z₂
+  zones-middle : part (cellsAt c) (p + c + 1) all ≡ z₂
   zones-middle =
-      let k : p + 2 * c ≡ b - a = omega (arith, g) in
-      front-part d all two (third-below d (omega arith)) (cellsAt c) (p + 2 * c) (omega (arith, g))
+      let k : p + c + 1 ≡ d - a = omega (arith, g) in
+      front-part d all two (third-below d (omega arith)) (cellsAt c) (p + c + 1) (omega (arith, g))
       ∙ ap₂ (λ (i j : ℕ). part i j two) (sym (g .cells)) k
-      ∙ put-here a b one z₂ (second-in (l .before .before) .0) (second-in (l .before .before) .1) (second-long (l .before))
-
-  -- the numbers between ends and counts are lent to no step
-  pub zones-room : part (roomAt c p) c all ≡ part (roomAt c p) c z
-  zones-room =
-      front-part d all two (third-below d (omega arith)) (roomAt c p) c (omega (arith, g))
-      ∙ ap (take c) (second-beyond (roomAt c p) (omega (arith, g)) ∙ first-beyond (roomAt c p) (omega (arith, g)))
+      ∙ put-here a d one z₂ (second-in (l .before .before) .0) (second-in (l .before .before) .1) (second-long (l .before))
 
   pub zones-counts : {rs : List (List ℕ)} {st : State} → Counts rs st 0 n z₃ → Counts rs st (countsAt c p) n all
   zones-counts =
@@ -248,14 +233,13 @@ module _ {c p n a b d e : ℕ} {z z₁ z₂ z₃ : List ℕ} (l : ThreeZones c p
       (ap₂ (λ (i j : ℕ). part i j all) (sym (g .counts)) k ∙ put-here d e two z₃ (third-in (l .before) .0) (third-in (l .before) .1) third-long)
 
 -- the cells, where the middle zone is filled
-module _ (marks : List ℕ) {bounds pins : List ℕ} {c n a b d e : ℕ} {z z₁ z₂ z₃ : List ℕ} (l : ThreeZones c (length pins) n a b d e z z₁ z₂ z₃) (able : Buildable bounds pins c)
-    (s : Filled pins c (recipesOf (readOf marks bounds pins)) z₂) where
-  pub zones-starts : (f : ℕ) → f < c → getD (threeZones a b d e z z₁ z₂ z₃) (startsAt c (length pins) + f) 0 ≡ startOf pins f
-  zones-starts = starts-from marks able (threeZones a b d e z z₁ z₂ z₃) (zones-middle l) s
+module _ {rs : List (List ℕ)} {c p n a d e : ℕ} {z z₁ z₂ z₃ : List ℕ} (l : ThreeZones c p n a d e z z₁ z₂ z₃) (fits : startOf rs c ≤ p)
+    (s : Filled rs (startOf rs) p c (recipesOf rs) z₂) where
+  pub zones-starts : (f : ℕ) → f ≤ c → startIn c p (threeZones a d e z z₁ z₂ z₃) f ≡ startOf rs f
+  zones-starts = starts-from fits (threeZones a d e z z₁ z₂ z₃) (zones-middle l) s
 
-  pub zones-spare : (f i : ℕ) → f < c → getD (threeZones a b d e z z₁ z₂ z₃) (endsAt c (length pins) + f) 0 ≤ i → i < startOf pins f + times f pins
-      → getD (threeZones a b d e z z₁ z₂ z₃) (cellsAt c + i) 0 ≡ 0
-  zones-spare = spare-from marks able (threeZones a b d e z z₁ z₂ z₃) (zones-middle l) s
+  pub zones-spare : (i : ℕ) → startOf rs c ≤ i → i < p → getD (threeZones a d e z z₁ z₂ z₃) (cellsAt c + i) 0 ≡ 0
+  zones-spare = spare-from fits (threeZones a d e z z₁ z₂ z₃) (zones-middle l) s
 
-  pub zones-cells : Cells (readOf marks bounds pins) c (length pins) (threeZones a b d e z z₁ z₂ z₃)
-  zones-cells = cells-from marks able (threeZones a b d e z z₁ z₂ z₃) (zones-middle l) s
+  pub zones-cells : Cells rs c p (threeZones a d e z z₁ z₂ z₃)
+  zones-cells = cells-from fits (threeZones a d e z z₁ z₂ z₃) (zones-middle l) s

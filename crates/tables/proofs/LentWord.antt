@@ -6,24 +6,25 @@ use lib.Dec.{ltb}
 use borrow.Author.Tests.{ltb-false, le-ltb}
 use Rattle.rules.specs.declared.Verdict.{Verdict}
 use Rattle.rules.specs.Job.{Job, Limits, fileCount, recipeCount, pinCount}
-use Rattle.rules.specs.Check.{_orElse_, check1, check2, check3, check4to6, check1to6, check7and8and10}
+use Rattle.rules.specs.Check.{_orElse_, checkCounts, checkLists, checkLengths, checkContents, checkSound, checkGoal}
 use Rattle.rules.proofs.Verdicts.{chain-same}
-use Rattle.rules.proofs.SoundJob.{ok2}
+use Rattle.rules.proofs.SoundJob.{few-of, counts-pass}
 use Rattle.rules.proofs.Tests.{clash, or-no}
 use Rattle.job.specs.Survey.{checkFor}
-use Rattle.job.specs.Totals.{nineFor}
-use Rattle.job.proofs.Whole.{nine-last}
+use Rattle.job.specs.Totals.{startFor}
+use Rattle.job.proofs.Whole.{start-last}
 
 pub word-late : (balancing : Bool) (most : Limits) (job : Job) (a b : Bool)
     → (fileCount job ≤ most .files → recipeCount job ≤ most .recipes → pinCount job ≤ most .pins → a ≡ b) → checkFor balancing most job a ≡ checkFor balancing most job b
-unfolding check1to6
+unfolding checkSound checkLengths checkCounts checkLists checkContents
 word-late balancing most job a b h =
-    nine-last balancing most job a
-    ∙ ap (λ (v : Verdict). v orElse check7and8and10 most job orElse nineFor balancing job)
-    (chain-same (check1 job) (check2 most job orElse check3 job a orElse check4to6 job) (check2 most job orElse check3 job b orElse check4to6 job)
-    (λ _. chain-same (check2 most job) (check3 job a orElse check4to6 job) (check3 job b orElse check4to6 job)
-    (λ z. let r = ok2 job most z in ap (λ (x : Bool). check3 job x orElse check4to6 job) (h (r .0) (r .1) (r .2)))))
-    ∙ sym (nine-last balancing most job b)
+    let counts : Verdict = checkCounts most (fileCount job) (recipeCount job) (pinCount job) in
+    start-last balancing most job a
+    ∙ ap (λ (v : Verdict). v orElse checkGoal most job orElse startFor balancing job)
+    (ap (λ (v : Verdict). v orElse checkContents job)
+    (chain-same counts (checkLists job a) (checkLists job b)
+    (λ z. let r = few-of most (fileCount job) (recipeCount job) (pinCount job) (counts-pass most (fileCount job) (recipeCount job) (pinCount job) z .1) in ap (checkLists job) (h (r .0) (r .1) (r .2)))))
+    ∙ sym (start-last balancing most job b)
 
 -- ---- three numbers, each against its most
 

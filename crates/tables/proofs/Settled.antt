@@ -4,21 +4,20 @@ use Prim.Native.Nat.{ℕ, _+_, _-_, _*_, _≤_, _<_}
 use mathlib.Core.Bool.{Bool}
 use mathlib.Core.List.{List}
 use native.Mathlib.Omega.{arith}
+use native.Mathlib.Numerals.{add-one}
 use native.Mathlib.Decide.{ℕ-discrete, decLt}
-use lib.ListN.{length, getD, List·getD-eq-default}
+use lib.ListN.{length, getD}
 use lib.Seq.{getD-drop, ext-getD}
 use lib.IntN.{ℤ}
 use Rattle.rules.specs.Job.{Job, Limits}
-use Rattle.rules.specs.Split.{times, recipesOf}
+use Rattle.rules.specs.Split.{recipesOf}
 use Rattle.job.specs.declared.figures.Survey.{Survey}
-use Rattle.tables.specs.declared.lent.ListLengths.{ListLengths}
-use Rattle.tables.specs.Zones.{cellsAt, startsAt, endsAt, roomAt, countsAt, sideAt, part}
-use Rattle.tables.specs.Building.{readOf, Buildable}
+use Rattle.tables.specs.Zones.{cellsAt, startsAt, countsAt, sideAt, part, startIn, endIn}
+use Rattle.tables.specs.Building.{readOf}
 use Rattle.tables.specs.Filling.{startOf}
 use Rattle.tables.specs.LayingOut.{Prepared, LaysOut}
-use Rattle.tables.proofs.Parts.{part-entry, part-length, front-entry}
-use Rattle.tables.proofs.Filling.{cell-of}
-use Rattle.tables.proofs.Accepted.{Narrow, let-through, fitWord, builders-ask}
+use Rattle.tables.proofs.Parts.{part-entry, front-entry}
+use Rattle.tables.proofs.Filling.{start-more, cell-of}
 
 -- what holds below a, and at the next k, holds below their end
 further : (P : ℕ → Type 0) (a k b : ℕ) → b ≤ a + k → ((i : ℕ) → i < a → P i) → ((j : ℕ) → j < k → P (a + j)) → (i : ℕ) → i < b → P i
@@ -31,34 +30,29 @@ further P a k b h below next i l = elim (decLt i a) [
 
 -- ---- one scratch
 
-module _ {bounds pins sides marks z₀ z : List ℕ} {g : List ℤ} {n : ℕ} (able : Buildable bounds pins (length sides)) (fits : startsAt (length sides) (length pins) ≤ length z₀)
-    (d : Prepared bounds pins sides marks z₀ z g n) where
+module _ {bounds pins sides marks z₀ z : List ℕ} {g : List ℤ} {n : ℕ} (d : Prepared bounds pins sides marks z₀ z g n) where
+  abbrev rs : List (List ℕ)
+  rs = readOf marks bounds pins
+
   abbrev mine : ℕ → List ℕ
-  mine f = recipesOf (readOf marks bounds pins) f
+  mine f = recipesOf rs f
 
-  cells-long : (f : ℕ) → f < length sides → getD z (endsAt (length sides) (length pins) + f) 0 - getD z (startsAt (length sides) (length pins) + f) 0 ≡ length (mine f)
-  cells-long f h =
-      let o = d .cells .order f h in
-      let i = d .cells .inside f h in
-      sym (part-length (cellsAt (length sides) + getD z (startsAt (length sides) (length pins) + f) 0) _ z (omega (arith, d .long))) ∙ ap length (d .cells .hold f h)
-
-  end-is : (f : ℕ) → f < length sides → getD z (endsAt (length sides) (length pins) + f) 0 ≡ startOf pins f + length (mine f)
-  end-is f h = omega (arith, cells-long f h, d .cells .order f h, d .starts f h)
-
-  cell-is : (f i : ℕ) → f < length sides → startOf pins f ≤ i → i < startOf pins f + times f pins → getD z (cellsAt (length sides) + i) 0 ≡ getD (mine f) (i - startOf pins f) 0
-  cell-is f i h from to = elim (decLt (i - startOf pins f) (length (mine f))) [
-    | yes l ↦
-        let e : cellsAt (length sides) + startOf pins f + (i - startOf pins f) ≡ cellsAt (length sides) + i = omega arith in
-        ap (λ (k : ℕ). getD z k 0) (sym e)
-        ∙ sym (part-entry (cellsAt (length sides) + startOf pins f) (length (mine f)) z (i - startOf pins f) l)
-        ∙ ap (λ (l : List ℕ). getD l (i - startOf pins f) 0)
-        (ap₂ (λ (a k : ℕ). part (cellsAt (length sides) + a) k z) (sym (d .starts f h)) (sym (cells-long f h)) ∙ d .cells .hold f h)
-    | no n ↦ d .spare f i h (omega (arith, end-is f h)) to ∙ sym (List·getD-eq-default (mine f) 0 {n = i - startOf pins f} (omega arith))
-  ]
+  -- a cell of file f is the recipe of its place
+  cell-is : (f i : ℕ) → f < length sides → startOf rs f ≤ i → i < startOf rs f + length (mine f) → getD z (cellsAt (length sides) + i) 0 ≡ getD (mine f) (i - startOf rs f) 0
+  cell-is f i h from to =
+      let e : cellsAt (length sides) + startOf rs f + (i - startOf rs f) ≡ cellsAt (length sides) + i = omega arith in
+      let next : startsAt (length sides) (length pins) + (f + 1) ≡ startsAt (length sides) (length pins) + f + 1 = omega arith in
+      let last : endIn (length sides) (length pins) z f ≡ startOf rs (f + 1) = ap (λ (k : ℕ). getD z k 0) (sym next) ∙ d .starts (f + 1) (omega arith) in
+      let many : endIn (length sides) (length pins) z f - startIn (length sides) (length pins) z f ≡ length (mine f)
+      = omega (arith, last, d .starts f (omega arith), start-more rs f, ap (startOf rs) (add-one f)) in
+      ap (λ (k : ℕ). getD z k 0) (sym e)
+      ∙ sym (part-entry (cellsAt (length sides) + startOf rs f) (length (mine f)) z (i - startOf rs f) (omega arith))
+      ∙ ap (λ (l : List ℕ). getD l (i - startOf rs f) 0)
+      (ap₂ (λ (a k : ℕ). part (cellsAt (length sides) + a) k z) (sym (d .starts f (omega arith))) (sym many) ∙ d .cells .hold f h)
 
 -- ---- two
 
-module _ {bounds pins sides marks z₀ z z' : List ℕ} {g g' : List ℤ} {n : ℕ} (able : Buildable bounds pins (length sides)) (fits : startsAt (length sides) (length pins) ≤ length z₀)
+module _ {bounds pins sides marks z₀ z z' : List ℕ} {g g' : List ℤ} {n : ℕ}
     (d : Prepared bounds pins sides marks z₀ z g n) (d' : Prepared bounds pins sides marks z₀ z' g' n) where
   abbrev c : ℕ
   c = length sides
@@ -72,25 +66,21 @@ module _ {bounds pins sides marks z₀ z z' : List ℕ} {g g' : List ℤ} {n : �
   abbrev Same : ℕ → Type 0
   Same i = getD z i 0 ≡ getD z' i 0
 
-  same-part : (a k : ℕ) → part a k z ≡ part a k z' → (j : ℕ) → j < k → Same (a + j)
-  same-part a k e j h = sym (part-entry a k z j h) ∙ ap (λ (l : List ℕ). getD l j 0) e ∙ part-entry a k z' j h
-
   same-cells : (i : ℕ) → i < p → Same (cellsAt c + i)
-  same-cells i h =
-      let r = cell-of c pins i (able .files) h in
-      cell-is able fits d (r .0) i (r .1) (r .2) (r .3) ∙ sym (cell-is able fits d' (r .0) i (r .1) (r .2) (r .3))
+  same-cells i h = elim (decLt i (startOf (readOf marks bounds pins) c)) [
+    | yes l ↦
+        let r = cell-of (readOf marks bounds pins) c i l in
+        cell-is d (r .0) i (r .1) (r .2) (r .3) ∙ sym (cell-is d' (r .0) i (r .1) (r .2) (r .3))
+    | no n ↦ d .spare i (omega arith) h ∙ sym (d' .spare i (omega arith) h)
+  ]
 
   same-before : (i : ℕ) → i < at → Same i
   same-before =
-      further Same (roomAt c p) c at (omega arith)
-      (further Same (endsAt c p) c (roomAt c p) (omega arith)
-      (further Same (startsAt c p) c (endsAt c p) (omega arith)
+      further Same (startsAt c p) (c + 1) at (omega arith)
       (further Same (cellsAt c) p (startsAt c p) (omega arith)
       (front-entry c z z' (d .locks ∙ sym (d' .locks)))
       same-cells)
-      (λ f h. d .starts f h ∙ sym (d' .starts f h)))
-      (λ f h. end-is able fits d f h ∙ sym (end-is able fits d' f h)))
-      (same-part (roomAt c p) c (d .room ∙ sym (d' .room)))
+      (λ f h. d .starts f (omega arith) ∙ sym (d' .starts f (omega arith)))
 
   same-counts : (i : ℕ) → i < at + 4 * n → Same i
   same-counts =
@@ -119,17 +109,14 @@ module _ {bounds pins sides marks z₀ z z' : List ℕ} {g g' : List ℤ} {n : �
 
 -- ---- the answer, the gains and the scratch
 
-module _ (balancing : Bool) {most : Limits} (narrow : Narrow most) (job : Job) (gains₀ : List ℤ) (z₀ : List ℕ) (l : ListLengths) where
-  abbrev Lays : List ℤ → List ℕ → Survey → Type 0
-  Lays g z s = LaysOut balancing most job (fitWord job gains₀ z₀ l) gains₀ z₀ g z s
-
-  pub laid-once : {g g' : List ℤ} {z z' : List ℕ} {s s' : Survey} → Lays g z s → Lays g' z' s' → (s ≡ s') × (g ≡ g') × (z ≡ z')
+module _ {balancing : Bool} {most : Limits} {job : Job} {word : Bool} {gains₀ : List ℤ} {z₀ : List ℕ} where
+  pub laid-once : {g g' : List ℤ} {z z' : List ℕ} {s s' : Survey} → LaysOut balancing most job word gains₀ z₀ g z s → LaysOut balancing most job word gains₀ z₀ g' z' s'
+      → (s ≡ s') × (g ≡ g') × (z ≡ z')
   laid-once {g} {g'} {z} {z'} {s} {s'} a b = elim (ℕ-discrete (s .verdict .number) 0) [
     | yes e ↦
         let d = a .laid e in
         let d' = b .laid (sym number ∙ e) in
-        let asked = builders-ask job gains₀ z₀ l most narrow (let-through balancing most job _ (a .answer) e) in
-        (same, d .starting ∙ sym (d' .starting), prepared-once (asked .0) (omega (arith, asked .1 .1 .0)) d d')
+        (same, d .starting ∙ sym (d' .starting), prepared-once d d')
     | no n ↦
         let r = a .refused n in
         let r' = b .refused (λ e. n (number ∙ e)) in

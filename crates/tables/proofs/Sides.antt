@@ -5,13 +5,11 @@ use mathlib.Core.Bool.{Bool, true, false, cond}
 use native.Mathlib.Omega.{arith}
 use lib.Dec.{eqb}
 use Rattle.tables.specs.declared.zones.Zones.{Zones}
-use Rattle.tables.specs.Zones.{cellsAt, startsAt, endsAt, roomAt, countsAt, sideAt, zonesOf}
+use Rattle.tables.specs.Zones.{cellsAt, startsAt, countsAt, sideAt, zonesOf}
 
 -- each zone by itself
-pub zones-are : {r : Zones} (c p : ℕ) → r ≡ zonesOf c p
-    → (r .cells ≡ cellsAt c) × (r .starts ≡ startsAt c p) × (r .ends ≡ endsAt c p) × (r .room ≡ roomAt c p) × (r .counts ≡ countsAt c p)
-zones-are c p e =
-    (ap (λ (z : Zones). z .cells) e, ap (λ (z : Zones). z .starts) e, ap (λ (z : Zones). z .ends) e, ap (λ (z : Zones). z .room) e, ap (λ (z : Zones). z .counts) e)
+pub zones-are : {r : Zones} (c p : ℕ) → r ≡ zonesOf c p → (r .cells ≡ cellsAt c) × (r .starts ≡ startsAt c p) × (r .counts ≡ countsAt c p)
+zones-are c p e = (ap (λ (z : Zones). z .cells) e, ap (λ (z : Zones). z .starts) e, ap (λ (z : Zones). z .counts) e)
 
 -- no later than the second list
 pub side-within : (at n u : ℕ) → sideAt at n u ≤ at + n

@@ -20,7 +20,7 @@ use Rattle.rules.proofs.Count.{getD-tabled, length-tabled}
 use Rattle.rules.proofs.Signed.{abs-diff}
 use Rattle.rules.proofs.Machine.{abs-fits}
 use Rattle.rules.specs.Split.{recipesFrom, recipesOf}
-use Rattle.tables.specs.Zones.{cellsAt, startsAt, endsAt, countsAt, sideAt, part, stateOf, Cells, Counts}
+use Rattle.tables.specs.Zones.{cellsAt, countsAt, sideAt, part, stateOf, startIn, endIn, Cells, Counts}
 use Rattle.tables.specs.Counting.{gainBy, startGain}
 use Rattle.tables.proofs.Parts.{part-entry}
 use Rattle.tables.proofs.Sides.{side-within}
@@ -106,10 +106,10 @@ module _ (sides marks : List ℕ) (rs : List (List ℕ)) (c p n : ℕ) (z : List
   table u h j l = part-entry (sideAt (countsAt c p) n u) n z j (omega arith) ∙ counts .each j (omega arith) .on u h
 
   -- file f's cells, from s up to e
-  module _ (f s e : ℕ) (h : f < c) (at : s ≡ cellsAt c + getD z (startsAt c p + f) 0) (to : e ≡ cellsAt c + getD z (endsAt c p + f) 0) where
+  module _ (f s e : ℕ) (h : f < c) (at : s ≡ cellsAt c + startIn c p z f) (to : e ≡ cellsAt c + endIn c p z f) where
     held : part s (e - s) z ≡ recipesOf rs f
     held =
-        let k : e - s ≡ getD z (endsAt c p + f) 0 - getD z (startsAt c p + f) 0 = omega arith in
+        let k : e - s ≡ endIn c p z f - startIn c p z f = omega arith in
         ap₂ (λ (i n : ℕ). part i n z) at k ∙ cells .hold f h
 
     -- what the code works out is entry f of the starting gains
@@ -129,7 +129,7 @@ start-gains-long rs c sides marks = length-tabled _ c
 
 -- what the gain of a file asks: its cells, and the counts of both sides, stand in the scratch
 pub gain-asks : {rs : List (List ℕ)} {c p : ℕ} {z : List ℕ} (n f side : ℕ) {s e own other : ℕ} → Cells rs c p z → f < c → p < 65535 → countsAt c p + 4 * n ≤ length z
-    → s ≡ cellsAt c + getD z (startsAt c p + f) 0 → e ≡ cellsAt c + getD z (endsAt c p + f) 0 → own ≡ sideAt (countsAt c p) n side → other ≡ sideAt (countsAt c p) n (1 - side)
+    → s ≡ cellsAt c + startIn c p z f → e ≡ cellsAt c + endIn c p z f → own ≡ sideAt (countsAt c p) n side → other ≡ sideAt (countsAt c p) n (1 - side)
     → ((s ≤ e) × (e ≤ length z) × (e - s < 65536)) × ((own + n ≤ length z) × (other + n ≤ length z))
 gain-asks {c = c} {p = p} n f side d h few fits x y u v =
     let a = d .order f h in

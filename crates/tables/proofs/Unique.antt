@@ -2,7 +2,6 @@
 -- answer and lent lists. The promises cited are those that the check reads from the contracts in src/. Assumes nothing.
 use mathlib.Core.List.{List}
 use Prim.Native.Nat.{ℕ}
-use native.Mathlib.Omega.{arith}
 use lib.IntN.{ℤ}
 use denote.Ref.{now}
 use Rattle.rules.proofs.Settling.{Settles, both}
@@ -48,5 +47,5 @@ side-at-settled κs a x y e f p q = both p q
 pub lay-out-settled : Settles 7 lay-out-kinds.ps lay-out-kinds.r (Survey × List ℤ × List ℕ)
     (λ κs x e. (x, now (e .1 .1 .1 .1 .1 .1 .0), now (e .1 .1 .1 .1 .1 .1 .1 .0))) lay-out.Post
 lay-out-settled κs a x y e f p q =
-    let s = laid-once _ (record { files = omega arith; recipes = omega arith; pins = omega arith; den = omega arith }) _ _ _ _ p q in
+    let s = laid-once p q in
     λ i. (s .0 i, s .1 i, s .2 i)

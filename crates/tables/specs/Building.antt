@@ -23,8 +23,8 @@ abbrev pub readable : List ℕ → List ℕ → List ℕ
 readable marks r = those (isRead (ofMarks marks)) r
 
 -- the whole recipe, or nothing where fewer than two of its files could be read
-abbrev pub scannedOf : List ℕ → List ℕ → List ℕ
-scannedOf marks r = cond (leb 2 (length (readable marks r))) r []
+abbrev pub twoReadable : List ℕ → List ℕ → List ℕ
+twoReadable marks r = cond (leb 2 (length (readable marks r))) r []
 
 -- the bounds rise from 0 to the number of pins; every pin is one of c files; no recipe holds a file twice; the counts fit two bytes
 pub record Buildable (bounds pins : List ℕ) (c : ℕ) : Type 0 where

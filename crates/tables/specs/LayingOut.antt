@@ -7,21 +7,19 @@ use mathlib.Core.List.{List}
 use lib.ListN.{length, getD, take, drop}
 use lib.IntN.{ℤ}
 use Rattle.rules.specs.Job.{Job, Limits, recipeCount}
-use Rattle.rules.specs.Split.{times}
 use Rattle.rules.specs.Pass.{startGains}
 use Rattle.job.specs.declared.figures.Survey.{Survey}
 use Rattle.job.specs.Survey.{surveyOf}
-use Rattle.tables.specs.Zones.{cellsAt, startsAt, endsAt, roomAt, countsAt, part, stateOf, Cells, Counts}
+use Rattle.tables.specs.Zones.{cellsAt, countsAt, startIn, stateOf, Cells, Counts}
 use Rattle.tables.specs.Building.{readOf}
 use Rattle.tables.specs.Filling.{startOf}
 
--- what is built before the first move, in the scratch z that was z₀; each file has room for as many cells as it has pins, and 0 in those that no readable recipe fills
+-- what is built before the first move, in the scratch z that was z₀; the cells lie close, and those beyond the last file's are 0
 pub record Prepared (bounds pins sides marks z₀ z : List ℕ) (gains : List ℤ) (n : ℕ) : Type 0 where
   pub locks : take (length sides) z ≡ marks
-  pub starts : (f : ℕ) → f < length sides → getD z (startsAt (length sides) (length pins) + f) 0 ≡ startOf pins f
+  pub starts : (f : ℕ) → f ≤ length sides → startIn (length sides) (length pins) z f ≡ startOf (readOf marks bounds pins) f
   pub cells : Cells (readOf marks bounds pins) (length sides) (length pins) z
-  pub spare : (f i : ℕ) → f < length sides → getD z (endsAt (length sides) (length pins) + f) 0 ≤ i → i < startOf pins f + times f pins → getD z (cellsAt (length sides) + i) 0 ≡ 0
-  pub room : part (roomAt (length sides) (length pins)) (length sides) z ≡ part (roomAt (length sides) (length pins)) (length sides) z₀
+  pub spare : (i : ℕ) → startOf (readOf marks bounds pins) (length sides) ≤ i → i < length pins → getD z (cellsAt (length sides) + i) 0 ≡ 0
   pub counts : Counts (readOf marks bounds pins) (stateOf sides marks) (countsAt (length sides) (length pins)) n z
   pub long : length z ≡ length z₀
   pub beyond : drop (countsAt (length sides) (length pins) + 4 * n) z ≡ drop (countsAt (length sides) (length pins) + 4 * n) z₀

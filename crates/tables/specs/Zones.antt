@@ -1,7 +1,7 @@
 -- The scratch area of a pass, one list cut into neighbouring zones, and what each holds. Assumes nothing.
 --
--- For C files, N recipes and P pins: C locks; P cells, the recipes of file after file; C starts and C ends, where a file's cells begin and end,
--- counted from the first cell; C numbers of room; 4N counts of a recipe's files: on A, on B, locked on A, locked on B; 16 numbers of room.
+-- For C files, N recipes and P pins: C locks; P cells, the recipes of file after file; C + 1 starts, where each file's cells begin, counted from the
+-- first cell: they end where the next one's begin; 4N counts of a recipe's files: on A, on B, locked on A, locked on B; the rest is room.
 use mathlib.Core.Path.{_≡_}
 use Prim.Native.Nat.{ℕ, _+_, _-_, _*_, _≤_, _<_}
 use mathlib.Core.Bool.{cond}
@@ -22,17 +22,11 @@ cellsAt c = c
 abbrev pub startsAt : ℕ → ℕ → ℕ
 startsAt c p = cellsAt c + p
 
-abbrev pub endsAt : ℕ → ℕ → ℕ
-endsAt c p = startsAt c p + c
-
-abbrev pub roomAt : ℕ → ℕ → ℕ
-roomAt c p = endsAt c p + c
-
 abbrev pub countsAt : ℕ → ℕ → ℕ
-countsAt c p = roomAt c p + c
+countsAt c p = startsAt c p + c + 1
 
 abbrev pub zonesOf : ℕ → ℕ → Zones
-zonesOf c p = record { cells = cellsAt c; starts = startsAt c p; ends = endsAt c p; room = roomAt c p; counts = countsAt c p }
+zonesOf c p = record { cells = cellsAt c; starts = startsAt c p; counts = countsAt c p }
 
 -- where the counts of side u stand, of the two lists of n counts from `at` on
 abbrev pub sideAt : ℕ → ℕ → ℕ → ℕ
@@ -52,14 +46,21 @@ stateOf sides locks = record { sides = sides; locks = locks }
 abbrev pub stateIn : ℕ → List ℕ → List ℕ → State
 stateIn c sides z = stateOf sides (take c z)
 
+-- where the cells of file f begin, and where they end, which is where those of the next begin
+abbrev pub startIn : ℕ → ℕ → List ℕ → ℕ → ℕ
+startIn c p z f = getD z (startsAt c p + f) 0
+
+abbrev pub endIn : ℕ → ℕ → List ℕ → ℕ → ℕ
+endIn c p z f = getD z (startsAt c p + f + 1) 0
+
 -- the cells of file f, as they stand in the scratch
 abbrev pub cellsOf : ℕ → ℕ → List ℕ → ℕ → List ℕ
-cellsOf c p z f = part (cellsAt c + getD z (startsAt c p + f) 0) (getD z (endsAt c p + f) 0 - getD z (startsAt c p + f) 0) z
+cellsOf c p z f = part (cellsAt c + startIn c p z f) (endIn c p z f - startIn c p z f) z
 
 -- they are its recipes, in rising number
 pub record Cells (rs : List (List ℕ)) (c p : ℕ) (z : List ℕ) : Type 0 where
-  pub order : (f : ℕ) → f < c → getD z (startsAt c p + f) 0 ≤ getD z (endsAt c p + f) 0
-  pub inside : (f : ℕ) → f < c → getD z (endsAt c p + f) 0 ≤ p
+  pub order : (f : ℕ) → f < c → startIn c p z f ≤ endIn c p z f
+  pub inside : (f : ℕ) → f < c → endIn c p z f ≤ p
   pub hold : (f : ℕ) → f < c → cellsOf c p z f ≡ recipesOf rs f
 
 -- the counts of recipe j, of its files on each side and of the locked ones among them, in a zone of counts for n recipes that begins at `at`

@@ -7,7 +7,7 @@ ghost use Rattle.rules.specs.Theorems.{Binary};
 ghost use Rattle.tables.specs.Zones.{countsAt, extentOf, stateOf, Cells, Counts};
 ghost use Rattle.tables.specs.Building.{readOf, readable, Buildable};
 ghost use Rattle.tables.specs.Counting.{counted, gainBy, startGain};
-use super::scanned::scanned;
+use super::two_readable::two_readable;
 use super::zones::Extent;
 use super::zones::side_at;
 use super::zones::zones_of;
@@ -52,7 +52,7 @@ pub(crate) fn fill_counts(
 {
     let mut j = 0;
     while j < n {
-        let own = scanned(view(bounds, pins, j), locks);
+        let own = two_readable(view(bounds, pins, j), locks);
         count_recipe(zone, sides, locks, own, j, n);
         j += 1;
     }
@@ -122,7 +122,7 @@ pub(crate) fn start_gains(
     let mut f = 0;
     while f < sides.len() {
         let s = zones.cells + wide(scratch[zones.starts + f]);
-        let e = zones.cells + wide(scratch[zones.ends + f]);
+        let e = zones.cells + wide(scratch[zones.starts + f + 1]);
         let own = side_at(extent, sides[f]);
         let other = side_at(extent, 1 - sides[f]);
         gains[f] = start_gain(scratch, marks[f], s, e, own, other, n);

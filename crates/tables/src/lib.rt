@@ -3,8 +3,8 @@ mod cells;
 mod counts;
 mod ending;
 mod lent;
-mod scanned;
 mod start;
+mod two_readable;
 mod zones;
 
 pub use ending::end_moves;

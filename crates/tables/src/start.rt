@@ -48,11 +48,16 @@ pub(crate) fn prepare(
     };
     let zones = zones_of(extent);
     let cells = zones.cells;
-    let room = zones.room;
     let counts = zones.counts;
     let end = counts + 4 * n;
     copy(&mut scratch[0..cells], marks);
-    build_cells(&mut scratch[cells..room], marks, bounds, pins, sides.len());
+    build_cells(
+        &mut scratch[cells..counts],
+        marks,
+        bounds,
+        pins,
+        sides.len(),
+    );
     fill_counts(&mut scratch[counts..end], sides, marks, bounds, pins, n);
     start_gains(gains, sides, marks, scratch, bounds, pins, extent);
 }

@@ -17,8 +17,6 @@ pub struct Extent {
 pub struct Zones {
     pub cells: usize,
     pub starts: usize,
-    pub ends: usize,
-    pub room: usize,
     pub counts: usize,
 }
 
@@ -27,14 +25,10 @@ pub fn zones_of(extent: Extent) -> Zones
 {
     let c = wide(extent.files);
     let starts = c + wide(extent.pins);
-    let ends = starts + c;
-    let room = ends + c;
     Zones {
         cells: c,
         starts,
-        ends,
-        room,
-        counts: room + c,
+        counts: starts + c + 1,
     }
 }
 
@@ -56,8 +50,7 @@ pub(crate) fn numbers_for(extent: Extent) -> usize
     ensures { λ r. ⌜ r ≡ scratchNumbers (extent .pins) (extent .files) (extent .recipes) ⌝ }
     ensures { λ _. do ⌜ (← ⟦MOST_NUMBERS⟧ .entry) ≡ scratchNumbers (← ⟦Job::MOST_PINS⟧ .entry) (← ⟦Job::MOST_FILES⟧ .entry) (← ⟦Job::MOST_RECIPES⟧ .entry) ⌝ }
 {
-    let zones = zones_of(extent);
-    zones.counts + scans_for(extent) + 16
+    wide(extent.pins) + 4 * wide(extent.files) + scans_for(extent) + 16
 }
 
 // The scans that a pass may list, and those of the largest job.

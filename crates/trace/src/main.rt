@@ -2,9 +2,9 @@
 use libc::STDOUT_FILENO;
 
 fn main() {
-    let mut input = [0u8; planner::INPUT_BYTES];
-    let got = blocks::take(&mut input, planner::INPUT_BYTES);
-    let mut text = [0u8; planner::TRACE_BYTES];
-    let printed = planner::trace(&input[..got], &mut text);
+    let mut input = [0u8; layout::INPUT_BYTES];
+    let got = blocks::take(&mut input, layout::input_bytes());
+    let mut text = [0u8; teller::TRACE_BYTES];
+    let printed = teller::trace(&input[..got], &mut text);
     io::write_all(STDOUT_FILENO, &text[..printed.bytes]);
 }

@@ -15,9 +15,8 @@ use block::fill;
 use block::put_block;
 use job::Job;
 use job::bad_k;
-use job::check1;
-use job::check1to6;
-use job::check2;
+use job::check_counts;
+use job::check_sound;
 use job::or_else;
 use job::recipe_count;
 use job::refuse_if;
@@ -78,14 +77,14 @@ pub fn write(
     ensures { λ r. do ⌜ writingOf r (now (out .exit)) ≡ writing (limitsOf (← ⟦Job::MOST_FILES⟧ .entry) (← ⟦Job::MOST_RECIPES⟧ .entry) (← ⟦Job::MOST_PINS⟧ .entry) (← ⟦Job::MOST_DEN⟧ .entry)) (wholeJob job (now (sizes .entry)) (now (sides .entry)) (now (marks .entry)) (now (bounds .entry)) (now (pins .entry))) (now (out .entry)) ⌝ }
 {
     let n = recipe_count(bounds);
-    let counts = or_else(check1(sizes.len(), n), check2(sizes.len(), n, pins.len()));
+    let counts = check_counts(sizes.len(), n, pins.len());
     if counts.number != 0 {
         return counts;
     }
     let h = header_for(job, sizes, bounds, pins);
     let fits = out.len() == 512 * wide(block_count(h));
-    let six = check1to6(sizes, sides, marks, bounds, pins, fits);
-    let v = or_else(six, refuse_if(bad_k(job.k), 7, 0));
+    let sound = check_sound(sizes, sides, marks, bounds, pins, fits);
+    let v = or_else(sound, refuse_if(bad_k(job.k), 7, 0));
     if v.number != 0 {
         return v;
     }

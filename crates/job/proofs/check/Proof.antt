@@ -1,6 +1,6 @@
-use mathlib.Core.Path.{refl, _∙_}
+use mathlib.Core.Path.{refl, sym, _∙_}
 use native.Mathlib.Omega.{arith}
-use Rattle.rules.specs.Check.{check7to10, check}
+use Rattle.rules.proofs.Refusals.{check-chain, rest-chain}
 use Rattle.rules.proofs.Verdicts.{chain-stop, chain-go, zero-of}
 use Rattle.rules.proofs.SoundJob.{sound}
 use Rattle.job.specs.Totals.{totalsOf}
@@ -10,29 +10,29 @@ use borrow.Author.Needs.{needs}
 use Rattle.job.proofs.check.Statement.{statement}
 use Rattle.job.proofs.check.Tie as tie
 
-check1to6-requires : tie.Need-check1to6-requires
-check1to6-requires c κs = search needs
+check-sound-requires : tie.Need-check-sound-requires
+check-sound-requires c κs = search needs
 
 returns : tie.Need-returns
-unfolding check
-returns c = chain-stop _ (c .before .before .check1to6 .ensures ∙ lists-only _ _ _) (c .if1 .taken)
+returns c = chain-stop _ (c .before .before .check-sound .ensures ∙ lists-only _ _ _) (c .if1 .taken) ∙ sym (rest-chain _ _ _)
 
 totals-of-requires : tie.Need-totals-of-requires
 totals-of-requires c κs =
-    let s = sound _ _ _ (zero-of (c .before .before .check1to6 .ensures) (c .if1 .left)) in
+    let s = sound _ _ _ (zero-of (c .before .before .check-sound .ensures) (c .if1 .left)) in
     (s .fewFiles, (s .sidesLong, s .marksLong))
 
-check7to10-requires : tie.Need-check7to10-requires
-check7to10-requires c κs =
-    let s = sound _ _ _ (zero-of (c .before .before .before .check1to6 .ensures) (c .before .if1 .left)) in
+check-rest-requires : tie.Need-check-rest-requires
+check-rest-requires c κs =
+    let s = sound _ _ _ (zero-of (c .before .before .before .check-sound .ensures) (c .before .if1 .left)) in
     within-more (omega (arith, s .fewFiles)) (c .totals-of .ensures .within)
 
 returns-2 : tie.Need-returns-2
-unfolding check check7to10 totalsOf
+unfolding totalsOf
 returns-2 c =
-    chain-go (c .before .before .before .before .check1to6 .ensures ∙ lists-only _ _ _) (c .before .before .if1 .left)
-    (c .check7to10 .ensures _ (record { job-is = refl; totals = c .before .totals-of .ensures .is }))
+    chain-go (c .before .before .before .before .check-sound .ensures ∙ lists-only _ _ _) (c .before .before .if1 .left)
+    (c .check-rest .ensures _ (record { job-is = refl; totals = c .before .totals-of .ensures .is }))
+    ∙ sym (check-chain _ _ _)
 
 pub check-spec : {M : Type 1} → statement M
 check-spec =
-    tie.close (tie.spec check1to6-requires returns totals-of-requires check7to10-requires returns-2)
+    tie.close (tie.spec check-sound-requires returns totals-of-requires check-rest-requires returns-2)

@@ -5,8 +5,8 @@ use Rattle.stored.proofs.Readings.{own-verdict}
 use Rattle.stored.proofs.sound_verdict.Statement.{statement}
 use Rattle.stored.proofs.sound_verdict.Tie as tie
 
-new-requires : tie.Need-new-requires
-new-requires c κs = tt
+figures-of-requires : tie.Need-figures-of-requires
+figures-of-requires c κs = tt
 
 cast-c : tie.Need-cast-c
 cast-c c = omega arith
@@ -41,14 +41,14 @@ measure-requires c κs = tt
 returns : tie.Need-returns
 returns c =
     let p = c .before .before .before .before .before .before .before .before .before .before .before .before .before .before .before .before .pre in
-    let n = c .before .before .before .before .before .before .before .before .before .before .new .ensures in
-    own-verdict (p .0) (p .1) (rw (n .0, n .1, n .2, n .3) at (c .before .measure .ensures))
+    let n = c .before .before .before .before .before .before .before .before .before .before .figures-of .ensures in
+    own-verdict (p .0) (p .1) (rw n at (c .before .measure .ensures))
 
 pub sound-verdict-spec : {M : Type 1} → statement M
 sound-verdict-spec =
     tie.close
     (tie.spec
-    new-requires
+    figures-of-requires
     cast-c
     cast-n
     add-n

@@ -1,7 +1,7 @@
 use mathlib.Core.Path.{sym}
 use Prim.Native.Nat.{_-_}
 use native.Mathlib.Omega.{arith}
-use Rattle.rules.proofs.SoundJob.{ok4}
+use Rattle.rules.proofs.SoundJob.{bounds-pass}
 use Rattle.job.specs.Parts.{ofPins}
 use Rattle.job.proofs.OwnRecipe.{PinsPassed, pins-none, pins-part, pins-hit, pins-more, pins-end}
 use borrow.Author.Needs.{needs}
@@ -20,7 +20,7 @@ recipe-count-requires c κs = search needs
 loop-holds : tie.Need-loop-holds Inv-loop μ-loop
 loop-holds c =
     let pre = c .before .before .before .before .pre in
-    let r = ok4 _ (pre .1) in
+    let r = bounds-pass _ (pre .1) in
     pins-none _ _ (record { first = r .0; two = r .1; last = r .2 }) (pre .0)
 
 add-wide : tie.Need-add-wide Inv-loop μ-loop

@@ -4,7 +4,7 @@ use Prim.Native.Nat.{ℕ, _+_}
 use native.Mathlib.Omega.{arith}
 use lib.ListN.{getD}
 use borrow.Author.Needs.{needs}
-use Rattle.tables.specs.Zones.{cellsAt, startsAt, endsAt, roomAt, countsAt}
+use Rattle.tables.specs.Zones.{cellsAt, startsAt, countsAt}
 use Rattle.tables.proofs.Sides.{zones-are}
 use Rattle.split.proofs.moves.lock.Statement.{statement}
 use Rattle.split.proofs.moves.lock.Tie as tie
@@ -20,8 +20,7 @@ module _ (z : tie.After-zones-of) where
   P = s .args .extent .pins
 
   -- where the zones begin
-  zones : (z .zones-of .result .cells ≡ cellsAt C) × (z .zones-of .result .starts ≡ startsAt C P) × (z .zones-of .result .ends ≡ endsAt C P)
-      × (z .zones-of .result .room ≡ roomAt C P) × (z .zones-of .result .counts ≡ countsAt C P)
+  zones : (z .zones-of .result .cells ≡ cellsAt C) × (z .zones-of .result .starts ≡ startsAt C P) × (z .zones-of .result .counts ≡ countsAt C P)
   zones = zones-are C P (z .zones-of .ensures)
 
 zones-of-requires : tie.Need-zones-of-requires
@@ -45,6 +44,9 @@ add-from c = let z = c .before .before .before .before in omega (arith, zones z,
 add-wide-2 : tie.Need-add-wide-2
 add-wide-2 c = omega (arith, zones (c .before .before .before .before .before), s (c .before .before .before .before .before) .pre, s (c .before .before .before .before .before) .good)
 
+add-wide-3 : tie.Need-add-wide-3
+add-wide-3 c = omega (arith, zones (c .before .before .before .before .before), s (c .before .before .before .before .before) .pre, s (c .before .before .before .before .before) .good)
+
 mul-wide-2 : tie.Need-mul-wide-2
 mul-wide-2 c = omega (arith, zones (c .before .before .before .before .before), s (c .before .before .before .before .before) .pre, s (c .before .before .before .before .before) .good)
 
@@ -55,7 +57,7 @@ wide-requires-2 : tie.Need-wide-requires-2
 wide-requires-2 c κs = search needs
 
 add-to : tie.Need-add-to
-add-to c = let z = c .before .before .before .before .before .before .before .before in omega (arith, zones z, c .before .wide2 .ensures, c .before .before .slice-known3 .given (z .zones-of .result .ends + s z .args .f))
+add-to c = let z = c .before .before .before .before .before .before .before .before in omega (arith, zones z, c .before .wide2 .ensures, c .before .before .slice-known3 .given (z .zones-of .result .starts + s z .args .f + 1))
 
 mul-scratch : tie.Need-mul-scratch
 mul-scratch c = search needs
@@ -72,7 +74,7 @@ returns c =
     let x = s z .args in
     record {
       first = ap₂ _+_ (zones z .0) (c .before .before .before .before .before .wide .ensures ∙ ap (λ (i : ℕ). getD (x .scratch .now) (i + x .f) 0) (zones z .1));
-      last = ap₂ _+_ (zones z .0) (c .before .wide2 .ensures ∙ ap (λ (i : ℕ). getD (x .scratch .now) (i + x .f) 0) (zones z .2));
+      last = ap₂ _+_ (zones z .0) (c .before .wide2 .ensures ∙ ap (λ (i : ℕ). getD (x .scratch .now) (i + x .f + 1) 0) (zones z .1));
       held = refl;
     }
 
@@ -87,6 +89,7 @@ lock-spec =
     wide-requires
     add-from
     add-wide-2
+    add-wide-3
     mul-wide-2
     slice-read-wide-2
     wide-requires-2

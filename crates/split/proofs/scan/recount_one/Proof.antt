@@ -82,17 +82,20 @@ mul-l c = double (c .before .before .before .before .before .before .before) (c 
 slice-read-l : tie.Need-slice-read-l
 slice-read-l c = c .before .before .before .before .before .before .before .before .pre .inside .2
 
-kind-there-requires : tie.Need-kind-there-requires
-kind-there-requires c κs = tt
+mul-held : tie.Need-mul-held
+mul-held c = double (c .before .before .before .before .before .before .before .before) (c .before .before .before .before .before .before .before .before .pre .inside .3)
 
-mul-kind-left : tie.Need-mul-kind-left
-mul-kind-left c = double (c .before .before .before .before .before .before .before .before .before) (c .before .before .before .before .before .before .before .before .before .pre .inside .3)
+slice-read-held : tie.Need-slice-read-held
+slice-read-held c = c .before .before .before .before .before .before .before .before .before .pre .inside .3
 
-slice-read-kind-left : tie.Need-slice-read-kind-left
-slice-read-kind-left c = c .before .before .before .before .before .before .before .before .before .before .pre .inside .3
+add-joined : tie.Need-add-joined
+add-joined c = one-more (c .before .before .before .before .before .before .before .before .before .pre .there)
 
-kind-left-requires : tie.Need-kind-left-requires
-kind-left-requires c κs = tt
+kind-by-requires : tie.Need-kind-by-requires
+kind-by-requires c κs = omega arith
+
+kind-by-requires-2 : tie.Need-kind-by-requires-2
+kind-by-requires-2 c κs = omega arith
 
 mul-scratch : tie.Need-mul-scratch
 mul-scratch c = double (c .before .before .before .before .before .before .before .before .before .before .before) (c .before .before .before .before .before .before .before .before .before .before .before .pre .inside .0)
@@ -100,17 +103,14 @@ mul-scratch c = double (c .before .before .before .before .before .before .befor
 slice-write-scratch : tie.Need-slice-write-scratch
 slice-write-scratch c = c .before .before .before .before .before .before .before .before .before .before .before .pre .inside .0
 
-add-scratch : tie.Need-add-scratch
-add-scratch c = one-more (c .before .before .before .before .before .before .before .before .before .before .before .pre .there)
-
 mul-scratch-2 : tie.Need-mul-scratch-2
 mul-scratch-2 c = double (c .before .before .before .before .before .before .before .before .before .before .before) (c .before .before .before .before .before .before .before .before .before .before .before .pre .inside .1)
 
 slice-write-scratch-2 : tie.Need-slice-write-scratch-2
 slice-write-scratch-2 c = let a = c .before .before .before .before .before .before .before .before .before .before .before .args in after-first (a .way) (a .j) (a .scratch .now) (a .way .there + a .j) (c .before .before .before .before .before .before .before .before .before .before .before .pre .inside .1)
 
-add-scratch-2 : tie.Need-add-scratch-2
-add-scratch-2 c = one-more (c .before .before .before .before .before .before .before .before .before .before .before .pre .locked)
+add-scratch : tie.Need-add-scratch
+add-scratch c = one-more (c .before .before .before .before .before .before .before .before .before .before .before .pre .locked)
 
 mul-scratch-3 : tie.Need-mul-scratch-3
 mul-scratch-3 c = double (c .before .before .before .before .before .before .before .before .before .before .before) (c .before .before .before .before .before .before .before .before .before .before .before .pre .inside .2)
@@ -125,7 +125,7 @@ same-length c = let a = c .before .before .before .before .before .before .befor
 returns : tie.Need-returns
 unfolding recount
 returns c =
-    (ap₂ (λ (a b : ℕ). record { first = a; second = b }) (c .before .before .kind-there .ensures) (c .kind-left .ensures), refl)
+    (ap₂ (λ (a b : ℕ). record { first = a; second = b }) (c .before .kind-by .ensures) (c .kind-by2 .ensures), refl)
 
 pub recount-one-spec : {M : Type 1} → statement M
 recount-one-spec =
@@ -144,16 +144,16 @@ recount-one-spec =
     slice-read-t
     mul-l
     slice-read-l
-    kind-there-requires
-    mul-kind-left
-    slice-read-kind-left
-    kind-left-requires
+    mul-held
+    slice-read-held
+    add-joined
+    kind-by-requires
+    kind-by-requires-2
     mul-scratch
     slice-write-scratch
-    add-scratch
     mul-scratch-2
     slice-write-scratch-2
-    add-scratch-2
+    add-scratch
     mul-scratch-3
     slice-write-scratch-3
     same-length

@@ -45,8 +45,8 @@ scan-pins-requires c κs =
     let s = entry (c .before) in
     (s .pre .0, (s .pre .1 .0, (s .pre .1 .1 .0, near-room (length (s .args .pins .now)) (s .pre .1 .1 .1 .0) (fits (c .before) .visits))))
 
-scanned-requires : tie.Need-scanned-requires
-scanned-requires c κs = let e = c .before .before .before in omega (arith, fits e, entry e .good)
+visited-requires : tie.Need-visited-requires
+visited-requires c κs = let e = c .before .before .before in omega (arith, fits e, entry e .good)
 
 same-length : tie.Need-same-length
 same-length c = search needs
@@ -62,7 +62,7 @@ returns-2 c =
     let e = c .before .before .before .before in
     let x = entry e .args in
     scan-done (state (entry e)) (x .way .side) (x .j) (x .pins .now) (x .kind) (scanned (x .gains .now) (x .recipes .now) (x .kinds .now) (x .p))
-    {g = c .before .before .scan-pins .last .0} {p = c .scanned .result} (e .if1 .left) (c .before .before .scan-pins .ensures) (c .scanned .ensures)
+    {g = c .before .before .scan-pins .last .0} {p = c .visited .result} (e .if1 .left) (c .before .before .scan-pins .ensures) (c .visited .ensures)
 
 pub scan-if-spec : {M : Type 1} → statement M
 scan-if-spec =
@@ -74,7 +74,7 @@ scan-if-spec =
     mul-kinds
     slice-write-kinds
     scan-pins-requires
-    scanned-requires
+    visited-requires
     same-length
     same-length-2
     same-length-3

@@ -21,11 +21,8 @@ bad-k-requires c κs = tt
 refuse-if-requires : tie.Need-refuse-if-requires
 refuse-if-requires c κs = tt
 
-check1-requires : tie.Need-check1-requires
-check1-requires c κs = tt
-
-check2-requires : tie.Need-check2-requires
-check2-requires c κs = tt
+check-counts-requires : tie.Need-check-counts-requires
+check-counts-requires c κs = tt
 
 add-roomy : tie.Need-add-roomy
 add-roomy c = omega arith
@@ -39,18 +36,15 @@ or-else-requires c κs = tt
 or-else-requires-2 : tie.Need-or-else-requires-2
 or-else-requires-2 c κs = tt
 
-or-else-requires-3 : tie.Need-or-else-requires-3
-or-else-requires-3 c κs = tt
-
 returns : tie.Need-returns
 returns c =
-    let s = c .before .before .before in
+    let s = c .before .before in
     let t = s .before .before .before .before .before .before in
-    let k = t .before .before in
+    let k = t .before in
     simp length-replicate
-    (c .or-else3 .ensures
+    (c .or-else2 .ensures
     ∙ ap₂ _orElse_ (k .refuse-if .ensures ∙ ap (λ (b : Bool). refuseIf b 22 0) (k .before .bad-k .ensures))
-    (c .before .or-else2 .ensures ∙ ap₂ _orElse_ (t .before .check1 .ensures) (c .before .before .or-else .ensures ∙ ap₂ _orElse_ (t .check2 .ensures) (s .refuse-if2 .ensures))))
+    (c .before .or-else .ensures ∙ ap₂ _orElse_ (t .check-counts .ensures) (s .refuse-if2 .ensures)))
 
 pub figures-verdict-spec : {M : Type 1} → statement M
 figures-verdict-spec =
@@ -61,11 +55,9 @@ figures-verdict-spec =
     cast-pins
     bad-k-requires
     refuse-if-requires
-    check1-requires
-    check2-requires
+    check-counts-requires
     add-roomy
     refuse-if-requires-2
     or-else-requires
     or-else-requires-2
-    or-else-requires-3
     returns)

@@ -7,7 +7,7 @@ use lib.ListN.{length}
 use borrow.Author.Needs.{needs}
 use Rattle.rules.specs.Job.{viewOf}
 use Rattle.tables.specs.Zones.{stateOf}
-use Rattle.tables.specs.Building.{readOf, scannedOf}
+use Rattle.tables.specs.Building.{readOf, twoReadable}
 use Rattle.tables.proofs.Buildable.{own-read, own-short}
 use Rattle.tables.proofs.FourCounts.{CountedTo, counted-none, counted-more, counted-end}
 use Rattle.tables.proofs.counts.fill_counts.Statement.{statement}
@@ -19,23 +19,23 @@ Inv-loop zone₀ sides locks bounds pins n j₀ zone j = CountedTo (readOf locks
 abbrev μ-loop : tie.MeasureT-loop
 μ-loop zone₀ sides locks bounds pins n j₀ zone j = n - j
 
-abbrev Scanned : Type 0
-Scanned = tie.After-scanned Inv-loop μ-loop
+abbrev Taken : Type 0
+Taken = tie.After-two-readable Inv-loop μ-loop
 
-abbrev start : Scanned → tie.Start Inv-loop μ-loop
+abbrev start : Taken → tie.Start Inv-loop μ-loop
 start c = c .before .before .before .before .before .before .before .before .before
 
-abbrev own : Scanned → List ℕ
-own c = c .scanned .result .now
+abbrev own : Taken → List ℕ
+own c = c .two-readable .result .now
 
-abbrev number : Scanned → ℕ
+abbrev number : Taken → ℕ
 number c = c .before .before .before .loop .j
 
-there : (c : Scanned) → number c < length (start c .args .bounds .now) - 1
+there : (c : Taken) → number c < length (start c .args .bounds .now) - 1
 there c = omega arith
 
-own-is : (c : Scanned) → own c ≡ scannedOf (start c .args .locks .now) (viewOf (start c .args .bounds .now) (start c .args .pins .now) (number c))
-own-is c = c .scanned .ensures ∙ ap (scannedOf (start c .args .locks .now)) (c .before .view .ensures)
+own-is : (c : Taken) → own c ≡ twoReadable (start c .args .locks .now) (viewOf (start c .args .bounds .now) (start c .args .pins .now) (number c))
+own-is c = c .two-readable .ensures ∙ ap (twoReadable (start c .args .locks .now)) (c .before .view .ensures)
 
 loop-holds : tie.Need-loop-holds Inv-loop μ-loop
 loop-holds c = counted-none _ _ _ _ (omega arith)
@@ -43,8 +43,8 @@ loop-holds c = counted-none _ _ _ _ (omega arith)
 view-requires : tie.Need-view-requires Inv-loop μ-loop
 view-requires c κs = search needs
 
-scanned-requires : tie.Need-scanned-requires Inv-loop μ-loop
-scanned-requires c κs = search needs
+two-readable-requires : tie.Need-two-readable-requires Inv-loop μ-loop
+two-readable-requires c κs = search needs
 
 count-recipe-requires : tie.Need-count-recipe-requires Inv-loop μ-loop
 count-recipe-requires c κs =
@@ -82,7 +82,7 @@ fill-counts-spec =
     μ-loop
     loop-holds
     view-requires
-    scanned-requires
+    two-readable-requires
     count-recipe-requires
     add-j
     loop-less

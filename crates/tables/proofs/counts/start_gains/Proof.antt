@@ -9,7 +9,7 @@ use borrow.Author.Needs.{needs}
 use mir.Syntax.{w32}
 use mir.Val.{toZ, ofZ}
 use Rattle.rules.specs.Pass.{startGains}
-use Rattle.tables.specs.Zones.{cellsAt, startsAt, endsAt, roomAt, countsAt, sideAt, zonesOf, extentOf, stateOf}
+use Rattle.tables.specs.Zones.{cellsAt, startsAt, countsAt, sideAt, startIn, endIn, zonesOf, extentOf, stateOf}
 use Rattle.tables.specs.declared.zones.Extent.{Extent}
 use Rattle.tables.specs.Building.{readOf}
 use Rattle.tables.specs.Counting.{startGain}
@@ -56,8 +56,7 @@ P t = length (t .before .before .before .before .before .before .args .pins .now
 
 -- where the zones begin
 zones : (t : tie.After-zones-of Inv-loop μ-loop)
-    → (t .zones-of .result .cells ≡ cellsAt (C t)) × (t .zones-of .result .starts ≡ startsAt (C t) (P t)) × (t .zones-of .result .ends ≡ endsAt (C t) (P t))
-    × (t .zones-of .result .room ≡ roomAt (C t) (P t)) × (t .zones-of .result .counts ≡ countsAt (C t) (P t))
+    → (t .zones-of .result .cells ≡ cellsAt (C t)) × (t .zones-of .result .starts ≡ startsAt (C t) (P t)) × (t .zones-of .result .counts ≡ countsAt (C t) (P t))
 zones t = zones-are (C t) (P t) (t .zones-of .ensures ∙ ap (λ (e : Extent). zonesOf (e .files) (e .pins)) (t .before .before .before .before .before .before .pre .1 .0 .2))
 
 module _ (c : Turn) where
@@ -83,11 +82,11 @@ module _ (c : Turn) where
   number-is = c .before .before .before .before .before .before .before .before .before .before .before .before .before .before .wide .ensures ∙ ap (λ (e : Extent). e .recipes) known
 
   -- its cells, and the counts of both sides
-  from-is : s ≡ cellsAt (C (zoned c)) + getD scratch (startsAt (C (zoned c)) (P (zoned c)) + file c) 0
+  from-is : s ≡ cellsAt (C (zoned c)) + startIn (C (zoned c)) (P (zoned c)) scratch (file c)
   from-is = ap₂ _+_ (zones (zoned c) .0) (c .before .before .before .before .before .before .before .before .before .wide2 .ensures ∙ ap (λ (i : ℕ). getD scratch (i + file c) 0) (zones (zoned c) .1))
 
-  to-is : e ≡ cellsAt (C (zoned c)) + getD scratch (endsAt (C (zoned c)) (P (zoned c)) + file c) 0
-  to-is = ap₂ _+_ (zones (zoned c) .0) (c .before .before .before .before .before .wide3 .ensures ∙ ap (λ (i : ℕ). getD scratch (i + file c) 0) (zones (zoned c) .2))
+  to-is : e ≡ cellsAt (C (zoned c)) + endIn (C (zoned c)) (P (zoned c)) scratch (file c)
+  to-is = ap₂ _+_ (zones (zoned c) .0) (c .before .before .before .before .before .wide3 .ensures ∙ ap (λ (i : ℕ). getD scratch (i + file c + 1) 0) (zones (zoned c) .1))
 
   own-is : c .before .before .side-at .result ≡ sideAt (countsAt (C (zoned c)) (P (zoned c))) N (getD (start c .args .sides .now) (file c) 0)
   own-is = c .before .before .side-at .ensures ∙ ap (λ (e : Extent). sideAt (countsAt (e .files) (e .pins)) (e .recipes) (getD (start c .args .sides .now) (file c) 0)) known
@@ -132,6 +131,9 @@ add-s c = omega (arith, zones (c .before .before .before .before .before .before
 add-wide-2 : tie.Need-add-wide-2 Inv-loop μ-loop
 add-wide-2 c = omega (arith, zones (c .before .before .before .before .before .before .before .before))
 
+add-wide-3 : tie.Need-add-wide-3 Inv-loop μ-loop
+add-wide-3 c = omega (arith, zones (c .before .before .before .before .before .before .before .before))
+
 mul-wide-2 : tie.Need-mul-wide-2 Inv-loop μ-loop
 mul-wide-2 c = omega (arith, zones (c .before .before .before .before .before .before .before .before))
 
@@ -142,7 +144,7 @@ wide-requires-3 : tie.Need-wide-requires-3 Inv-loop μ-loop
 wide-requires-3 c κs = search needs
 
 add-e : tie.Need-add-e Inv-loop μ-loop
-add-e c = omega (arith, zones (c .before .before .before .before .before .before .before .before .before .before .before), c .before .wide3 .ensures, c .before .before .shared-slice-known7 .given (c .before .before .before .before .before .before .before .before .before .before .before .zones-of .result .ends + c .before .before .before .before .before .before .before .before .before .loop .f), c .before .before .before .before .before .before .before .before .before .before .before .before .before .before .before .before .before .pre .0 .fewFiles)
+add-e c = omega (arith, zones (c .before .before .before .before .before .before .before .before .before .before .before), c .before .wide3 .ensures, c .before .before .shared-slice-known7 .given (c .before .before .before .before .before .before .before .before .before .before .before .zones-of .result .starts + c .before .before .before .before .before .before .before .before .before .loop .f + 1), c .before .before .before .before .before .before .before .before .before .before .before .before .before .before .before .before .before .pre .0 .fewFiles)
 
 mul-side-at : tie.Need-mul-side-at Inv-loop μ-loop
 mul-side-at c = search needs
@@ -217,6 +219,7 @@ start-gains-spec =
     wide-requires-2
     add-s
     add-wide-2
+    add-wide-3
     mul-wide-2
     shared-slice-read-wide-2
     wide-requires-3

@@ -10,9 +10,11 @@ use Rattle.rules.specs.Pass.{startGains}
 use Rattle.tables.specs.declared.zones.Zones.{Zones}
 use Rattle.tables.specs.Zones.{countsAt, extentOf, stateOf, Counts}
 use Rattle.tables.specs.Building.{readOf}
+use Rattle.tables.specs.Filling.{startOf}
 use Rattle.tables.specs.LayingOut.{Prepared}
+use Rattle.tables.proofs.Placing.{cells-fit}
 use Rattle.tables.proofs.Sides.{zones-are}
-use Rattle.tables.proofs.LentParts.{Begins, second-in, third-in, OneZone, TwoZones, ThreeZones, threeZones, locks-room, cells-room, counts-room, zones-long, zones-fit, zones-beyond, zones-locks, zones-starts, zones-spare, zones-cells, zones-room, zones-counts}
+use Rattle.tables.proofs.LentParts.{Begins, second-in, third-in, OneZone, TwoZones, ThreeZones, threeZones, locks-room, cells-room, counts-room, zones-long, zones-fit, zones-beyond, zones-locks, zones-starts, zones-spare, zones-cells, zones-counts}
 use Rattle.tables.proofs.start.prepare.Statement.{statement}
 use Rattle.tables.proofs.start.prepare.Tie as tie
 
@@ -34,10 +36,10 @@ module _ (z : tie.After-zones-of) where
   abbrev at : Zones
   at = z .zones-of .result
 
-  begins : Begins C P N (at .cells) (at .room) (at .counts) (at .counts + 4 * N)
+  begins : Begins C P N (at .cells) (at .counts) (at .counts + 4 * N)
   begins =
       let e = zones-are C P (z .zones-of .ensures) in
-      record { cells = e .0; room = e .3; counts = e .4; end = ap (λ (i : ℕ). i + 4 * N) (e .4) }
+      record { cells = e .0; counts = e .2; end = ap (λ (i : ℕ). i + 4 * N) (e .2) }
 
   -- they stand in the scratch, and are small numbers
   fit : countsAt C P + 4 * N ≤ length (s .args .scratch .now)
@@ -61,14 +63,14 @@ abbrev zoned : Copied → tie.After-zones-of
 zoned c = c .before .before
 
 one-zone : (c : Copied)
-    → (let z = zoned c in OneZone (C z) (P z) (N z) (at z .cells) (at z .room) (at z .counts) (at z .counts + 4 * N z) (s z .args .scratch .now) (c .copy .last .0))
+    → (let z = zoned c in OneZone (C z) (P z) (N z) (at z .cells) (at z .counts) (at z .counts + 4 * N z) (s z .args .scratch .now) (c .copy .last .0))
 one-zone c = record { begins = begins (zoned c); fits = fit (zoned c); first = c .copy .kept .0 }
 
 abbrev copied : Built → Copied
 copied c = c .before .before .before .before
 
 two-zones : (c : Built)
-    → (let z = zoned (copied c) in TwoZones (C z) (P z) (N z) (at z .cells) (at z .room) (at z .counts) (at z .counts + 4 * N z) (s z .args .scratch .now) (copied c .copy .last .0) (c .build-cells .last .0))
+    → (let z = zoned (copied c) in TwoZones (C z) (P z) (N z) (at z .cells) (at z .counts) (at z .counts + 4 * N z) (s z .args .scratch .now) (copied c .copy .last .0) (c .build-cells .last .0))
 two-zones c = record { before = one-zone (copied c); second = c .build-cells .kept .0 }
 
 module _ (c : Whole) where
@@ -83,20 +85,22 @@ module _ (c : Whole) where
 
   abbrev scratch : List ℕ
   scratch =
-      threeZones (at z .cells) (at z .room) (at z .counts) (at z .counts + 4 * N z) (args .args .scratch .now) (copied built .copy .last .0) (built .build-cells .last .0) (c .fill-counts .last .0)
+      threeZones (at z .cells) (at z .counts) (at z .counts + 4 * N z) (args .args .scratch .now) (copied built .copy .last .0) (built .build-cells .last .0) (c .fill-counts .last .0)
 
-  three-zones : ThreeZones (C z) (P z) (N z) (at z .cells) (at z .room) (at z .counts) (at z .counts + 4 * N z) (args .args .scratch .now) (copied built .copy .last .0) (built .build-cells .last .0) (c .fill-counts .last .0)
+  three-zones : ThreeZones (C z) (P z) (N z) (at z .cells) (at z .counts) (at z .counts + 4 * N z) (args .args .scratch .now) (copied built .copy .last .0) (built .build-cells .last .0) (c .fill-counts .last .0)
   three-zones = record { before = two-zones built; third = c .fill-counts .kept .0 }
+
+  fits : startOf (readOf (args .args .marks .now) (args .args .bounds .now) (args .args .pins .now)) (C z) ≤ P z
+  fits = cells-fit (args .args .marks .now) (args .args .bounds .now) (args .args .pins .now) (C z) (args .pre .0)
 
   prepared : (gains : List ℤ)
       → gains ≡ startGains (readOf (args .args .marks .now) (args .args .bounds .now) (args .args .pins .now)) (C z) (stateOf (args .args .sides .now) (args .args .marks .now))
       → Prepared (args .args .bounds .now) (args .args .pins .now) (args .args .sides .now) (args .args .marks .now) (args .args .scratch .now) scratch gains (N z)
   prepared gains e = record {
     locks = zones-locks three-zones ∙ copied built .copy .ensures;
-    starts = zones-starts (args .args .marks .now) three-zones (args .pre .0) (built .build-cells .ensures);
-    cells = zones-cells (args .args .marks .now) three-zones (args .pre .0) (built .build-cells .ensures);
-    spare = zones-spare (args .args .marks .now) three-zones (args .pre .0) (built .build-cells .ensures);
-    room = zones-room three-zones;
+    starts = zones-starts three-zones fits (built .build-cells .ensures);
+    cells = zones-cells three-zones fits (built .build-cells .ensures);
+    spare = zones-spare three-zones fits (built .build-cells .ensures);
     counts = zones-counts three-zones (c .fill-counts .ensures);
     long = zones-long three-zones;
     beyond = zones-beyond three-zones;
@@ -106,14 +110,14 @@ module _ (c : Whole) where
 recipe-count-requires : tie.Need-recipe-count-requires
 recipe-count-requires c κs = search needs
 
+cast-t14 : tie.Need-cast-t14
+cast-t14 c = search needs
+
 cast-t15 : tie.Need-cast-t15
 cast-t15 c = search needs
 
-cast-t16 : tie.Need-cast-t16
-cast-t16 c = search needs
-
-cast-t18 : tie.Need-cast-t18
-cast-t18 c = search needs
+cast-t17 : tie.Need-cast-t17
+cast-t17 c = search needs
 
 zones-of-requires : tie.Need-zones-of-requires
 zones-of-requires c κs = search needs
@@ -179,7 +183,7 @@ start-gains-requires c κs =
           (
             pre .1 .1 .1,
             (
-              zones-cells (args f .args .marks .now) (three-zones f) (pre .0) (built f .build-cells .ensures),
+              zones-cells (three-zones f) (fits f) (built f .build-cells .ensures),
               subst (λ (i : ℕ). Counts (readOf (args f .args .marks .now) (args f .args .bounds .now) (args f .args .pins .now)) (stateOf (args f .args .sides .now) (args f .args .marks .now)) (countsAt (C (z f)) (P (z f))) i (scratch f)) n (zones-counts (three-zones f) (f .fill-counts .ensures)),
             ),
           ),
@@ -205,9 +209,9 @@ prepare-spec =
     tie.close
     (tie.spec
     recipe-count-requires
+    cast-t14
     cast-t15
-    cast-t16
-    cast-t18
+    cast-t17
     zones-of-requires
     mul-end
     add-end

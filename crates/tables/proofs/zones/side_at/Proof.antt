@@ -10,7 +10,7 @@ zones-of-requires : tie.Need-zones-of-requires
 zones-of-requires c κs = search needs
 
 returns : tie.Need-returns
-returns c = rw (eq-eqb _ _ (c .if1 .taken)) (zones-are _ _ (c .before .zones-of .ensures) .4)
+returns c = rw (eq-eqb _ _ (c .if1 .taken)) (zones-are _ _ (c .before .zones-of .ensures) .2)
 
 wide-requires : tie.Need-wide-requires
 wide-requires c κs = search needs

@@ -15,19 +15,15 @@ wide-requires-2 c κs = search needs
 add-starts : tie.Need-add-starts
 add-starts c = search needs
 
-add-ends : tie.Need-add-ends
-add-ends c = search needs
+add-t4 : tie.Need-add-t4
+add-t4 c = search needs
 
-add-room : tie.Need-add-room
-add-room c = search needs
-
-add-t6 : tie.Need-add-t6
-add-t6 c = search needs
+add-t5 : tie.Need-add-t5
+add-t5 c = search needs
 
 returns : tie.Need-returns
 returns c = ap₂ zonesOf (c .before .wide .ensures) (c .wide2 .ensures)
 
 pub zones-of-spec : {M : Type 1} → statement M
 zones-of-spec =
-    tie.close
-    (tie.spec wide-requires wide-requires-2 add-starts add-ends add-room add-t6 returns)
+    tie.close (tie.spec wide-requires wide-requires-2 add-starts add-t4 add-t5 returns)

@@ -1,4 +1,0 @@
-pub mod Handing
-pub mod Balancing
-pub mod WholeInput
-pub mod Unique

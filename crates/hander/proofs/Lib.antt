@@ -1,0 +1,5 @@
+pub mod Handing
+pub mod Resettling
+pub mod Balancing
+pub mod WholeInput
+pub mod Unique
