@@ -1,8 +1,10 @@
 """A plain reference for the two-vault split, written from documents 01 and 02 alone.
 
-It is slow and simple on purpose. Every gain is counted anew from the split at
-every move, so no step here rests on the scans that it lists: the scans are
-worked out beside the gains and never used to change one.
+It is slow and simple on purpose. The gain of every file of a recipe that a move
+touches is counted anew from the split, so no step here rests on the scans that
+it lists: the scans are worked out beside the gains and never used to change one.
+Only the buckets of edition 2 follow them, since order 9 says by them which file
+enters when.
 
 The documents' words are the names. Sentences of theirs are quoted where a line
 follows them.
@@ -21,6 +23,11 @@ MOST_K = 4
 
 A, B = 0, 1
 FREE, PINNED, UNREAD = 0, 1, 2
+
+# "Edition 2 of the choice, beside edition 1."
+EDITIONS = (1, 2)
+# "An edition other than 1, 2 and those that a later order adds."
+NO_EDITION = 32
 
 
 # ---- A job
@@ -258,53 +265,76 @@ def measure(job):
     return 0, 0, cut(job, job.sides), size_of_a(job, job.sides), *job.unread
 
 
-def scratch_numbers(job):
-    """ "Scratch of at least P + 4C + 4N + 16 numbers." """
-    return len(job.pins) + 4 * job.files + 4 * job.recipes + 16
+def scratch_numbers(job, edition=1):
+    """ "Scratch of at least P + 4C + 4N + 16 numbers", and "for edition 2 P + 4C + 8N +
+    16"."""
+    for_recipes = 8 if edition == 2 else 4
+    return len(job.pins) + 4 * job.files + for_recipes * job.recipes + 16
 
 
-def lent_fits(job, gains, moves, scans, scratch):
+def lent_fits(job, gains, moves, scans, scratch, edition=1):
     """Whether lent lists of these lengths serve: one, four, two and one of them."""
     return (
         gains == job.files
         and all(length >= job.files for length in moves)
         and all(length >= 4 * job.recipes for length in scans)
-        and scratch >= scratch_numbers(job)
+        and scratch >= scratch_numbers(job, edition)
     )
+
+
+def edition_refusal(edition, job, lent_ok):
+    """Number and place of a pass or run: 32, "place 0, before all other checks"."""
+    if edition not in EDITIONS:
+        return NO_EDITION, 0
+    return check(job, lent_ok)
 
 
 # ---- Gain, cut, balance
 
 
+def side_count(files, sides):
+    """How many of these files are in A and in B."""
+    in_b = sum(sides[file] for file in files)
+    return len(files) - in_b, in_b
+
+
 def side_counts(job, sides):
     """For each recipe, its number of readable files in A and in B."""
-    counts = []
-    for files in job.readable_recipes:
-        in_b = sum(sides[file] for file in files)
-        counts.append((len(files) - in_b, in_b))
-    return counts
+    return [side_count(files, sides) for files in job.readable_recipes]
+
+
+def cut_of(counts):
+    """ "The cut is the number of cut recipes", those with files in both vaults."""
+    return sum(1 for in_a, in_b in counts if in_a and in_b)
 
 
 def cut(job, sides):
-    """ "The cut is the number of cut recipes", those with files in both vaults."""
-    return sum(1 for in_a, in_b in side_counts(job, sides) if in_a and in_b)
+    return cut_of(side_counts(job, sides))
+
+
+def gain_of(job, sides, counts, file):
+    """ "The count of its recipes where it is alone on its side, less the count of those
+    with no file on the other side." """
+    own_side = sides[file]
+    own_counts = [counts[j] for j in job.file_recipes[file]]
+    alone = sum(1 for count in own_counts if count[own_side] == 1)
+    return alone - sum(1 for count in own_counts if count[1 - own_side] == 0)
 
 
 def all_gains(job, sides):
-    """The gain of every file, counted from the split alone.
+    """The gain of every file, counted from the split alone."""
+    counts = side_counts(job, sides)
+    return [gain_of(job, sides, counts, file) for file in range(job.files)]
 
-    "The count of its recipes where it is alone on its side, less the count of
-    those with no file on the other side."
-    """
-    gains = [0] * job.files
-    for files, counts in zip(job.readable_recipes, side_counts(job, sides)):
-        for file in files:
-            own_side = sides[file]
-            if counts[own_side] == 1:
-                gains[file] += 1
-            if counts[1 - own_side] == 0:
-                gains[file] -= 1
-    return gains
+
+def count_anew(job, sides, counts, gains, moved):
+    """Counts and gains once a file has moved: its recipes, and every file of them, are
+    counted from the split. In all others nothing has changed."""
+    for j in job.file_recipes[moved]:
+        counts[j] = side_count(job.readable_recipes[j], sides)
+    touched = {i for j in job.file_recipes[moved] for i in job.readable_recipes[j]}
+    for file in touched:
+        gains[file] = gain_of(job, sides, counts, file)
 
 
 def size_of_a(job, sides):
@@ -342,7 +372,8 @@ def choose(job, sides, locked, gains):
     size_a = size_of_a(job, sides)
     best = None
     for file in range(job.files):
-        if locked[file]:
+        # One of less gain than another legal one is not chosen.
+        if locked[file] or (best and -gains[file] > best[0]):
             continue
         after = size_after(job, sides, size_a, file)
         if not balanced(job, after):
@@ -376,6 +407,87 @@ def scans_of_move(job, sides, locked, file):
         if len(files_f) == 1 and not locked[files_f[0]]:
             scans.append((j, 4))
     return scans
+
+
+# ---- The choice of edition 2
+
+
+def enter(buckets, sides, file, gain):
+    """A file "enters the front" of the bucket of its vault and this gain."""
+    buckets[sides[file]].setdefault(gain, []).insert(0, file)
+
+
+def leave(buckets, sides, file):
+    """A file leaves its bucket; the gain by which it stood there."""
+    own_buckets = buckets[sides[file]]
+    gain = next(gain for gain, files in own_buckets.items() if file in files)
+    own_buckets[gain].remove(file)
+    return gain
+
+
+def full_buckets(job, sides, locked):
+    """ "Each vault has buckets by gain. Free files enter at the front in rising
+    number." Of each vault a dictionary: gain, and its files from the front on."""
+    buckets = ({}, {})
+    gains = all_gains(job, sides)
+    for file in range(job.files):
+        if not locked[file]:
+            enter(buckets, sides, file, gains[file])
+    return buckets
+
+
+def changed_by(job, sides, locked, file, recipe, kind):
+    """The free files that a scan of this move changes, "pins in order", and by what.
+    sides: the split before the move."""
+    files = [other for other in job.readable_recipes[recipe] if not locked[other]]
+    if kind == 2:
+        files = [other for other in files if sides[other] != sides[file]]
+    if kind == 4:
+        files = [other for other in files if sides[other] == sides[file]]
+    return files, 1 if kind in (1, 4) else -1
+
+
+def follow_scans(job, sides, locked, buckets, file, scans):
+    """ "A file changed by a scan enters the front of its new one", scan by scan."""
+    for recipe, kind in scans:
+        changed, step = changed_by(job, sides, locked, file, recipe, kind)
+        for other in changed:
+            enter(buckets, sides, other, leave(buckets, sides, other) + step)
+
+
+def front(own_buckets):
+    """ "The front file of each vault's highest nonempty bucket", or None."""
+    gains = [gain for gain, files in own_buckets.items() if files]
+    return own_buckets[max(gains)][0] if gains else None
+
+
+def choose_front(job, sides, buckets, gains):
+    """The file to move, or None: "if neither qualifies the pass stops".
+
+    A front file is "rejected if its move is not legal; of two take the greater
+    gain, then the better balance, then the one from A".
+    """
+    size_a = size_of_a(job, sides)
+    ranks = []
+    for vault in (A, B):
+        file = front(buckets[vault])
+        if file is None:
+            continue
+        after = size_after(job, sides, size_a, file)
+        if balanced(job, after):
+            distance = abs(job.den * after - job.num * job.total)
+            ranks.append((-gains[file], distance, vault, file))
+    return min(ranks)[3] if ranks else None
+
+
+def choose_by(edition, job, sides, locked, buckets, gains):
+    """ "Demand 2 reads with each edition's own choice and stop." """
+    if edition == 2:
+        return choose_front(job, sides, buckets, gains)
+    return choose(job, sides, locked, gains)
+
+
+# ---- A pass by either
 
 
 def best_prefix(cuts):
@@ -436,24 +548,30 @@ def sides_after(sides, moved):
     return after
 
 
-def one_pass(job, start):
-    """One pass over a sound job from the given sides."""
+def one_pass(job, start, edition=1):
+    """One pass over a sound job from the given sides, by an edition that there is."""
     sides = list(start)
     locked = [mark != FREE for mark in job.marks]
-    cuts = [cut(job, sides)]
+    buckets = full_buckets(job, sides, locked) if edition == 2 else None
+    counts, gains = side_counts(job, sides), all_gains(job, sides)
+    cuts = [cut_of(counts)]
     move_files, move_gains, move_scans, scans = [], [], [], []
     while True:
-        gains = all_gains(job, sides)
-        file = choose(job, sides, locked, gains)
+        file = choose_by(edition, job, sides, locked, buckets, gains)
         if file is None:
             break
         locked[file] = True
-        scans += scans_of_move(job, sides, locked, file)
+        own_scans = scans_of_move(job, sides, locked, file)
+        if buckets:
+            leave(buckets, sides, file)
+            follow_scans(job, sides, locked, buckets, file, own_scans)
+        scans += own_scans
         sides[file] = 1 - sides[file]
-        cuts.append(cut(job, sides))
         move_files.append(file)
         move_gains.append(gains[file])
         move_scans.append(len(scans))
+        count_anew(job, sides, counts, gains, file)
+        cuts.append(cut_of(counts))
     kept = best_prefix(cuts)
     left = sides_after(start, move_files[:kept])
     return PassAnswer(
@@ -499,25 +617,25 @@ class RunAnswer:
     last: PassAnswer = None
 
 
-def all_passes(job):
+def all_passes(job, edition=1):
     """ "Passes follow one another until one leaves the cut equal, or the cap is
     reached." A cap of 0 is none."""
     answers = []
     sides = job.sides
     while True:
-        answer = one_pass(job, sides)
+        answer = one_pass(job, sides, edition)
         answers.append(answer)
         sides = answer.sides
         if answer.cut_after == answer.cut_before or len(answers) == job.cap:
             return answers
 
 
-def run(job, lent_ok=True):
+def run(job, lent_ok=True, edition=1):
     """The passes of a job, or its refusal with all other numbers 0."""
-    number, place = check(job, lent_ok)
+    number, place = edition_refusal(edition, job, lent_ok)
     if number:
         return RunAnswer(number, place)
-    answers = all_passes(job)
+    answers = all_passes(job, edition)
     last = answers[-1]
     return RunAnswer(
         cut_before=answers[0].cut_before,
@@ -533,6 +651,82 @@ def run(job, lent_ok=True):
         unread=last.unread,
         last=last,
     )
+
+
+# ---- A pass and a run with all that they are lent
+
+
+@dataclass
+class Lent:
+    """The lists lent beside the job, as they are before a call or after it."""
+
+    gains: list
+    # Four, and two.
+    moves: list
+    scans: list
+    scratch: list
+
+    def fits(self, job, edition):
+        return lent_fits(
+            job,
+            gains=len(self.gains),
+            moves=[len(one) for one in self.moves],
+            scans=[len(one) for one in self.scans],
+            scratch=len(self.scratch),
+            edition=edition,
+        )
+
+
+def over(entries, lent):
+    """These entries, and those beyond as they were: "further entries stay"."""
+    return list(entries) + list(lent[len(entries) :])
+
+
+def lent_after(job, edition, last, lent):
+    """What the last pass leaves in the lists that were lent."""
+    moves = (last.move_files, last.move_gains, last.move_cuts, last.move_scans)
+    scans = (last.scan_recipes, last.scan_kinds)
+    # "The scratch numbers named above are 0, any beyond stay."
+    named = [0] * scratch_numbers(job, edition)
+    return Lent(
+        gains=last.gains,
+        moves=[over(*each) for each in zip(moves, lent.moves)],
+        scans=[over(*each) for each in zip(scans, lent.scans)],
+        scratch=over(named, lent.scratch),
+    )
+
+
+def pass_figures(answer):
+    """ "Cut before and after, |A| after, moves tried and kept, scans, visits", and the
+    two unread numbers."""
+    sizes = (answer.cut_before, answer.cut_after, answer.size_a)
+    counts = (answer.tried, answer.kept, answer.scans, answer.visits)
+    return *sizes, *counts, *answer.unread
+
+
+def run_figures(answer):
+    """ "That of a pass, with the number of passes and settled besides." """
+    return *pass_figures(answer), answer.passes, int(answer.settled)
+
+
+def pass_call(job, edition, lent):
+    """Number and place, the figures, the sides, and what was lent, after a pass."""
+    number, place = edition_refusal(edition, job, lent.fits(job, edition))
+    if number:
+        # "All other numbers of a refused answer are 0 and no lent list changes."
+        return number, place, (0,) * 9, list(job.sides), lent
+    answer = one_pass(job, job.sides, edition)
+    after = lent_after(job, edition, answer, lent)
+    return 0, 0, pass_figures(answer), answer.sides, after
+
+
+def run_call(job, edition, lent):
+    """The same after a run; "the lists are the last pass's"."""
+    answer = run(job, lent.fits(job, edition), edition)
+    if answer.number:
+        return answer.number, answer.place, (0,) * 11, list(job.sides), lent
+    after = lent_after(job, edition, answer.last, lent)
+    return 0, 0, run_figures(answer), answer.last.sides, after
 
 
 # ---- A balanced start
@@ -959,9 +1153,15 @@ def size_line(job, answer):
     return f"size {answer.size_a} {job.total - answer.size_a}"
 
 
-def run_stored(data):
-    """What the program prints for these bytes on standard input."""
-    job, answer = read_and(run, RunAnswer, data)
+def run_by(edition):
+    """The run of a job by this edition."""
+    return lambda job: run(job, edition=edition)
+
+
+def run_stored(data, edition=1):
+    """What the program prints for these bytes on standard input; "the night program
+    stays with 1"."""
+    job, answer = read_and(run_by(edition), RunAnswer, data)
     if answer.number:
         return refused_line(answer.number, answer.place)
     lines = [
@@ -977,12 +1177,12 @@ def run_stored(data):
     return "\n".join(lines) + "\n"
 
 
-def resettle(data):
+def resettle(data, edition=1):
     """The stored job with the sides after its run, and what standard error says.
 
     All else is as it was; of a refused job no byte is written.
     """
-    job, answer = read_and(run, RunAnswer, data)
+    job, answer = read_and(run_by(edition), RunAnswer, data)
     if answer.number:
         return b"", refused_line(answer.number, answer.place)
     return write_job(job.changed(sides=answer.last.sides)), ""
@@ -1019,14 +1219,14 @@ def move_lines(answer):
     return lines
 
 
-def trace(data):
+def trace(data, edition=1):
     """One pass over a stored job, move by move."""
     number, place, _, job = read_job(data)
     if number == 0:
         number, place = check(job)
     if number:
         return refused_line(number, place)
-    answer = one_pass(job, job.sides)
+    answer = one_pass(job, job.sides, edition)
     lines = first_lines(answer)
     lines += move_lines(answer)
     lines += [
@@ -1040,6 +1240,37 @@ def trace(data):
         sides_line(job, answer.sides),
     ]
     return "\n".join(lines) + "\n"
+
+
+def edition_of(words, unsaid=None):
+    """The edition that a program's arguments name: one of them, in decimal. Where they
+    name none that there is, None; without arguments, the one that goes unsaid."""
+    if not words:
+        return unsaid
+    named = {str(edition): edition for edition in EDITIONS}
+    return named.get(words[0]) if len(words) == 1 else None
+
+
+REFUSED_EDITION = refused_line(NO_EDITION, 0)
+
+
+def edition_program(words, data):
+    """What the program `edition` prints: the night's report by that edition, and
+    "`refused 32 0` for any other argument, before anything is read"."""
+    edition = edition_of(words)
+    return REFUSED_EDITION if edition is None else run_stored(data, edition)
+
+
+def trace_program(words, data):
+    """What `trace` prints, which "takes the edition as its one argument, and 1 without"."""
+    edition = edition_of(words, unsaid=1)
+    return REFUSED_EDITION if edition is None else trace(data, edition)
+
+
+def resettle_program(words, data):
+    """What `resettle` writes, and what it says on standard error: "likewise"."""
+    edition = edition_of(words, unsaid=1)
+    return (b"", REFUSED_EDITION) if edition is None else resettle(data, edition)
 
 
 def compare_program(old_bytes, new_bytes):
@@ -1073,8 +1304,13 @@ def compare_files(names):
 
 
 def main(words, data):
-    """The report of the bytes, or with the one word `trace` their trace."""
-    return trace(data) if words == ["trace"] else run_stored(data)
+    """The report of the bytes; with the word `trace` their trace, or with the word
+    `edition` their report by one, which is named behind either word."""
+    if words[:1] == ["trace"]:
+        return trace_program(words[1:], data)
+    if words[:1] == ["edition"]:
+        return edition_program(words[1:], data)
+    return run_stored(data)
 
 
 if __name__ == "__main__":

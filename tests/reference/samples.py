@@ -1,6 +1,7 @@
 """Jobs for tests: those that the documents give, those at the edges of the window,
 those with unread files, those with a wider window, those to be compared, those whose
-window reaches an empty vault or just not, and random ones."""
+window reaches an empty vault or just not, those whose fronts are worked out by hand, and
+random ones."""
 
 from math import gcd
 
@@ -981,6 +982,53 @@ def vault_starts(k):
         "none_here_hit": (10, 0, hit.changed(sides=[B] * hit.files)),
     }
     return all_at(k, on_both_sides(found))
+
+
+# ---- Order 9: passes by edition 2 that are worked out by hand
+
+
+def worked():
+    """The worked pass. W is 13 and smax 3: 2·|A| may be off 13 by 6, so that |A| is from
+    4 up to 9. It starts at 4."""
+    return job_of_recipes(
+        [[7, 3], [1, 0, 5], [6, 4, 3], [3, 2, 6]],
+        sizes=[2, 2, 2, 1, 1, 1, 3, 1],
+        sides=[A, B, B, A, B, A, B, B],
+        marks=[PINNED] + [FREE] * 7,
+        num=1,
+        den=2,
+        cap=0,
+    )
+
+
+def fronts():
+    """By name; test_planner.py has the moves of each."""
+    four = all_free([[0, 1, 2, 3]], [A, A, B, B])
+    return {
+        "worked": worked(),
+        # All gains are 0: the highest number of each vault stands first.
+        "four": four,
+        # File 0 is changed by two moves, and then stands before file 1.
+        "back": all_free([[0, 2, 3, 5]], [A, A, A, B, B, B]),
+        # W is 7 and |A| 2: with file 1 it is nearer to its half than without file 3.
+        "balance": four.changed(sizes=[2, 3, 1, 1], sides=[B, B, A, A]),
+        # W is 8, |A| 4, and from 2 up to 6: the last pin that is changed stands first.
+        "pins": all_free([[3, 1, 2, 0]], [A] * 4).changed(
+            sizes=[1, 1, 1, 1, 4],
+            sides=[A, A, A, A, B],
+            marks=[FREE] * 4 + [PINNED],
+            k=2,
+        ),
+        # |A| is 5 of 9 and at most 7: file 1 could move, and stands behind file 2.
+        "stops": lone_front([FREE, FREE]),
+        # The same with file 1 pinned: no move is legal.
+        "none": lone_front([PINNED, FREE]),
+    }
+
+
+def lone_front(marks):
+    """A holds a pinned file alone, and B a light one and a heavy one of these marks."""
+    return all_free([[1, 2]], [A, B, B]).changed(sizes=[5, 1, 3], marks=[PINNED, *marks])
 
 
 # ---- Random jobs

@@ -2419,6 +2419,406 @@ class NoEmptyVault(unittest.TestCase):
         self.assertEqual(planner.balance(mill()).number, 0)
 
 
+# ---- Order 9: the paper's own choice
+
+
+class Latest:
+    """The choice of edition 2 in a second way: one list of the free files, the latest
+    entered first. A bucket is what of it has that vault and that gain, in its order."""
+
+    def __init__(self, job, start):
+        self.job, self.sides = job, list(start)
+        self.gains = planner.all_gains(job, start)
+        self.free = [i for i in reversed(range(job.files)) if job.marks[i] == FREE]
+
+    def bucket(self, vault, gain):
+        free = [i for i in self.free if self.sides[i] == vault]
+        return [i for i in free if self.gains[i] == gain]
+
+    def buckets(self):
+        """Those that have a file, of each vault, the highest gain first."""
+        gains = sorted({self.gains[i] for i in self.free}, reverse=True)
+        return tuple(
+            {gain: self.bucket(vault, gain) for gain in gains if self.bucket(vault, gain)}
+            for vault in (A, B)
+        )
+
+    def offers(self):
+        """The front of the highest bucket of each vault that has one, if it is legal,
+        with its rank."""
+        found = {}
+        for vault, buckets in enumerate(self.buckets()):
+            for file in list(buckets.values())[:1]:
+                after = planner.sides_after(self.sides, file[:1])
+                if in_window(self.job, after):
+                    off = abs(off_goal(self.job, after)[0])
+                    found[file[0]] = (-self.gains[file[0]], off, vault)
+        return found
+
+    def move(self, file, scans):
+        self.free.remove(file)
+        for recipe, kind in scans:
+            for other in scanned_files(self.job, self.sides, file, recipe, kind):
+                if other in self.free:
+                    self.gains[other] += STEPS[kind]
+                    self.free.remove(other)
+                    self.free.insert(0, other)
+        self.sides[file] = 1 - self.sides[file]
+
+
+def see_fronts(job, start):
+    """Each move by edition 2 is that of the better legal front, and the pass stops where
+    there is none; the gains by which files stand in their buckets are those counted."""
+    answer = planner.one_pass(job, start, 2)
+    latest = Latest(job, start)
+    for k, (file, scans) in enumerate(zip(moves_of(answer), scans_by_move(answer))):
+        offers = latest.offers()
+        assert file in offers, "a move that is not of a legal front"
+        assert file == min(offers, key=offers.get), "the other front was better"
+        assert answer.move_gains[k] == latest.gains[file], "a gain is wrong"
+        latest.move(file, scans)
+        counted = planner.all_gains(job, latest.sides)
+        for other in latest.free:
+            assert latest.gains[other] == counted[other], "in a wrong bucket"
+        gained = sum(answer.move_gains[: k + 1])
+        assert answer.move_cuts[k] == planner.cut(job, latest.sides), "a cut is wrong"
+        assert answer.cut_before - gained == answer.move_cuts[k], "no sum"
+    assert not latest.offers(), "a legal front was left"
+
+
+def by_edition_2(see):
+    """What every pass has to meet, asked of a pass by edition 2."""
+
+    def seen(job, start):
+        by_2 = functools.partial(planner.one_pass, edition=2)
+        with mock.patch.object(planner, "one_pass", by_2):
+            see(job, start)
+
+    return seen
+
+
+SEEN_BY_2 = (
+    see_fronts,
+    *map(by_edition_2, (see_replay, see_four_scans, see_best_prefix, see_lists)),
+)
+
+
+def bucket_rows(job, start):
+    """The buckets at the start and after each move of the pass by edition 2, by the lists
+    of planner.py and in the second way."""
+    answer = planner.one_pass(job, start, 2)
+    sides, locked = list(start), [mark != FREE for mark in job.marks]
+    buckets, latest = planner.full_buckets(job, sides, locked), Latest(job, start)
+    rows = []
+    for file, scans in zip([None, *moves_of(answer)], [[], *scans_by_move(answer)]):
+        if file is not None:
+            locked[file] = True
+            planner.leave(buckets, sides, file)
+            planner.follow_scans(job, sides, locked, buckets, file, scans)
+            sides[file] = 1 - sides[file]
+            latest.move(file, scans)
+        shown = tuple({g: list(of) for g, of in own.items() if of} for own in buckets)
+        assert shown == latest.buckets(), "the two ways differ"
+        rows.append(shown)
+    return rows
+
+
+class Fronts(unittest.TestCase):
+    """Edition 2, worked out by hand."""
+
+    def see(self, name, moves, gains, cuts, ends, scans, buckets, job=None):
+        """A pass: its moves with gain, cut and where its scans end, its scans as (recipe,
+        kind), and the buckets of A and of B at the start and after every move."""
+        job = job or samples.fronts()[name]
+        self.assertEqual(planner.check(job), (0, 0))
+        answer = planner.one_pass(job, job.sides, 2)
+        self.assertEqual(moves_of(answer), moves)
+        self.assertEqual(answer.move_gains[: len(moves)], gains)
+        self.assertEqual(answer.move_cuts[: len(moves)], cuts)
+        self.assertEqual(answer.move_scans[: len(moves)], ends)
+        pairs = list(zip(answer.scan_recipes, answer.scan_kinds))
+        self.assertEqual(pairs[: answer.scans], scans)
+        self.assertEqual(bucket_rows(job, job.sides), buckets)
+        see_fronts(job, job.sides)
+        return answer
+
+    def test_the_worked_pass(self):
+        answer = self.see(
+            "worked",
+            moves=[7, 1, 3, 5, 2],
+            gains=[1, 1, 1, -1, -1],
+            cuts=[3, 2, 1, 2, 3],
+            ends=[2, 3, 6, 7, 8],
+            scans=[(0, 2), (0, 3), (1, 3), (0, 1), (2, 3), (3, 3), (1, 1), (3, 1)],
+            buckets=[
+                ({3: [3], 0: [5]}, {1: [7, 1], 0: [6, 4, 2]}),
+                # 3 is not legal; 7 moves, and 3 is changed twice.
+                ({1: [3], 0: [5]}, {1: [1], 0: [6, 4, 2]}),
+                # 3 and 1 have one gain; 1 gives the better balance.
+                ({1: [3], -1: [5]}, {0: [6, 4, 2]}),
+                # 6 is not legal; 3 moves, and 6 is changed twice.
+                ({-1: [5]}, {-1: [2, 4], -2: [6]}),
+                # 5 and 2 have one gain and one distance; 5 is from A.
+                ({}, {-1: [2, 4], -2: [6]}),
+                # 2 moves; then 6 stands before 4 and is not legal, and the pass stops.
+                ({}, {-1: [6, 4]}),
+            ],
+        )
+        self.assertEqual((answer.cut_before, answer.cut_after), (4, 1))
+        self.assertEqual((answer.kept, answer.size_a), (3, 6))
+        self.assertEqual((answer.scans, answer.visits), (8, 21))
+        self.assertEqual(answer.sides, [A, A, B, B, B, A, B, A])
+        self.assertEqual(answer.gains, [0, 1, -1, 1, -1, -1, -1, 1])
+        # File 4 could still move.
+        job = samples.worked()
+        sides = planner.sides_after(job.sides, moves_of(answer))
+        locked = [i in (0, *moves_of(answer)) for i in range(8)]
+        self.assertEqual(list(legal_moves(job, sides, locked)), [4])
+
+    def test_the_worked_pass_by_edition_1(self):
+        """Another first move: of gain 1 too, and nearer."""
+        job = samples.worked()
+        self.assertEqual(planner.one_pass(job, job.sides).move_files[0], 1)
+
+    def test_the_highest_number_stands_first(self):
+        self.see(
+            "four",
+            moves=[1, 3, 0, 2],
+            gains=[0] * 4,
+            cuts=[1] * 4,
+            ends=[1, 2, 2, 2],
+            scans=[(0, 4), (0, 2)],
+            buckets=[
+                ({0: [1, 0]}, {0: [3, 2]}),
+                ({1: [0]}, {0: [3, 2]}),
+                ({0: [0]}, {0: [2]}),
+                ({}, {0: [2]}),
+                ({}, {}),
+            ],
+        )
+        job = samples.fronts()["four"]
+        self.assertEqual(planner.one_pass(job, job.sides).move_files[0], 0)
+
+    def test_back_to_its_old_gain(self):
+        """File 0 comes back to the front of the bucket in which 1 stood before it."""
+        self.see(
+            "back",
+            moves=[2, 5, 0, 4, 1, 3],
+            gains=[0] * 6,
+            cuts=[1] * 6,
+            ends=[1, 2, 2, 2, 2, 2],
+            scans=[(0, 4), (0, 2)],
+            buckets=[
+                ({0: [2, 1, 0]}, {0: [5, 4, 3]}),
+                ({1: [0], 0: [1]}, {0: [5, 4, 3]}),
+                ({0: [0, 1]}, {0: [4, 3]}),
+                ({0: [1]}, {0: [4, 3]}),
+                ({0: [1]}, {0: [3]}),
+                ({}, {0: [3]}),
+                ({}, {}),
+            ],
+        )
+
+    def test_better_balance(self):
+        """From B; and from A where the vaults are changed for one another."""
+        job = samples.fronts()["balance"]
+        rows = [
+            ({0: [3, 2]}, {0: [1, 0]}),
+            ({0: [3, 2]}, {1: [0]}),
+            ({0: [2]}, {0: [0]}),
+            ({}, {0: [0]}),
+            ({}, {}),
+        ]
+        told = dict(
+            moves=[1, 3, 2, 0],
+            gains=[0] * 4,
+            cuts=[1] * 4,
+            ends=[1, 2, 2, 2],
+            scans=[(0, 4), (0, 2)],
+        )
+        self.see("balance", **told, buckets=rows)
+        turned = [(in_b, in_a) for in_a, in_b in rows]
+        self.see("balance", **told, buckets=turned, job=samples.turned(job))
+
+    def test_pins_in_order(self):
+        told = dict(gains=[-1, 0], cuts=[1, 1], ends=[1, 1], scans=[(0, 1)])
+        rows = [({-1: [3, 2, 1, 0]}, {}), ({0: [0, 2, 1]}, {}), ({0: [2, 1]}, {})]
+        self.see("pins", moves=[3, 0], **told, buckets=rows)
+        # The same recipe with its pins rising.
+        job = samples.fronts()["pins"].changed(pins=[0, 1, 2, 3])
+        rows = [({-1: [3, 2, 1, 0]}, {}), ({0: [2, 1, 0]}, {}), ({0: [1, 0]}, {})]
+        self.see("pins", moves=[3, 2], **told, buckets=rows, job=job)
+
+    def test_stops_though_a_legal_move_is_left(self):
+        none = dict(moves=[], gains=[], cuts=[], ends=[], scans=[])
+        self.see("stops", **none, buckets=[({}, {-1: [2, 1]})])
+        job = samples.fronts()["stops"]
+        self.assertEqual(moves_of(planner.one_pass(job, job.sides)), [1])
+        self.see("none", **none, buckets=[({}, {-1: [2]})])
+
+    def test_every_pass(self):
+        for jobs in (small_jobs(), unread_jobs(), wider_jobs()):
+            for job in jobs:
+                for see in SEEN_BY_2:
+                    see(job, job.sides)
+
+    def test_the_two_ways_have_the_same_buckets(self):
+        for job in small_jobs()[:100] + unread_jobs()[:50] + wider_jobs()[:50]:
+            bucket_rows(job, job.sides)
+
+    def test_one_way_in_a_move(self):
+        """In one move a file of the vault it leaves only gains, and one of the other only
+        loses: none comes back to its old gain before the next move."""
+        for job in small_jobs() + unread_jobs():
+            answer = planner.one_pass(job, job.sides, 2)
+            sides, locked = list(job.sides), [mark != FREE for mark in job.marks]
+            for file, scans in zip(moves_of(answer), scans_by_move(answer)):
+                locked[file] = True
+                for scan in scans:
+                    changed, step = planner.changed_by(job, sides, locked, file, *scan)
+                    for other in changed:
+                        self.assertEqual(step == 1, sides[other] == sides[file])
+                sides[file] = 1 - sides[file]
+
+    def test_one_front_at_most_is_not_legal(self):
+        """Where both vaults have a free file, one of the fronts can move: a pass stops only
+        once a vault has none. At the ratio 1/2 a legal move is left then only where a file
+        is pinned."""
+        for job in small_jobs() + unread_jobs() + wider_jobs():
+            latest = Latest(job, job.sides)
+            answer = planner.one_pass(job, job.sides, 2)
+            for file, scans in zip(moves_of(answer), scans_by_move(answer)):
+                latest.move(file, scans)
+            self.assertFalse(all(latest.buckets()))
+            locked = [i not in latest.free for i in range(job.files)]
+            if 2 * job.num == job.den and legal_moves(job, latest.sides, locked):
+                self.assertIn(PINNED, job.marks)
+
+    def test_without_unread_files(self):
+        """The same moves as of the job without them."""
+        for job in unread_jobs():
+            rest, files, _ = taken_out(job)
+            whole = planner.one_pass(job, job.sides, 2)
+            part = planner.one_pass(rest, rest.sides, 2)
+            self.assertEqual(moves_of(whole), [files[i] for i in moves_of(part)])
+
+
+class Editions(unittest.TestCase):
+    """What is handed to a pass and a run, and what is not."""
+
+    def lent(self, job, edition, step=0):
+        def filled(length):
+            return [7] * length
+
+        return planner.Lent(
+            gains=filled(job.files),
+            moves=[filled(job.files + step) for _ in range(4)],
+            scans=[filled(4 * job.recipes + step) for _ in range(2)],
+            scratch=filled(planner.scratch_numbers(job, edition) + step),
+        )
+
+    def calls(self, job, edition, lent):
+        for called in (planner.pass_call, planner.run_call):
+            yield called(job, edition, lent)
+
+    def test_scratch(self):
+        """P is 11, C 8 and N 4."""
+        job = samples.worked()
+        self.assertEqual(planner.scratch_numbers(job, 1), 11 + 32 + 16 + 16)
+        self.assertEqual(planner.scratch_numbers(job, 2), 11 + 32 + 32 + 16)
+        for edition in planner.EDITIONS:
+            for step in (0, 1, 5):
+                lent = self.lent(job, edition, step)
+                for number, _, _, _, after in self.calls(job, edition, lent):
+                    self.assertEqual(number, 0)
+                    named = planner.scratch_numbers(job, edition)
+                    self.assertEqual(after.scratch, [0] * named + [7] * step)
+                    for one in (*after.moves, *after.scans):
+                        self.assertEqual(one[len(one) - step :], [7] * step)
+            lent = self.lent(job, edition)
+            lent.scratch.pop()
+            for number, place, figures, sides, after in self.calls(job, edition, lent):
+                self.assertEqual((number, place, any(figures)), (3, 0, False))
+                self.assertEqual((sides, after), (list(job.sides), lent))
+        # What serves 1 is too short for 2, and the other way round it is not.
+        for lent_by, edition, number in ((1, 2, 3), (2, 1, 0)):
+            for told in self.calls(job, edition, self.lent(job, lent_by)):
+                self.assertEqual(told[0], number)
+
+    def test_32_stands_before_all_other_checks(self):
+        for edition in (0, 3, 4, 255, 256, 257, 258, 65535):
+            for fields in ({}, *JOB_FAULTS.values(), {"den": 4}):
+                job = samples.chain().changed(**fields)
+                self.assertEqual(
+                    planner.run(job, False, edition), planner.RunAnswer(32, 0)
+                )
+                lent = self.lent(samples.chain(), 1)
+                for number, place, figures, sides, after in self.calls(job, edition, lent):
+                    self.assertEqual((number, place, any(figures)), (32, 0, False))
+                    self.assertEqual((sides, after), (list(job.sides), lent))
+
+    def test_editions_are_refused_alike_behind_32(self):
+        for job in any_starts():
+            told = {planner.edition_refusal(e, job, True) for e in planner.EDITIONS}
+            self.assertEqual(told, {planner.check(job)})
+
+    def test_run_is_its_passes(self):
+        for job in small_jobs() + wider_jobs():
+            answer = planner.run(job, edition=2)
+            sides, cuts = job.sides, [planner.cut(job, job.sides)]
+            for _ in range(answer.passes):
+                one = planner.one_pass(job, sides, 2)
+                sides = one.sides
+                cuts.append(one.cut_after)
+            self.assertEqual((answer.last, answer.cut_after), (one, cuts[-1]))
+            self.assertTrue(all(b > a for b, a in zip(cuts, cuts[1:-1])))
+            self.assertEqual(answer.settled, cuts[-1] == cuts[-2])
+            self.assertLessEqual(answer.passes, cuts[0] + 1)
+
+    def test_a_second_run_keeps_the_sides(self):
+        for job in small_jobs() + unread_jobs():
+            first = planner.run(job.changed(cap=0), edition=2)
+            after = job.changed(cap=0, sides=first.last.sides)
+            again = planner.run(after, edition=2)
+            self.assertEqual((again.passes, again.kept), (1, 0))
+            self.assertEqual(again.last.sides, first.last.sides)
+
+    def test_the_programs(self):
+        job = samples.worked()
+        data = planner.write_job(job)
+        one, two = planner.run_stored(data), planner.run_stored(data, 2)
+        self.assertEqual(planner.edition_program(["1"], data), one)
+        self.assertEqual(planner.edition_program(["2"], data), two)
+        self.assertNotEqual(one, two)
+        self.assertEqual(planner.trace_program([], data), planner.trace(data))
+        self.assertEqual(planner.trace_program(["1"], data), planner.trace(data))
+        self.assertEqual(planner.trace_program(["2"], data), planner.trace(data, 2))
+        self.assertEqual(planner.resettle_program([], data), planner.resettle(data))
+        new, said = planner.resettle_program(["2"], data)
+        sides = planner.run(job, edition=2).last.sides
+        self.assertEqual((new, said), (planner.write_job(job.changed(sides=sides)), ""))
+        others = (["0"], ["3"], [""], ["01"], ["+1"], ["2 "], ["two"], ["1", "2"])
+        for words in others:
+            for given in (data, b""):
+                refused = "refused 32 0\n"
+                self.assertEqual(planner.edition_program(words, given), refused)
+                self.assertEqual(planner.trace_program(words, given), refused)
+                self.assertEqual(planner.resettle_program(words, given), (b"", refused))
+        self.assertEqual(planner.edition_program([], data), "refused 32 0\n")
+        for words in (["1"], ["2"]):
+            self.assertEqual(planner.edition_program(words, b""), "refused 20 0\n")
+
+    def test_the_trace_of_the_worked_pass(self):
+        lines = planner.trace(planner.write_job(samples.worked()), 2).splitlines()
+        self.assertEqual(
+            lines[:4] + lines[-8:],
+            ["done", "move 7 1 3", "scan 0 2", "scan 0 3"]
+            + ["gains 0 1 -1 1 -1 -1 -1 1", "cut 4 1", "size 6 7", "tried 5"]
+            + ["kept 3", "scans 8", "visits 21", "sides AABBBABA"],
+        )
+        self.assertEqual(len(lines), 1 + 5 + 8 + 8)
+
+
 class Mill(unittest.TestCase):
     def test_it_is_balanced_and_then_runs(self):
         data, said = planner.balance_stored(planner.write_job(mill()))
@@ -2494,6 +2894,29 @@ def fails(see, jobs):
 
 def readable_part(job, files):
     return [file for file in files if job.marks[file] != UNREAD]
+
+
+RIGHT_ENTER = planner.enter
+
+
+def front_by(from_a, looks_on):
+    """choose_front with the rank of the vaults as it is or turned, and with or without a
+    look at those behind a front that is not legal."""
+
+    def chosen(job, sides, buckets, gains):
+        ranks = []
+        for vault in (A, B):
+            full = [gain for gain, files in buckets[vault].items() if files]
+            files = buckets[vault][max(full)] if full else []
+            for file in files if looks_on else files[:1]:
+                after = planner.sides_after(sides, [file])
+                if in_window(job, after):
+                    off = abs(off_goal(job, after)[0])
+                    ranks.append((-gains[file], off, from_a * vault, file))
+                    break
+        return min(ranks)[3] if ranks else None
+
+    return chosen
 
 
 class CanFail(unittest.TestCase):
@@ -2913,6 +3336,63 @@ class CanFail(unittest.TestCase):
                 self.assertTrue(fails(see_10, any_windows()))
         with mock.patch.object(planner, "FINDERS", none):
             self.assertTrue(fails(see_no_empty_vault, any_windows()))
+
+    def fronts_seen(self, name, wrong):
+        return self.seen(see_fronts, name, wrong)
+
+    def test_a_changed_file_that_enters_the_back(self):
+        right = planner.full_buckets
+
+        def back(buckets, sides, file, gain):
+            buckets[sides[file]].setdefault(gain, []).append(file)
+
+        def filled(job, sides, locked):
+            with mock.patch.object(planner, "enter", RIGHT_ENTER):
+                return right(job, sides, locked)
+
+        with mock.patch.object(planner, "full_buckets", filled):
+            self.assertTrue(self.fronts_seen("enter", back))
+            self.assertFalse(self.fronts_seen("enter", RIGHT_ENTER))
+
+    def test_files_that_enter_in_falling_number(self):
+        def falling(job, sides, locked):
+            buckets, gains = ({}, {}), planner.all_gains(job, sides)
+            for file in reversed(range(job.files)):
+                if not locked[file]:
+                    planner.enter(buckets, sides, file, gains[file])
+            return buckets
+
+        self.assertTrue(self.fronts_seen("full_buckets", falling))
+
+    def test_the_front_of_b_of_two_equal_ones(self):
+        self.assertFalse(self.fronts_seen("choose_front", front_by(1, False)))
+        self.assertTrue(self.fronts_seen("choose_front", front_by(-1, False)))
+
+    def test_a_look_at_the_next_of_the_bucket(self):
+        self.assertTrue(self.fronts_seen("choose_front", front_by(1, True)))
+
+    def test_pins_from_the_last(self):
+        right = planner.changed_by
+
+        def reversed_pins(*scan):
+            files, step = right(*scan)
+            return files[::-1], step
+
+        self.assertTrue(self.fronts_seen("changed_by", reversed_pins))
+
+    def test_a_file_that_stays_where_it_is(self):
+        """Changed twice, it enters once; that is seen where it passes another file."""
+
+        def once(job, sides, locked, buckets, file, scans):
+            total = {}
+            for scan in scans:
+                changed, step = planner.changed_by(job, sides, locked, file, *scan)
+                for other in changed:
+                    total[other] = total.get(other, 0) + step
+            for other, step in total.items():
+                planner.enter(buckets, sides, other, planner.leave(buckets, sides, other) + step)
+
+        self.assertTrue(self.fronts_seen("follow_scans", once))
 
     def test_gain_list_of_the_end(self):
         def not_kept(job, sides, move_files, move_gains):

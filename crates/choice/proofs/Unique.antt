@@ -9,6 +9,8 @@ use Rattle.choice.proofs.heavy.heavy_side.Kinds as heavy-side-kinds
 use Rattle.choice.proofs.heavy.heavy_side.Reads as heavy-side
 use Rattle.choice.proofs.heavy.greatest_on.Kinds as greatest-on-kinds
 use Rattle.choice.proofs.heavy.greatest_on.Reads as greatest-on
+use Rattle.choice.proofs.window.dist_after.Kinds as dist-after-kinds
+use Rattle.choice.proofs.window.dist_after.Reads as dist-after
 use Rattle.choice.proofs.window.size_after.Kinds as size-after-kinds
 use Rattle.choice.proofs.window.size_after.Reads as size-after
 
@@ -23,3 +25,6 @@ greatest-on-settled κs a x y e f p q = both p q
 
 pub size-after-settled : Settles 0 size-after-kinds.ps size-after-kinds.r ℕ (λ κs x e. x) size-after.Post
 size-after-settled κs a x y e f p q = both p q
+
+pub dist-after-settled : Settles 0 dist-after-kinds.ps dist-after-kinds.r ℕ (λ κs x e. x) dist-after.Post
+dist-after-settled κs a x y e f p q = both p q

@@ -9,4 +9,5 @@ pub use edition1::choose;
 pub use heavy::greatest_on;
 pub use heavy::heavy_side;
 pub use window::Window;
+pub use window::dist_after;
 pub use window::size_after;

@@ -1,7 +1,7 @@
-// What every choice goes by: the balance window, |A| after a move, and whether its lists fit.
+// What every choice goes by: the balance window, |A| after a move, its distance, and whether the lists fit.
 ghost use mathlib.Core.Path.{_≡_};
 ghost use Rattle.rules.specs.Move.{distance};
-ghost use Rattle.choice.specs.Choosing.{sizeBy, fitFiles};
+ghost use Rattle.choice.specs.Choosing.{sizeBy, distBy, fitFiles};
 
 // The balance window: den, and num·W and den times the tolerance, within which den·|A| must stay.
 pub struct Window {
@@ -32,6 +32,16 @@ pub(crate) fn apart(x: u64, y: u64) -> u64
         return y - x;
     }
     x - y
+}
+
+// The distance after the move of a file of this size from this side.
+pub fn dist_after(window: Window, size: u32, side: u16, own: u16) -> u64
+    ensures { λ r. ⌜ r ≡ distBy window size side own ⌝ }
+{
+    apart(
+        (window.den as u64) * size_after(size, side, own),
+        window.aim,
+    )
 }
 
 // Whether lists of these lengths have a gain for each file, and a lock for each at the start of the scratch.

@@ -47,3 +47,9 @@ pub mod Wider
 pub mod Emptied
 pub mod Compare
 pub mod Comparing
+pub mod Latest
+pub mod OneWay
+pub mod Foremost
+pub mod Entering
+pub mod FrontsProved
+pub mod FrontsWorked

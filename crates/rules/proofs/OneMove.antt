@@ -14,7 +14,7 @@ use Rattle.rules.specs.Lists.{bit, total, count}
 use Rattle.rules.specs.Split.{sideOf, onSide, countOn, isCut, times, holds, alone, together}
 use Rattle.rules.specs.Move.{State, lockOf, free, lockedOn, moved, reaches, touches, raises}
 use Rattle.rules.specs.Theorems.{Binary}
-use Rattle.rules.proofs.Tests.{and-false}
+use Rattle.rules.proofs.Tests.{and-true, and-false}
 use Rattle.rules.proofs.Locked.{kindsBy}
 use Rattle.rules.proofs.Count.{is0, is1, hit-self, hit-ne, and-le, total-out, total-move, total-has, total-zero, holds-yes, holds-no}
 
@@ -157,10 +157,6 @@ module _ {st st' : State} {f : ℕ} (m : Moves st st' f) where
       → countOn (st' .sides) u r + bit (eqb (sideOf (st .sides) f) u) ≡ countOn (st .sides) u r + bit (eqb (1 - sideOf (st .sides) f) u)
   unfolding countOn count on
   move-count u r o = rw (← m .side) (total-move (on st' u) (on st u) f (on-same u) r o)
-
-  and-true : (b : Bool) → (b && true) ≡ b
-  and-true true = refl
-  and-true false = refl
 
   move-locked : (u : ℕ) (r : List ℕ) → times f r ≡ 1 → lockedOn st' u r ≡ lockedOn st u r + bit (eqb (1 - sideOf (st .sides) f) u)
   unfolding lockedOn count lk

@@ -21,6 +21,10 @@ and-no a b h e = sym (ap (λ (t : Bool). t && b) e) ∙ h
 pub and-both : {a b : Bool} → a ≡ true → b ≡ true → (a && b) ≡ true
 and-both {a} {b} e z = ap (λ (t : Bool). t && b) e ∙ z
 
+pub and-true : (b : Bool) → (b && true) ≡ b
+and-true true = refl
+and-true false = refl
+
 pub and-false : (b : Bool) → (b && false) ≡ false
 and-false true = refl
 and-false false = refl

@@ -4,6 +4,7 @@ pub mod Check
 pub mod Split
 pub mod Move
 pub mod Pass
+pub mod Fronts
 pub mod Run
 pub mod Stored
 pub mod Report
@@ -19,3 +20,5 @@ pub mod Wider
 pub mod Emptied
 pub mod Compare
 pub mod Comparing
+pub mod FrontsHold
+pub mod FrontsWorked

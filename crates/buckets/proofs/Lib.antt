@@ -1,0 +1,14 @@
+pub mod Stores
+pub mod Rows
+pub mod Linking
+pub mod Entering
+pub mod Leaving
+pub mod Levels
+pub mod Tops
+pub mod Upkeep
+pub mod Starts
+pub mod Found
+pub mod Chosen
+pub mod Beyond
+pub mod Calls
+pub mod Unique

@@ -1,0 +1,5 @@
+pub mod Slots
+pub mod Links
+pub mod Entries
+pub mod Offers
+pub mod StandFor
