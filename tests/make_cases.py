@@ -796,11 +796,13 @@ def prints(told):
 
 
 def rewrites(told):
-    """Whether a program wrote the reference's bytes, and said its words beside."""
+    """Whether a program wrote the reference's bytes, and said its words beside; a script explains a refusal behind them."""
 
     def agrees(data, done):
         written, said = told(data)
-        return (done.stdout, done.stderr) == (written, said.encode())
+        more = done.stderr.removeprefix(said.encode())
+        explained = said.startswith("refused") and more.count(b"\n") == 1 and b" means: " in more
+        return done.stdout == written and done.stderr.startswith(said.encode()) and (more == b"" or explained)
 
     return agrees
 
