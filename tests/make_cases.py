@@ -626,7 +626,12 @@ def shown_again():
             yield f"{name}_past_10", write_job(past)
 
 
-EXAMPLES = ("chain", "mill", "mill_at_53")
+# The guide's pass by edition 2 is an example and no case.
+EXAMPLES = ("chain", "eight", "mill", "mill_at_53")
+
+
+def examples(named):
+    return [(name, {**named, "eight": write_job(samples.eight())}[name]) for name in EXAMPLES]
 
 
 OLDER_GROUPS = (
@@ -836,7 +841,7 @@ def main(words):
     elif words[0] == "--write":
         write(pathlib.Path(words[1]), named.items())
     elif words[0] == "--examples":
-        write(pathlib.Path(words[1]), [(name, named[name]) for name in EXAMPLES])
+        write(pathlib.Path(words[1]), examples(named))
     elif words[0] == "--program":
         write_program(pathlib.Path(words[1]), named)
     elif words[0] == "--check":

@@ -1001,6 +1001,14 @@ def worked():
     )
 
 
+def eight():
+    """The guide's pass, `eight` of crates/rules/specs/FrontsWorked.antt, and an example. W
+    is 14 and smax 2: |A| is from 5 up to 9. It starts at 6."""
+    recipes = [[2, 0], [5, 3], [7, 1, 5], [0, 5], [4, 7, 3], [0, 7, 6]]
+    free = all_free(recipes, [A, B, B, B, A, B, B, A])
+    return free.changed(sizes=[3, 2, 2, 1, 2, 1, 2, 1], marks=[PINNED] + [FREE] * 7)
+
+
 def fronts():
     """By name; test_planner.py has the moves of each."""
     four = all_free([[0, 1, 2, 3]], [A, A, B, B])

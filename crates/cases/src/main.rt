@@ -5,7 +5,7 @@ fn show_report() {
     let mut input = [0u8; layout::INPUT_BYTES];
     let got = frames::take(&mut input);
     let mut text = [0u8; teller::TEXT_BYTES];
-    let printed = teller::night(&input[..got], &mut text);
+    let printed = teller::night(1, &input[..got], &mut text);
     io::write_all(STDOUT_FILENO, &text[..printed.bytes]);
 }
 

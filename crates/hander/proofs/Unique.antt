@@ -8,7 +8,7 @@ use Rattle.hander.proofs.resettle.Reads as resettle
 use Rattle.hander.proofs.balance.Kinds as kinds
 use Rattle.hander.proofs.balance.Reads as balance
 
-pub resettle-settled : Settles 2 resettle-kinds.ps resettle-kinds.r Handing (λ κs x e. handingOf x (now (e .1 .0))) resettle.Post
+pub resettle-settled : Settles 2 resettle-kinds.ps resettle-kinds.r Handing (λ κs x e. handingOf x (now (e .1 .1 .0))) resettle.Post
 resettle-settled κs a x y e f p q = both (p .0) (q .0)
 
 pub balance-settled : Settles 2 kinds.ps kinds.r Handing (λ κs x e. handingOf x (now (e .1 .0))) balance.Post

@@ -9,8 +9,8 @@ use Rattle.rules.proofs.CutOff.{longer-same}
 use Rattle.rules.proofs.Balancing.{program-holds}
 use Rattle.layout.proofs.WholeInput.{most, inputBytes, input-whole}
 
-pub resettle-whole : (bytes : List ℕ) → resettles most (take inputBytes bytes) ≡ resettles most bytes
-resettle-whole bytes = longer-same most inputBytes bytes .handed input-whole
+pub resettle-whole : (edition : ℕ) (bytes : List ℕ) → resettles edition most (take inputBytes bytes) ≡ resettles edition most bytes
+resettle-whole edition bytes = longer-same most inputBytes bytes .handed edition input-whole
 
 pub balance-whole : (bytes : List ℕ) → balances most (take inputBytes bytes) ≡ balances most bytes
 balance-whole bytes = program-holds most bytes .longer inputBytes input-whole

@@ -26,8 +26,8 @@ madeOut job lines = record { output = blocksOf job; errors = lines }
 abbrev pub endOut : Job → Ended RunFigures → HandedOut
 endOut job e = handsOut (e .answer .figures .verdict) (withSides job (e .sides)) []
 
-abbrev pub runOut : Limits → Job → HandedOut
-runOut most job = endOut job (allRun most job)
+abbrev pub runOut : ℕ → Limits → Job → HandedOut
+runOut edition most job = endOut job (allRun edition most job)
 
 -- of a balancing's answer that is not refused and the job with the sides after it
 abbrev pub balancedOut : BalanceFigures → Job → HandedOut

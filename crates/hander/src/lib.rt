@@ -85,8 +85,9 @@ fn hand_blocks(
     }
 }
 
-// The job as it is stored after its run, with the lists that a run is lent; `bytes` is how many its blocks have.
+// The job as it is stored after its run by an edition of the choice, with the lists that a run is lent; `bytes` is how many its blocks have.
 fn resettle_run(
+    edition: u16,
     job: Job,
     sizes: &[u16],
     sides: &mut [u16],
@@ -106,10 +107,11 @@ fn resettle_run(
 ) -> Handed
     requires { do ⌜ lentOf (now gains) (now tried) (now gained) (now cuts) (now ends) (now recipes) (now kinds) (now scratch) ≡ allLent (limitsOf (← ⟦Job::MOST_FILES⟧) (← ⟦Job::MOST_RECIPES⟧) (← ⟦Job::MOST_PINS⟧) (← ⟦Job::MOST_DEN⟧)) (wholeJob job (now sizes) (now sides) (now marks) (now bounds) (now pins)) ⌝ }
     requires { do ⌜ (bytes ≡ 512 * blockCount (headerFor (wholeJob job (now sizes) (now sides) (now marks) (now bounds) (now pins)))) × (bytes ≤ (← ⟦layout::INPUT_BYTES⟧)) ⌝ }
-    ensures { λ r. do ⌜ handingOf r (now (room .exit)) ≡ handInto (runOut (limitsOf (← ⟦Job::MOST_FILES⟧ .entry) (← ⟦Job::MOST_RECIPES⟧ .entry) (← ⟦Job::MOST_PINS⟧ .entry) (← ⟦Job::MOST_DEN⟧ .entry)) (wholeJob job (now (sizes .entry)) (now (sides .entry)) (now (marks .entry)) (now (bounds .entry)) (now (pins .entry)))) (now (room .entry)) ⌝ }
+    ensures { λ r. do ⌜ handingOf r (now (room .exit)) ≡ handInto (runOut edition (limitsOf (← ⟦Job::MOST_FILES⟧ .entry) (← ⟦Job::MOST_RECIPES⟧ .entry) (← ⟦Job::MOST_PINS⟧ .entry) (← ⟦Job::MOST_DEN⟧ .entry)) (wholeJob job (now (sizes .entry)) (now (sides .entry)) (now (marks .entry)) (now (bounds .entry)) (now (pins .entry)))) (now (room .entry)) ⌝ }
     ensures { λ r. do ⌜ Answered (← ⟦layout::INPUT_BYTES⟧ .entry) (r .verdict) (now (room .entry)) ⌝ }
 {
     let answer = runs::run(
+        edition,
         job,
         sizes,
         sides,
@@ -134,10 +136,10 @@ fn resettle_run(
 }
 
 // The same of a job that was taken up, with lists of the hander's own.
-fn resettle_job(t: TakenUp, room: &mut [u8], bytes: usize) -> Handed
+fn resettle_job(edition: u16, t: TakenUp, room: &mut [u8], bytes: usize) -> Handed
     requires { do ⌜ Held (limitsOf (← ⟦Job::MOST_FILES⟧) (← ⟦Job::MOST_RECIPES⟧) (← ⟦Job::MOST_PINS⟧) (← ⟦Job::MOST_DEN⟧)) t ⌝ }
     requires { do ⌜ (bytes ≡ 512 * blockCount (headerFor (jobTaken t))) × (bytes ≤ (← ⟦layout::INPUT_BYTES⟧)) ⌝ }
-    ensures { λ r. do ⌜ handingOf r (now (room .exit)) ≡ handInto (runOut (limitsOf (← ⟦Job::MOST_FILES⟧ .entry) (← ⟦Job::MOST_RECIPES⟧ .entry) (← ⟦Job::MOST_PINS⟧ .entry) (← ⟦Job::MOST_DEN⟧ .entry)) (jobTaken t)) (now (room .entry)) ⌝ }
+    ensures { λ r. do ⌜ handingOf r (now (room .exit)) ≡ handInto (runOut edition (limitsOf (← ⟦Job::MOST_FILES⟧ .entry) (← ⟦Job::MOST_RECIPES⟧ .entry) (← ⟦Job::MOST_PINS⟧ .entry) (← ⟦Job::MOST_DEN⟧ .entry)) (jobTaken t)) (now (room .entry)) ⌝ }
     ensures { λ r. do ⌜ Answered (← ⟦layout::INPUT_BYTES⟧ .entry) (r .verdict) (now (room .entry)) ⌝ }
 {
     let read = t.read;
@@ -160,6 +162,7 @@ fn resettle_job(t: TakenUp, room: &mut [u8], bytes: usize) -> Handed
     let mut kinds = [0u16; tables::MOST_SCANS];
     let mut scratch = [0u16; tables::MOST_NUMBERS];
     resettle_run(
+        edition,
         job,
         &sizes[..c],
         &mut sides[..c],
@@ -179,9 +182,9 @@ fn resettle_job(t: TakenUp, room: &mut [u8], bytes: usize) -> Handed
     )
 }
 
-// The stored job with the sides after its run, or a refusal's line: what the program `resettle` writes to standard output and to standard error, for every input.
-pub fn resettle(input: &[u8], room: &mut [u8]) -> Handed
-    ensures { λ r. do ⌜ handingOf r (now (room .exit)) ≡ handInto (resettles (limitsOf (← ⟦Job::MOST_FILES⟧ .entry) (← ⟦Job::MOST_RECIPES⟧ .entry) (← ⟦Job::MOST_PINS⟧ .entry) (← ⟦Job::MOST_DEN⟧ .entry)) (now (input .entry))) (now (room .entry)) ⌝ }
+// The stored job with the sides after its run by an edition, or a refusal's line: what the program `resettle` writes to standard output and to standard error, for every input.
+pub fn resettle(edition: u16, input: &[u8], room: &mut [u8]) -> Handed
+    ensures { λ r. do ⌜ handingOf r (now (room .exit)) ≡ handInto (resettles edition (limitsOf (← ⟦Job::MOST_FILES⟧ .entry) (← ⟦Job::MOST_RECIPES⟧ .entry) (← ⟦Job::MOST_PINS⟧ .entry) (← ⟦Job::MOST_DEN⟧ .entry)) (now (input .entry))) (now (room .entry)) ⌝ }
     ensures { λ r. do ⌜ Answered (← ⟦layout::INPUT_BYTES⟧ .entry) (r .verdict) (now (room .entry)) × BothLendable (r .output) (r .errors) (now (room .exit)) ⌝ }
 {
     let t = stored::take_up(input);
@@ -190,7 +193,7 @@ pub fn resettle(input: &[u8], room: &mut [u8]) -> Handed
     if v.number != 0 {
         return hand_refusal(v, room);
     }
-    resettle_job(t, room, input.len())
+    resettle_job(edition, t, room, input.len())
 }
 
 // The blocks of a job that was balanced, for standard output, and behind them its lines, for standard error; `bytes` is how many the blocks have.

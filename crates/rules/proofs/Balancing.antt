@@ -16,7 +16,7 @@ use Rattle.rules.specs.declared.BalanceFigures.{BalanceFigures}
 use Rattle.rules.specs.Lists.{listed}
 use Rattle.rules.specs.Job.{Job, Limits, fileCount, recipeCount, pinCount, files, recipes, scratchFor}
 use Rattle.rules.specs.Split.{sideOf, cut, gain, isFree, weight, smax, sizeOn, sizeA, balanced}
-use Rattle.rules.specs.Check.{done, refuseIf, _orElse_, _followedBy_, row, overMost, goalRows, checkRatio, checkFree, checkWindow, checkStart, checkSound, checkGoal, check}
+use Rattle.rules.specs.Check.{done, refuseIf, _orElse_, _followedBy_, row, overMost, goalRows, checkRatio, checkFree, checkWindow, checkStart, checkSound, checkGoal, check, checkEdition, checkLent}
 use Rattle.rules.specs.Move.{stepsBy, State, start, moved, after, Frees, greater, movesBy}
 use Rattle.rules.specs.Stored.{jobOf, readVerdict}
 use Rattle.rules.specs.Report.{refusal, sizeLine, ofFiles, intoRoom, allRoom, allLent}
@@ -35,7 +35,7 @@ use Rattle.rules.proofs.MovesEnd.{StateLong, moves-stop, moves-each, mo
 use Rattle.rules.proofs.Proved.{moves-hold, scans-hold, given-sides, lent-sound, check-writes}
 use Rattle.rules.proofs.Checking.{check-holds}
 use Rattle.rules.proofs.OtherSides.{sound-again}
-use Rattle.rules.proofs.Refusals.{lacks, within, first-given, plain-rows, never-given, few-given, check-chain}
+use Rattle.rules.proofs.Refusals.{lacks, within, first-given, plain-rows, never-given, few-given, check-chain, lent-chain}
 use Rattle.rules.proofs.Reading.{read-holds}
 use Rattle.rules.proofs.CutOff.{cut-same}
 use Rattle.rules.proofs.Reports.{telling-refusal, telling-made}
@@ -222,7 +222,7 @@ module _ (most : Limits) (job : Job) (s : Sound most job) (sides : List ℕ) (w 
 
 module _ (most : Limits) (job : Job) (scratch : List ℕ) where
   abbrev lent : Bool
-  lent = leb (scratchFor job) (length scratch)
+  lent = leb (scratchFor 1 job) (length scratch)
 
   plain-balance : Plain (balanceVerdict most job scratch)
   unfolding balanceCheck lacks
@@ -236,19 +236,19 @@ module _ (most : Limits) (job : Job) (scratch : List ℕ) where
     wide : 1 ≤ job .k
     wide = before-wide most job lent (start-passed most job lent z .0)
 
-    long-scratch : scratchFor job ≤ length scratch
+    long-scratch : scratchFor 1 job ≤ length scratch
     long-scratch =
-        leb-true (scratchFor job) (length scratch) (lent-sound most job lent (before-parts most job lent (start-passed most job lent z .0) .0))
+        leb-true (scratchFor 1 job) (length scratch) (lent-sound most job lent (before-parts most job lent (start-passed most job lent z .0) .0))
 
     goal-passes : checkGoal most job ≡ done
     unfolding checkGoal lacks
     goal-passes = plain-rows (goalRows most job) refl (before-parts most job lent (start-passed most job lent z .0) .1)
 
-    made-equal : balancing most job scratch ≡ balancingOf (balanceFigures job done) (balanceSides job) (listed (scratchFor job) 0 [] scratch)
+    made-equal : balancing most job scratch ≡ balancingOf (balanceFigures job done) (balanceSides job) (listed (scratchFor 1 job) 0 [] scratch)
     unfolding balancing
     made-equal =
         rw (eq-eqb (balanceVerdict most job scratch .number) 0 z, balancing)
-        (ap (λ (v : Verdict). balancingOf (balanceFigures job v) (balanceSides job) (listed (scratchFor job) 0 [] scratch)) (plain-balance z))
+        (ap (λ (v : Verdict). balancingOf (balanceFigures job v) (balanceSides job) (listed (scratchFor 1 job) 0 [] scratch)) (plain-balance z))
 
     sides-are : balancing most job scratch .sides ≡ balanceSides job
     sides-are = ap (λ (b : Balancing). b .sides) made-equal
@@ -274,10 +274,10 @@ module _ (most : Limits) (job : Job) (scratch : List ℕ) where
     cut = λ z. ap (λ (b : Balancing). b .answer .cut) (made-equal z) ∙ ap (λ (x : List ℕ). cut x (recipes job)) (sym (sides-are z));
     size = λ z. ap (λ (b : Balancing). b .answer .size) (made-equal z) ∙ ap (sizeA job) (sym (sides-are z));
     zeros = λ z.
-        rw (ap (λ (b : Balancing). b .scratch) (made-equal z)) (listed-holds (scratchFor job) 0 [] scratch (omega arith) (long-scratch z));
+        rw (ap (λ (b : Balancing). b .scratch) (made-equal z)) (listed-holds (scratchFor 1 job) 0 [] scratch (omega arith) (long-scratch z));
     even = λ z. rw (sides-are z) (left-even z);
     passes = λ z. rw (sides-are z) (left-checked z);
-    runs = λ z l e. rw (e, sides-are z) (left-checked z);
+    runs = λ z edition l known e. rw (lent-chain edition most _ l, e, sides-are z) (unfold checkEdition in rw known (left-checked z));
   }
 
 -- ---- what is told of a balancing: the sizes are all that the call knows of the job, and only the room can be too short
@@ -363,9 +363,9 @@ module _ (most : Limits) (input : List ℕ) where
   unfolding lacks
   never-short z =
       let s : Sound most read = read-holds most input (allRoom most) .sound z in
-      let lends : leb (scratchFor read) (length own) ≡ true
-      = le-leb (scratchFor read) (length own) (long-enough read (allLent most read) (lends-enough most input .lent read (sound-few most read s)) .scratch) in
-      rw (balance-chain most read (leb (scratchFor read) (length own)), before-chain most read (leb (scratchFor read) (length own)), check-holds most read (leb (scratchFor read) (length own)) .soundPasses s lends)
+      let lends : leb (scratchFor 1 read) (length own) ≡ true
+      = le-leb (scratchFor 1 read) (length own) (long-enough 1 read (allLent most read) (lends-enough most input .lent 1 read (sound-few most read s)) .scratch) in
+      rw (balance-chain most read (leb (scratchFor 1 read) (length own)), before-chain most read (leb (scratchFor 1 read) (length own)), check-holds most read (leb (scratchFor 1 read) (length own)) .soundPasses s lends)
       (unfold checkGoal in never-given 3 (goalRows most read followedBy row 9 (noneBalanced read) 0) refl (omega arith))
 
 pub program-holds : (most : Limits) (input : List ℕ) → BalanceProgram most input

@@ -126,20 +126,20 @@ module _ (most : Limits) (k : ℕ) (input : List ℕ) (more : mostBytes most < k
   read-no room z = layout-no room (sym (ap (λ (v : Verdict). v .number) (layout-refused input room (layout-no room))) ∙ z)
 
 -- a refusal is all that is printed of an input that is refused
-pub prints-no : (most : Limits) (bytes : List ℕ) → readVerdict most bytes (allRoom most) .number ≢ 0 → prints most bytes ≡ refusal (readVerdict most bytes (allRoom most))
+pub prints-no : (edition : ℕ) (most : Limits) (bytes : List ℕ) → readVerdict most bytes (allRoom most) .number ≢ 0 → prints edition most bytes ≡ refusal (readVerdict most bytes (allRoom most))
 unfolding prints
-prints-no most bytes n = rw (ne-eqb (readVerdict most bytes (allRoom most) .number) 0 n, prints) refl
+prints-no edition most bytes n = rw (ne-eqb (readVerdict most bytes (allRoom most) .number) 0 n, prints) refl
 
-pub traces-no : (most : Limits) (bytes : List ℕ) → readVerdict most bytes (allRoom most) .number ≢ 0 → traces most bytes ≡ refusal (readVerdict most bytes (allRoom most))
+pub traces-no : (edition : ℕ) (most : Limits) (bytes : List ℕ) → readVerdict most bytes (allRoom most) .number ≢ 0 → traces edition most bytes ≡ refusal (readVerdict most bytes (allRoom most))
 unfolding traces
-traces-no most bytes n = rw (ne-eqb (readVerdict most bytes (allRoom most) .number) 0 n, traces) refl
+traces-no edition most bytes n = rw (ne-eqb (readVerdict most bytes (allRoom most) .number) 0 n, traces) refl
 
-pub resettles-no : (most : Limits) (bytes : List ℕ) → readVerdict most bytes (allRoom most) .number ≢ 0
-    → resettles most bytes ≡ record { output = []; errors = refusal (readVerdict most bytes (allRoom most)) }
+pub resettles-no : (edition : ℕ) (most : Limits) (bytes : List ℕ) → readVerdict most bytes (allRoom most) .number ≢ 0
+    → resettles edition most bytes ≡ record { output = []; errors = refusal (readVerdict most bytes (allRoom most)) }
 unfolding resettles
-resettles-no most bytes n =
-    let v : Verdict = readVerdict most bytes (allRoom most) orElse (allRun most (jobOf bytes) .answer .figures .verdict) in
-    let e : readVerdict most bytes (allRoom most) ≡ v = chain-stop (allRun most (jobOf bytes) .answer .figures .verdict) refl n in
+resettles-no edition most bytes n =
+    let v : Verdict = readVerdict most bytes (allRoom most) orElse (allRun edition most (jobOf bytes) .answer .figures .verdict) in
+    let e : readVerdict most bytes (allRoom most) ≡ v = chain-stop (allRun edition most (jobOf bytes) .answer .figures .verdict) refl n in
     rw (ne-eqb (v .number) 0 (λ z. n (ap (λ (w : Verdict). w .number) e ∙ z)), resettles) (ap (λ (w : Verdict). record { output = []; errors = refusal w }) (sym e))
 
 -- what a program tells of a refused input, it tells of the input cut off
@@ -156,7 +156,7 @@ cut-same most k input tell line told more = elim (decLt k (length input)) [
 
 pub longer-same : (most : Limits) (k : ℕ) (input : List ℕ) → Longer most k input
 longer-same most k input = record {
-  same = cut-same most k input (prints most) refusal (prints-no most);
-  traced = cut-same most k input (traces most) refusal (traces-no most);
-  handed = cut-same most k input (resettles most) (λ v. record { output = []; errors = refusal v }) (resettles-no most);
+  same = λ edition. cut-same most k input (prints edition most) refusal (prints-no edition most);
+  traced = λ edition. cut-same most k input (traces edition most) refusal (traces-no edition most);
+  handed = λ edition. cut-same most k input (resettles edition most) (λ v. record { output = []; errors = refusal v }) (resettles-no edition most);
 }

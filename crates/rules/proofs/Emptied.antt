@@ -18,9 +18,10 @@ use Rattle.rules.specs.declared.Difference.{Difference}
 use Rattle.rules.specs.Lists.{total, count, those, largest, upTo, lowest, padded, onto}
 use Rattle.rules.specs.Job.{Job, Limits, limitsOf, viewOf, files, views, readIn, recipes, Lent, scratchFor, fits}
 use Rattle.rules.specs.Split.{countOn, isCut, cut, unreadFiles, unreadRecipes, weight, smax, tolerance, sizeOn, sizeA, balanced}
-use Rattle.rules.specs.Check.{done, isDone, refuseIf, mayEmpty, badPin, checkSound, check, checkJob, checkLent, measure}
+use Rattle.rules.specs.Check.{done, isDone, refuseIf, mayEmpty, badPin, checkSound, check, checkJob, checkLent, measure, checkEdition}
 use Rattle.rules.specs.Move.{stepsBy, start, after}
-use Rattle.rules.specs.Pass.{keeps, passOf, tries}
+use Rattle.rules.specs.Pass.{keeps, passOf}
+use Rattle.rules.specs.Fronts.{triesBy}
 use Rattle.rules.specs.Run.{noFigures, noRunFigures, Ended, passEnds}
 use Rattle.rules.specs.Stored.{weigh, blockCheck, headerOf, laidOut, furtherRows, jobOf, Room, readVerdict}
 use Rattle.rules.specs.Report.{text, digitsIn, spaced, line, refusal, report, allRoom, allLent, allRun, prints}
@@ -28,14 +29,15 @@ use Rattle.rules.specs.Trace.{listing, trace, traces}
 use Rattle.rules.specs.Writing.{valueBytes, contents}
 use Rattle.rules.specs.Balance.{tooLarge, tooSmall, balanceMoves, balanceSides, leastA, mostA, noneBalanced, checkBeforeStart, balanceCheck, Balancing}
 use Rattle.rules.specs.Compare.{differences, comparingOf, compared, readFor, comparingJobs, comparing}
-use Rattle.rules.specs.Theorems.{Sound, Sides, stateAt, Lawful}
+use Rattle.rules.specs.Theorems.{Sound, Sides, stateAt, Lawful, LawfulTry}
 use Rattle.rules.specs.Emptied.{WindowAllows, NeverWindow, BothHold, NoneEmptied, CallsLeave, pair, pairBytes, EmptiedWorked}
 use Rattle.rules.proofs.Tests.{or-no, and-yes}
 use Rattle.rules.proofs.Verdicts.{passes-both, measure-verdict}
 use Rattle.rules.proofs.SoundJob.{ratio-pass, goal-pass, sound}
 use Rattle.rules.proofs.Sizes.{sizes-add}
-use Rattle.rules.proofs.Refusals.{never-read}
-use Rattle.rules.proofs.Proved.{accepted, pass-holds-by, given-sides, run-holds-by, tries-lawful, answers}
+use Rattle.rules.proofs.Refusals.{never-read, lent-chain}
+use Rattle.rules.proofs.Proved.{accepted, pass-holds-by, given-sides, run-holds-by, lent-passes, answers}
+use Rattle.rules.proofs.FrontsProved.{editions-hold}
 use Rattle.rules.proofs.Lending.{lent-enough, read-same}
 use Rattle.rules.proofs.Writes.{few-numbers, write-holds}
 use Rattle.rules.proofs.Balancing.{balance-holds, before-parts, start-passed, balance-answers}
@@ -143,27 +145,30 @@ balance-empties most job lent ok =
     let none = none-emptied job (c .2) most (sound most job lent (b .0)) (ratio-pass most job (c .0) .1 .0) in
     (none, none .balancing (a .1))
 
-pub calls-leave : (most : Limits) (job : Job) (l : Lent) → CallsLeave most job l
-calls-leave most job l = record {
+pub calls-leave : (edition : ℕ) (most : Limits) (job : Job) (l : Lent) → CallsLeave edition most job l
+calls-leave edition most job l = record {
   start = λ z. let n = through z in n .0 .split (job .sides) (given z .binary) (n .1);
   pass = λ z.
       let n = through z in
-      rw (ap (λ (e : Ended Figures). e .sides) (answers most job l .passDone z))
-      (n .0 .returned (job .sides) (tries job (job .sides)) (given z) (tries-lawful most job (sound-of z) (job .sides) (given z)) (n .1));
-  run = λ z. let n = through z in rw (ap (λ (e : Ended RunFigures). e .sides) (answers most job l .runDone z)) (n .0 .ran (tries job) (tries-lawful most job (sound-of z)) (n .1));
+      rw (ap (λ (e : Ended Figures). e .sides) (answers edition most job l .passDone z))
+      (n .0 .returned (job .sides) (triesBy edition job (job .sides)) (given z) (lawful z (job .sides) (given z)) (n .1));
+  run = λ z. let n = through z in rw (ap (λ (e : Ended RunFigures). e .sides) (answers edition most job l .runDone z)) (n .0 .ran (triesBy edition job) (lawful z) (n .1));
   balancing = λ scratch z.
-      rw (ap (λ (b : Balancing). b .sides) (balance-answers most job scratch .made z)) (balance-empties most job (leb (scratchFor job) (length scratch)) z .1);
+      rw (ap (λ (b : Balancing). b .sides) (balance-answers most job scratch .made z)) (balance-empties most job (leb (scratchFor 1 job) (length scratch)) z .1);
   met = λ z. through z .0;
-  metBalancing = λ scratch z. balance-empties most job (leb (scratchFor job) (length scratch)) z .0;
+  metBalancing = λ scratch z. balance-empties most job (leb (scratchFor 1 job) (length scratch)) z .0;
 }
   where
-    through : checkLent most job l .number ≡ 0 → NoneEmptied job × (balanced job (sizeA job (job .sides)) ≡ true)
-    through = check-empties most job (fits job l)
+    through : checkLent edition most job l .number ≡ 0 → NoneEmptied job × (balanced job (sizeA job (job .sides)) ≡ true)
+    through z = check-empties most job (fits edition job l) (lent-passes edition most job l z .1)
 
-    sound-of : checkLent most job l .number ≡ 0 → Sound most job
-    sound-of z = accepted most job (fits job l) z .sound
+    sound-of : checkLent edition most job l .number ≡ 0 → Sound most job
+    sound-of z = accepted most job (fits edition job l) (lent-passes edition most job l z .1) .sound
 
-    given : checkLent most job l .number ≡ 0 → Sides job (job .sides)
+    lawful : checkLent edition most job l .number ≡ 0 → LawfulTry job (triesBy edition job)
+    lawful z = editions-hold most job (sound-of z) .lawful edition
+
+    given : checkLent edition most job l .number ≡ 0 → Sides job (job .sides)
     given z = given-sides most job (sound-of z)
 
 -- ---- m5 and the edges
@@ -186,26 +191,27 @@ module _ (most : Limits) (f : 2 ≤ most .files) (r : 1 ≤ most .recipes) (p : 
   pair-balanced = rw (le-ltb (most .files) 2 f, le-ltb (most .recipes) 1 r, le-ltb (most .pins) 2 p, le-ltb (most .den) 2 d) refl
 
   -- whatever the program lends is long enough
-  pair-lent : checkLent most pair (allLent most pair) ≡ record { number = 10; place = 0 }
-  pair-lent = rw (lent-enough most pair f r p) pair-checked
+  pair-lent : checkLent 1 most pair (allLent most pair) ≡ record { number = 10; place = 0 }
+  unfolding checkEdition
+  pair-lent = rw (lent-chain 1 most pair (allLent most pair), lent-enough most 1 pair f r p) pair-checked
 
-  pair-refused : checkLent most pair (allLent most pair) .number ≢ 0
+  pair-refused : checkLent 1 most pair (allLent most pair) .number ≢ 0
   pair-refused z = omega (arith, sym (ap (λ (v : Verdict). v .number) pair-lent) ∙ z)
 
-  pair-prints : prints most pairBytes ≡ text "refused 10 0\n"
+  pair-prints : prints 1 most pairBytes ≡ text "refused 10 0\n"
   unfolding prints report text digitsIn spaced line refusal
   pair-prints =
       rw (eq-eqb (readVerdict most pairBytes (allRoom most) .number) 0 (ap (λ (v : Verdict). v .number) pair-read), prints)
-      (ap (λ (j : Job). report j (allRun most j .answer) (allRun most j .sides)) pair-stored
-      ∙ ap (λ (e : Ended RunFigures). report pair (e .answer) (e .sides)) (answers most pair (allLent most pair) .runRefused pair-refused)
+      (ap (λ (j : Job). report j (allRun 1 most j .answer) (allRun 1 most j .sides)) pair-stored
+      ∙ ap (λ (e : Ended RunFigures). report pair (e .answer) (e .sides)) (answers 1 most pair (allLent most pair) .runRefused pair-refused)
       ∙ ap (λ (v : Verdict). report pair (noRunFigures v) (pair .sides)) pair-lent)
 
-  pair-traces : traces most pairBytes ≡ text "refused 10 0\n"
+  pair-traces : traces 1 most pairBytes ≡ text "refused 10 0\n"
   unfolding traces trace text digitsIn spaced line refusal
   pair-traces =
       rw (eq-eqb (readVerdict most pairBytes (allRoom most) .number) 0 (ap (λ (v : Verdict). v .number) pair-read), traces)
-      (ap (λ (j : Job). let e = passEnds most j (allLent most j) in trace j (e .answer) (e .sides) (listing (e .lent))) pair-stored
-      ∙ ap (λ (e : Ended Figures). trace pair (e .answer) (e .sides) (listing (e .lent))) (answers most pair (allLent most pair) .passRefused pair-refused)
+      (ap (λ (j : Job). let e = passEnds 1 most j (allLent most j) in trace j (e .answer) (e .sides) (listing (e .lent))) pair-stored
+      ∙ ap (λ (e : Ended Figures). trace pair (e .answer) (e .sides) (listing (e .lent))) (answers 1 most pair (allLent most pair) .passRefused pair-refused)
       ∙ ap (λ (v : Verdict). trace pair (noFigures v) (pair .sides) (listing (allLent most pair))) pair-lent)
 
 pub worked : EmptiedWorked

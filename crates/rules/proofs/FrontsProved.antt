@@ -15,11 +15,10 @@ use borrow.Author.Tests.{eqb-true, ltb-true, ltb-false, lt-ltb}
 use Rattle.rules.specs.Lists.{bit}
 use Rattle.rules.specs.Job.{Job, Limits, fileCount, recipeCount, files, views, readIn, recipes}
 use Rattle.rules.specs.Split.{other, sideOf, times, holds, balanced, weight, smax, sizeOn}
-use Rattle.rules.specs.Check.{checkJob}
 use Rattle.rules.specs.Move.{State, start, lockOf, free, stepsBy, after, Frees, stop, move, sizeAfter, legal, distAfter, better, choose, moves}
 use Rattle.rules.specs.Pass.{tries}
 use Rattle.rules.specs.Fronts.{Buckets, startBuckets, enteredFirst, movedOn, gainIn, inVault, frontOf, unlessRejected, offer, ofTwo, chooseFront, frontTries, triesBy}
-use Rattle.rules.specs.FrontsHold.{Standing, Front, foremost, noLess, FrontsHold, bucketsAt, BucketsHold, ChosenFront, frontsAt, PassHoldsFronts, EditionsHold, ResettledEditions}
+use Rattle.rules.specs.FrontsHold.{Standing, Front, foremost, noLess, FrontsHold, bucketsAt, BucketsHold, ChosenFront, frontsAt, PassHoldsFronts, EditionsHold}
 use Rattle.rules.specs.RoundTrip.{Sideless}
 use Rattle.rules.specs.Theorems.{Binary, Sound, Sides, Lawful, LawfulTry}
 use Rattle.rules.proofs.Tests.{or-no, and-yes, and-no}
@@ -31,8 +30,7 @@ use Rattle.rules.proofs.OneMove.{move-of, stays-binary}
 use Rattle.rules.proofs.GainKept.{Fresh, frees-take}
 use Rattle.rules.proofs.First.{some-inj, no-some}
 use Rattle.rules.proofs.MovesEnd.{StateLong, moved-long, Picks, moves-each, moves-see, moves-end}
-use Rattle.rules.proofs.Proved.{accepted, lawful-frees, scans-hold, pass-holds-by, run-holds-by, tries-lawful}
-use Rattle.rules.proofs.Resettling.{resettled-holds-by}
+use Rattle.rules.proofs.Proved.{lawful-frees, scans-hold, pass-holds-by, run-holds-by, tries-lawful}
 use Rattle.rules.proofs.Foremost.{less-not, Foremost, foremost-none, foremost-some, foremost-is, foremost-same, front-foremost}
 use Rattle.rules.proofs.Entering.{start-standing, moved-standing, moves-latest}
 
@@ -374,8 +372,3 @@ module _ (most : Limits) (job : Job) (s : Sound most job) where
     run = λ edition. run-holds-by most job s (triesBy edition job) (by-lawful edition);
     sideless = λ edition. by-sideless job edition;
   }
-
--- the sides that a run by any edition leaves may be taken up again
-pub resettled-editions : (most : Limits) (job : Job) → checkJob most job .number ≡ 0 → ResettledEditions most job
-resettled-editions most job ok edition =
-    resettled-holds-by (triesBy edition) job (by-sideless job edition) most (editions-hold most job (accepted most job true ok .sound) .lawful edition) ok

@@ -14,26 +14,27 @@ use Rattle.rules.specs.declared.Header.{Header}
 use Rattle.rules.specs.declared.Figures.{Figures}
 use Rattle.rules.specs.declared.RunFigures.{RunFigures}
 use Rattle.rules.specs.Job.{Job, Limits, fileCount, recipeCount, pinCount, scratchFor, scratchNumbers, fits}
-use Rattle.rules.specs.Check.{done, refuseIf, _orElse_, Rows, _followedBy_, row, firstGiven, countRows, contentRows, restRows, badK, overMost, checkCounts, checkRest, check, checkLent}
+use Rattle.rules.specs.Check.{done, refuseIf, _orElse_, Rows, _followedBy_, row, firstGiven, countRows, contentRows, restRows, badK, overMost, checkCounts, checkRest, check, isEdition, editionRows, checkEdition, checkLent}
 use Rattle.rules.specs.Stored.{headerOf, blockCount, blockRows, furtherRows, jobOf, roomy, underOne, wrongTotal, layoutRows, readVerdict}
-use Rattle.rules.specs.Pass.{pass, leaves}
-use Rattle.rules.specs.Run.{run, lastOf, figuresOf, runFiguresOf, Ended}
+use Rattle.rules.specs.Pass.{leaves}
+use Rattle.rules.specs.Run.{firstPass, runBy, lastPass, figuresOf, runFiguresOf, Ended}
 use Rattle.rules.specs.Report.{report, allRoom, allLent, prints}
 use Rattle.rules.specs.Trace.{listing, trace, traces}
 use Rattle.rules.specs.Theorems.{LendsEnough}
 use Rattle.rules.proofs.Tests.{and-both}
 use Rattle.rules.proofs.Verdicts.{never-chain}
-use Rattle.rules.proofs.Refusals.{lacks, never-given, further-lacks}
+use Rattle.rules.proofs.Refusals.{lacks, never-given, further-lacks, lent-chain}
 use Rattle.rules.proofs.SoundJob.{few-of, counts-pass}
 use Rattle.rules.proofs.Reading.{read-holds}
+use Rattle.rules.proofs.Fits.{numbers-most}
 use Rattle.rules.proofs.Proved.{answers}
 
--- the report of the run of a job that is let through, and the trace of its first pass
-abbrev pub runText : Job → List ℕ
-runText job = report job (runFiguresOf done (pass job (job .sides)) (run job)) (lastOf (pass job (job .sides)) (run job) .sidesAfter)
+-- by an edition, the report of the run of a job that is let through, and the trace of its first pass
+abbrev pub runText : ℕ → Job → List ℕ
+runText edition job = report job (runFiguresOf done (firstPass edition job) (runBy edition job)) (lastPass edition job .sidesAfter)
 
-abbrev pub passText : Limits → Job → List ℕ
-passText most job = let p = pass job (job .sides) in trace job (figuresOf done p (p ∷ [])) (p .sidesAfter) (listing (leaves job (allLent most job) p))
+abbrev pub passText : ℕ → Limits → Job → List ℕ
+passText edition most job = let p = firstPass edition job in trace job (figuresOf done p (p ∷ [])) (p .sidesAfter) (listing (leaves edition job (allLent most job) p))
 
 -- a lent list of n entries has room for m
 has-room {ℓ} : {A : Type ℓ} (m n : ℕ) (z : A) → m ≤ n → leb m (length (replicate n z)) ≡ true
@@ -48,8 +49,8 @@ module _ (most : Limits) where
   room-after : (h : Header) → overMost most (h .files) (h .recipes) (h .pins) ≡ false → roomy h (allRoom most) ≡ true
   room-after h ok = let r = few-of most (h .files) (h .recipes) (h .pins) ok in room-enough h (r .0) (r .1) (r .2)
 
-  pub lent-enough : (job : Job) → fileCount job ≤ most .files → recipeCount job ≤ most .recipes → pinCount job ≤ most .pins → fits job (allLent most job) ≡ true
-  lent-enough job few-files few-recipes few-pins =
+  pub lent-enough : (edition : ℕ) (job : Job) → fileCount job ≤ most .files → recipeCount job ≤ most .recipes → pinCount job ≤ most .pins → fits edition job (allLent most job) ≡ true
+  lent-enough edition job few-files few-recipes few-pins =
       let c : ℕ = fileCount job in
       let n : ℕ = recipeCount job in
       let gains : eqb (length (replicate c (pos 0))) c ≡ true = eq-eqb (length (replicate c (pos 0))) c (length-replicate c (pos 0)) in
@@ -57,7 +58,7 @@ module _ (most : Limits) where
       let gained : leb c (length (allLent most job .gained)) ≡ true = has-room c (most .files) (pos 0) few-files in
       let scans : leb (4 * n) (length (allLent most job .kinds)) ≡ true = has-room (4 * n) (4 * most .recipes) 0 (omega arith) in
       and-both (and-both (and-both (and-both (and-both (and-both (and-both gains files) gained) files) files) scans) scans)
-      (has-room (scratchFor job) (scratchNumbers (most .pins) (most .files) (most .recipes)) 0 (omega arith))
+      (has-room (scratchFor edition job) (scratchNumbers 2 (most .pins) (most .files) (most .recipes)) 0 (omega (arith, numbers-most edition (pinCount job) c n)))
 
   -- 3 is no other row's number, and its own is given only after 2, where there is room
   module _ (input : List ℕ) where
@@ -83,35 +84,36 @@ module _ (most : Limits) where
     pub lends-enough : LendsEnough most input
     lends-enough = record {
       room = room-after;
-      lent = λ job ok. let r = few-of most (fileCount job) (recipeCount job) (pinCount job) ok in lent-enough job (r .0) (r .1) (r .2);
+      lent = λ edition job ok. let r = few-of most (fileCount job) (recipeCount job) (pinCount job) ok in lent-enough edition job (r .0) (r .1) (r .2);
       read = read-never;
-      made = λ ok.
+      made = λ edition ok.
           let r = read-holds most input (allRoom most) in
           let s = r .sound ok in
-          rw (lent-enough (jobOf input) (s .fewFiles) (s .fewRecipes) (s .fewPins), r .adds ok)
-          (unfold checkRest lacks in never-given 3 (restRows most (jobOf input)) refl (omega arith));
+          rw (lent-chain edition most (jobOf input) (allLent most (jobOf input)), lent-enough edition (jobOf input) (s .fewFiles) (s .fewRecipes) (s .fewPins), r .adds ok)
+          (unfold checkEdition checkRest lacks in never-given 3 (editionRows edition followedBy restRows most (jobOf input)) refl (omega arith));
     }
 
-    -- what the programs print of a job that is read and accepted
-    module _ (read : readVerdict most input (allRoom most) ≡ done) (ok : check most (jobOf input) true ≡ done) where
-      fitting : checkLent most (jobOf input) (allLent most (jobOf input)) ≡ done
+    -- what the programs print by an edition of a job that is read and accepted
+    module _ (edition : ℕ) (known : isEdition edition ≡ true) (read : readVerdict most input (allRoom most) ≡ done) (ok : check most (jobOf input) true ≡ done) where
+      fitting : checkLent edition most (jobOf input) (allLent most (jobOf input)) ≡ done
+      unfolding checkEdition
       fitting =
           let s = read-holds most input (allRoom most) .sound (ap (λ (v : Verdict). v .number) read) in
-          rw (lent-enough (jobOf input) (s .fewFiles) (s .fewRecipes) (s .fewPins)) ok
+          rw (lent-chain edition most (jobOf input) (allLent most (jobOf input)), known, lent-enough edition (jobOf input) (s .fewFiles) (s .fewRecipes) (s .fewPins)) ok
 
-      pub prints-run : prints most input ≡ runText (jobOf input)
+      pub prints-run : prints edition most input ≡ runText edition (jobOf input)
       unfolding prints
       prints-run =
           let job : Job = jobOf input in
-          let e = answers most job (allLent most job) .runDone (ap (λ (v : Verdict). v .number) fitting) in
+          let e = answers edition most job (allLent most job) .runDone (ap (λ (v : Verdict). v .number) fitting) in
           rw (eq-eqb (readVerdict most input (allRoom most) .number) 0 (ap (λ (v : Verdict). v .number) read), prints)
           (ap (λ (x : Ended RunFigures). report job (x .answer) (x .sides)) e)
 
-      pub traces-pass : traces most input ≡ passText most (jobOf input)
+      pub traces-pass : traces edition most input ≡ passText edition most (jobOf input)
       unfolding traces
       traces-pass =
           let job : Job = jobOf input in
-          let e = answers most job (allLent most job) .passDone (ap (λ (v : Verdict). v .number) fitting) in
+          let e = answers edition most job (allLent most job) .passDone (ap (λ (v : Verdict). v .number) fitting) in
           rw (eq-eqb (readVerdict most input (allRoom most) .number) 0 (ap (λ (v : Verdict). v .number) read), traces)
           (ap (λ (x : Ended Figures). trace job (x .answer) (x .sides) (listing (x .lent))) e)
 

@@ -30,6 +30,11 @@ pub mod CutOff
 pub mod Proved
 pub mod Checking
 pub mod OtherSides
+pub mod Latest
+pub mod OneWay
+pub mod Foremost
+pub mod Entering
+pub mod FrontsProved
 pub mod Told
 pub mod Reports
 pub mod Lending
@@ -47,9 +52,4 @@ pub mod Wider
 pub mod Emptied
 pub mod Compare
 pub mod Comparing
-pub mod Latest
-pub mod OneWay
-pub mod Foremost
-pub mod Entering
-pub mod FrontsProved
 pub mod FrontsWorked

@@ -21,11 +21,11 @@ use Rattle.rules.proofs.Lending.{runText, passText, prints-run, traces-
 
 module _ (most : Limits) (input : List ℕ) (job : Job) (stored : jobOf input ≡ job)
     (read : readVerdict most input (allRoom most) ≡ done) (ok : checkJob most job ≡ done) where
-  pub prints-whole : prints most input ≡ runText job
-  prints-whole = prints-run most input read (rw stored ok) ∙ ap runText stored
+  pub prints-whole : prints 1 most input ≡ runText 1 job
+  prints-whole = prints-run most input 1 refl read (rw stored ok) ∙ ap (runText 1) stored
 
-  pub traces-whole : traces most input ≡ passText most job
-  traces-whole = traces-pass most input read (rw stored ok) ∙ ap (passText most) stored
+  pub traces-whole : traces 1 most input ≡ passText 1 most job
+  traces-whole = traces-pass most input 1 refl read (rw stored ok) ∙ ap (passText 1 most) stored
 
 -- ---- the chain
 

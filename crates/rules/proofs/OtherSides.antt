@@ -42,9 +42,9 @@ module _ (job : Job) (sides : List ℕ) where
   pub same-pass : (x : List ℕ) → pass next x ≡ pass job x
   same-pass x = same-passOf x (tries next x) ∙ ap (λ (try : List ℕ → List ℕ). passOf job x (try x)) same-tries
 
-  pub same-leaves : (l : Lent) (p : Pass) → leaves next l p ≡ leaves job l p
+  pub same-leaves : (edition : ℕ) (l : Lent) (p : Pass) → leaves edition next l p ≡ leaves edition job l p
   unfolding leaves
-  same-leaves l p = refl
+  same-leaves edition l p = refl
 
   -- sides 0 or 1, as many as there are files
   pub sound-again : {most : Limits} → Sound most job → Sides job sides → Sound most next

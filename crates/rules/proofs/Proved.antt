@@ -16,15 +16,15 @@ use Rattle.rules.specs.declared.Verdict.{Verdict}
 use Rattle.rules.specs.Lists.{bit, count, upTo, lowest, someBelow}
 use Rattle.rules.specs.Job.{Job, Limits, fileCount, pinCount, recipeCount, files, views, recipes, Lent, scratchFor, fits}
 use Rattle.rules.specs.Split.{other, sideOf, cut, times, unreadFiles, unreadRecipes, sizeA, balanced}
-use Rattle.rules.specs.Check.{refuseIf, _orElse_, badK, allRows, contentRows, soundRows, checkCounts, checkLists, checkLengths, checkFree, checkStart, checkContents, checkSound, checkGoal, checkRest, check, checkLent, measure}
+use Rattle.rules.specs.Check.{refuseIf, _orElse_, badK, allRows, contentRows, soundRows, checkCounts, checkLists, checkLengths, checkFree, checkStart, checkContents, checkSound, checkGoal, checkRest, check, isEdition, lentRows, checkEdition, checkLent, measure}
 use Rattle.rules.specs.Move.{stepsBy, State, start, lockOf, free, moved, after, Frees, sizeAfter, legal, Scan, scansOf, scans, endsFrom, visits, changesOf, changed}
-use Rattle.rules.specs.Pass.{cutAt, keeps, gainsAfter, startGains, Pass, passOf, tries, pass, leaves}
-use Rattle.rules.specs.Run.{passBy, mostPasses, passes, run, lastOf, figuresOf, runFiguresOf, leftBy, passEnds, runEnds}
+use Rattle.rules.specs.Pass.{cutAt, keeps, gainsAfter, startGains, Pass, passOf, tries, leaves}
+use Rattle.rules.specs.Run.{passBy, mostPasses, passes, lastOf, firstPass, runBy, lastPass, figuresOf, runFiguresOf, leftBy, passEnds, runEnds}
 use Rattle.rules.specs.Writing.{checkWritten}
 use Rattle.rules.specs.Theorems.{Sound, Accepted, Sides, stateAt, MovesHold, replayedTo, ScansHold, Left, scansTold, replayedBy, Replayed, Lawful, PassHoldsBy, LawfulTry, startSides, RunHoldsBy, PassHolds, RunHolds, Answers}
 use Rattle.rules.proofs.Tests.{clash, and-yes, not-no}
-use Rattle.rules.proofs.Verdicts.{passes-both, both-pass, not-refused, Plain}
-use Rattle.rules.proofs.Refusals.{lacks, plain-rows}
+use Rattle.rules.proofs.Verdicts.{zero-of, passes-both, both-pass, not-refused, Plain}
+use Rattle.rules.proofs.Refusals.{lacks, first-given, plain-rows, lent-chain}
 use Rattle.rules.proofs.Count.{total-map, length-tabled, count-some}
 use Rattle.rules.proofs.Entries.{beyond, listed-more, listed-holds}
 use Rattle.rules.proofs.GainKept.{frees-take, after-binary, keptUp, kept-length, kept-more, gain-kept-at, gains-kept, gains-pinned, gains-chosen, replay-within, replay-listed, told-more, cut-kept, start-fresh}
@@ -133,10 +133,10 @@ module _ (most : Limits) (job : Job) (s : Sound most job) where
   -- ---- what the lent lists then hold
 
   -- beyond what the pass lists, the replay reads nothing of them
-  replay-left : (sides ms : List ℕ) (l : Lent) (k : ℕ) → k ≤ length ms
-      → replayedBy job sides (leaves job l (passOf job sides ms)) k ≡ replayedTo job sides ms k
+  replay-left : (edition : ℕ) (sides ms : List ℕ) (l : Lent) (k : ℕ) → k ≤ length ms
+      → replayedBy job sides (leaves edition job l (passOf job sides ms)) k ≡ replayedTo job sides ms k
   unfolding leaves passOf
-  replay-left sides ms l k h =
+  replay-left edition sides ms l k h =
       let st : State = start job sides in
       let rs : List (List ℕ) = recipes job in
       let cs : List Scan = scans rs st ms in
@@ -153,10 +153,10 @@ module _ (most : Limits) (job : Job) (s : Sound most job) where
         replay-listed k rs st ms (startGains rs c st),
       )
 
-  pub left : (sides ms : List ℕ) (l : Lent) → fits job l ≡ true → MovesHold job sides ms → ScansHold job sides ms → Left job l (passOf job sides ms)
+  pub left : (edition : ℕ) (sides ms : List ℕ) (l : Lent) → fits edition job l ≡ true → MovesHold job sides ms → ScansHold job sides ms → Left edition job l (passOf job sides ms)
   unfolding leaves passOf
-  left sides ms l ok m c =
-      let r = long-enough job l ok in
+  left edition sides ms l ok m c =
+      let r = long-enough edition job l ok in
       record {
         gains = refl;
         tried = listed-holds (fileCount job) 0 ms (l .tried) (m .few) (r .tried);
@@ -165,35 +165,35 @@ module _ (most : Limits) (job : Job) (s : Sound most job) where
         ends = listed-holds (fileCount job) 0 _ (l .ends) (rw (ends-length (recipes job) 0 (start job sides) ms) (m .few)) (r .scansSoFar);
         recipes = listed-holds (4 * recipeCount job) 0 _ (l .recipes) (rw length-map (c .scans)) (r .scannedRecipes);
         kinds = listed-holds (4 * recipeCount job) 0 _ (l .kinds) (rw length-map (c .scans)) (r .scannedKinds);
-        scratch = listed-holds (scratchFor job) 0 [] (l .scratch) (omega arith) (r .scratch);
+        scratch = listed-holds (scratchFor edition job) 0 [] (l .scratch) (omega arith) (r .scratch);
       }
 
   -- of as many recipes as there are scans the list left holds those of the scans
-  recipes-left : (sides ms : List ℕ) (l : Lent) → take (length (passOf job sides ms .scanned)) (leaves job l (passOf job sides ms) .recipes) ≡ map (λ c. c .recipe) (passOf job sides ms .scanned)
+  recipes-left : (edition : ℕ) (sides ms : List ℕ) (l : Lent) → take (length (passOf job sides ms .scanned)) (leaves edition job l (passOf job sides ms) .recipes) ≡ map (λ c. c .recipe) (passOf job sides ms .scanned)
   unfolding leaves
-  recipes-left sides ms l =
+  recipes-left edition sides ms l =
       let cs : List Scan = passOf job sides ms .scanned in
       let n : ℕ = 4 * recipeCount job in
       let js : List ℕ = map (λ c. c .recipe) cs in
       rw (listed-more n 0 js (l .recipes)) (ap (λ (k : ℕ). take k (js ++ beyond n 0 js (l .recipes))) (sym (length-map cs (λ c. c .recipe))) ∙ take-append-seam js (beyond n 0 js (l .recipes)))
 
-  pub replayed : (sides ms : List ℕ) (l : Lent) → ScansHold job sides ms → Replayed job l sides ms
+  pub replayed : (edition : ℕ) (sides ms : List ℕ) (l : Lent) → ScansHold job sides ms → Replayed edition job l sides ms
   unfolding leaves passOf visits times count
-  replayed sides ms l c =
+  replayed edition sides ms l c =
       let st : State = start job sides in
       let rs : List (List ℕ) = recipes job in
       let ends : List ℕ = endsFrom rs 0 st ms in
       let cs : List Scan = scans rs st ms in
       let after : List ℕ = beyond (fileCount job) 0 ends (l .ends) in
       let few : length ms < suc (length ends) = omega (arith, ends-length rs 0 st ms) in
-      let same : (k : ℕ) → k ≤ length ms → replayedBy job sides (leaves job l (passOf job sides ms)) k ≡ replayedTo job sides ms k = replay-left sides ms l in
+      let same : (k : ℕ) → k ≤ length ms → replayedBy job sides (leaves edition job l (passOf job sides ms)) k ≡ replayedTo job sides ms k = replay-left edition sides ms l in
       record {
         same = same;
         fresh = λ k f h p e. ap (λ (x : List ℤ). getD x f (pos 0)) (same k h) ∙ c .fresh k f p e;
         gains = same (length ms) (omega arith) ∙ c .gains;
         last = rw (listed-more (fileCount job) 0 ends (l .ends)) (List·getD-append (0 ∷ ends) after 0 (length ms) few ∙ ends-last rs 0 st ms ∙ zero-add (length cs));
-        visits = rw (recipes-left sides ms l) (sym (total-map (λ j. length (getD (views job) j [])) (λ c. c .recipe) cs));
-        four = λ j. rw (recipes-left sides ms l, total-map (λ x. bit (eqb x j)) (λ c. c .recipe) cs) (c .four j);
+        visits = rw (recipes-left edition sides ms l) (sym (total-map (λ j. length (getD (views job) j [])) (λ c. c .recipe) cs));
+        four = λ j. rw (recipes-left edition sides ms l, total-map (λ x. bit (eqb x j)) (λ c. c .recipe) cs) (c .four j);
       }
 
   -- ---- one pass, whoever chose its moves
@@ -357,18 +357,27 @@ check-writes most job lent ok =
     let k = ratio-pass most job (goal-pass most job (passes-both (checkGoal most job) (checkStart job) (a .1) .0) .0) .1 in
     both-pass (checkSound most job lent) (refuseIf (badK (job .k)) 7 0) (a .0) (ap (λ (b : Bool). refuseIf b 7 0 .number) (fine-k (job .k) k))
 
-pub answers : (most : Limits) (job : Job) (l : Lent) → Answers most job l
-unfolding passEnds runEnds measure
-answers most job l =
-    let v = checkLent most job l in
+-- let through, the edition is one that there is, and the check of the job lets through
+pub lent-passes : (edition : ℕ) (most : Limits) (job : Job) (l : Lent) → checkLent edition most job l .number ≡ 0
+    → (isEdition edition ≡ true) × (check most job (fits edition job l) .number ≡ 0)
+lent-passes edition most job l ok =
+    let b = passes-both (checkEdition edition) (check most job (fits edition job l)) (zero-of (lent-chain edition most job l) ok) in
+    (not-no (isEdition edition) (unfold checkEdition in not-refused (not (isEdition edition)) 31 0 (b .0)), b .1)
+
+pub answers : (edition : ℕ) (most : Limits) (job : Job) (l : Lent) → Answers edition most job l
+unfolding passEnds runEnds measure checkLent lacks
+answers edition most job l =
+    let v = checkLent edition most job l in
     let u = checkSound most job true in
+    let plain : Plain v = plain-rows (lentRows edition most job l) refl in
     record {
-      place = plain-check most job (fits job l);
-      fitting = lent-fits most job (fits job l);
+      table = first-given (lentRows edition most job l) refl;
+      place = plain;
+      fitting = λ e. let b = lent-passes edition most job l e in (b .0, lent-fits most job (fits edition job l) (b .1));
       passRefused = λ n. rw (ne-eqb (v .number) 0 n, passEnds) refl;
       runRefused = λ n. rw (ne-eqb (v .number) 0 n, runEnds) refl;
-      passDone = λ e. rw (eq-eqb (v .number) 0 e, passEnds) (ap (λ (x : Verdict). leftBy job l (figuresOf x (pass job (job .sides)) (pass job (job .sides) ∷ [])) (pass job (job .sides))) (plain-check most job (fits job l) e));
-      runDone = λ e. rw (eq-eqb (v .number) 0 e, runEnds) (ap (λ (x : Verdict). leftBy job l (runFiguresOf x (pass job (job .sides)) (run job)) (lastOf (pass job (job .sides)) (run job))) (plain-check most job (fits job l) e));
+      passDone = λ e. rw (eq-eqb (v .number) 0 e, passEnds) (ap (λ (x : Verdict). leftBy edition job l (figuresOf x (firstPass edition job) (firstPass edition job ∷ [])) (firstPass edition job)) (plain e));
+      runDone = λ e. rw (eq-eqb (v .number) 0 e, runEnds) (ap (λ (x : Verdict). leftBy edition job l (runFiguresOf x (firstPass edition job) (runBy edition job)) (lastPass edition job)) (plain e));
       measureRefused = λ n. rw (ne-eqb (u .number) 0 n, measure) refl;
       measureDone = λ e. rw (eq-eqb (u .number) 0 e, measure) (ap (λ (x : Verdict). record { verdict = x; cut = cut (job .sides) (recipes job); size = sizeA job (job .sides); unread = unreadFiles job; holding = unreadRecipes job }) (plain-sound most job true e));
     }

@@ -10,8 +10,8 @@ use lib.Dec.{leb, eqb}
 use borrow.Author.Tests.{leb-true, eqb-false, ne-eqb}
 use Rattle.rules.specs.declared.Verdict.{Verdict}
 use Rattle.rules.specs.declared.Header.{Header}
-use Rattle.rules.specs.Job.{Job, Limits}
-use Rattle.rules.specs.Check.{done, refuseIf, _orElse_, Row, Rows, none, one, _followedBy_, firstGiven, badK, soundRows, allRows, checkCounts, checkRatio, checkFree, checkWindow, checkStart, checkContents, checkSound, checkGoal, checkRest, check}
+use Rattle.rules.specs.Job.{Job, Limits, Lent, fits}
+use Rattle.rules.specs.Check.{done, refuseIf, _orElse_, Row, Rows, none, one, _followedBy_, firstGiven, badK, soundRows, allRows, checkCounts, checkRatio, checkFree, checkWindow, checkStart, checkContents, checkSound, checkGoal, checkRest, check, checkEdition, checkLent}
 use Rattle.rules.specs.Stored.{headerOf, blockCount, blockVerdict, furtherRows, blocksVerdict, jobOf, Room, roomy, underOne, wrongTotal, layoutVerdict, readRows, readVerdict}
 use Rattle.rules.specs.Theorems.{inOrder, saidBy, rowOf, FirstRow, FirstGiven}
 use Rattle.rules.proofs.Tests.{clash, and-yes}
@@ -198,6 +198,11 @@ check-chain most job lent = refl
 pub rest-chain : (most : Limits) (job : Job) (lent : Bool) → check most job lent ≡ (checkSound most job lent orElse checkRest most job)
 unfolding check checkSound checkRest
 rest-chain most job lent = refl
+
+-- 32 before it
+pub lent-chain : (edition : ℕ) (most : Limits) (job : Job) (l : Lent) → checkLent edition most job l ≡ (checkEdition edition orElse check most job (fits edition job l))
+unfolding checkLent checkEdition check
+lent-chain edition most job l = refl
 
 pub goal-chain : (most : Limits) (job : Job) → checkGoal most job ≡ (checkRatio most job orElse checkFree job orElse checkWindow job)
 unfolding checkGoal checkRatio checkFree checkWindow

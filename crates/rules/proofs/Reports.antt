@@ -18,15 +18,17 @@ use Rattle.rules.specs.Lists.{someBelow, onto}
 use Rattle.rules.specs.Job.{Job, Limits, fileCount, files, Lent, fits}
 use Rattle.rules.specs.Split.{sizeOn}
 use Rattle.rules.specs.Check.{done, refuseIf, _orElse_, checkLent}
-use Rattle.rules.specs.Pass.{Pass, tries, pass, leaves}
-use Rattle.rules.specs.Run.{noFigures, noRunFigures, run, lastOf, passEnds, runEnds, figuresOf, runFiguresOf}
+use Rattle.rules.specs.Pass.{Pass, leaves}
+use Rattle.rules.specs.Fronts.{triesBy}
+use Rattle.rules.specs.Run.{noFigures, noRunFigures, firstPass, runBy, lastPass, passEnds, runEnds, figuresOf, runFiguresOf}
 use Rattle.rules.specs.Report.{sizeLine, figureLines, tells, report, refusal, ofFiles, splitVerdict, printVerdict, Printing, printed, printing, intoRoom, telling, reporting, sidesLine}
 use Rattle.rules.specs.Trace.{Listing, listing, passLines, trace, badEnd, holdsPass, tracing}
 use Rattle.rules.specs.Theorems.{Binary, Sides, Sound}
 use Rattle.rules.proofs.Searches.{some-none}
 use Rattle.rules.proofs.Entries.{onto-least}
-use Rattle.rules.proofs.Proved.{accepted, answers, left, pass-holds, given-sides, run-holds}
-use Rattle.rules.proofs.Told.{pass-told}
+use Rattle.rules.proofs.Proved.{accepted, lent-passes, answers, left}
+use Rattle.rules.proofs.FrontsProved.{editions-hold}
+use Rattle.rules.proofs.Told.{pass-made, pass-told}
 
 -- ---- the bytes in the room
 
@@ -122,22 +124,26 @@ unfolding reporting
 made-told most job r sides room e few m w =
     telling-made most job sides (r .figures .verdict) true (report (ofFiles (job .sizes) (job .marks)) r sides) room e few m w refl ∙ ap (λ (b : List ℕ). intoRoom b room) (report-sizes job r sides)
 
-pub last-sides : (most : Limits) (job : Job) → Sound most job → Sides job (lastOf (pass job (job .sides)) (run job) .sidesAfter)
-last-sides most job s = run-holds most job s .next
+pub last-sides : (edition : ℕ) (most : Limits) (job : Job) → Sound most job → Sides job (lastPass edition job .sidesAfter)
+last-sides edition most job s = editions-hold most job s .run edition .next
 
-pub run-told : (most : Limits) (job : Job) (l : Lent) (room : List ℕ) →
-    let e = runEnds most job l in reporting most (job .sizes) (job .marks) (e .answer) (e .sides) room ≡ intoRoom (report job (e .answer) (e .sides)) room
-run-told most job l room = elim (ℕ-discrete (checkLent most job l .number) 0) [
+-- what is let through is sound
+lent-sound : (edition : ℕ) (most : Limits) (job : Job) (l : Lent) → checkLent edition most job l .number ≡ 0 → Sound most job
+lent-sound edition most job l z = accepted most job (fits edition job l) (lent-passes edition most job l z .1) .sound
+
+pub run-told : (edition : ℕ) (most : Limits) (job : Job) (l : Lent) (room : List ℕ) →
+    let e = runEnds edition most job l in reporting most (job .sizes) (job .marks) (e .answer) (e .sides) room ≡ intoRoom (report job (e .answer) (e .sides)) room
+run-told edition most job l room = elim (ℕ-discrete (checkLent edition most job l .number) 0) [
   | yes z ↦
-      let s : Sound most job = accepted most job (fits job l) z .sound in
-      rw (answers most job l .runDone z) (made-told most job (runFiguresOf done (pass job (job .sides)) (run job)) (lastOf (pass job (job .sides)) (run job) .sidesAfter) room (told job) (s .fewFiles) (s .marksLong) (last-sides most job s))
+      let s : Sound most job = lent-sound edition most job l z in
+      rw (answers edition most job l .runDone z) (made-told most job (runFiguresOf done (firstPass edition job) (runBy edition job)) (lastPass edition job .sidesAfter) room (told job) (s .fewFiles) (s .marksLong) (last-sides edition most job s))
   | no n ↦
-      let none : RunFigures = noRunFigures (checkLent most job l) in
-      rw (answers most job l .runRefused n)
+      let none : RunFigures = noRunFigures (checkLent edition most job l) in
+      rw (answers edition most job l .runRefused n)
       (reporting-refusal most (job .sizes) (job .marks) none (job .sides) room n ∙ ap (λ (b : List ℕ). intoRoom b room) (sym (report-refused job none (job .sides) n)))
 ]
   where
-    told : (job : Job) → runFiguresOf done (pass job (job .sides)) (run job) .figures .verdict ≡ done
+    told : (job : Job) → runFiguresOf done (firstPass edition job) (runBy edition job) .figures .verdict ≡ done
     told job = unfold runFiguresOf in unfold figuresOf in refl
 
 -- ---- the trace of a pass
@@ -162,15 +168,15 @@ made-traced most job f sides room l e few m w held =
     telling-made most job sides (f .verdict) (holdsPass (job .sizes) f l) (trace (ofFiles (job .sizes) (job .marks)) f sides l) room e few m w held
     ∙ ap (λ (b : List ℕ). intoRoom b room) (trace-sizes job f sides l)
 
-pass-sides : (most : Limits) (job : Job) → Sound most job → Sides job (pass job (job .sides) .sidesAfter)
-pass-sides most job s = pass-holds most job s (job .sides) (given-sides most job s) .any .moves .next
+pass-sides : (edition : ℕ) (most : Limits) (job : Job) → Sound most job → Sides job (firstPass edition job .sidesAfter)
+pass-sides edition most job s = pass-made edition most job s .0 .next
 
 -- the lists hold what is told, refused or not
-pub pass-held : (most : Limits) (job : Job) (l : Lent) → length (l .gains) ≡ fileCount job → let e = passEnds most job l in holdsPass (job .sizes) (e .answer) (listing (e .lent)) ≡ true
-pass-held most job l g = elim (ℕ-discrete (checkLent most job l .number) 0) [
-  | yes z ↦ rw (answers most job l .passDone z) (pass-told most job (accepted most job (fits job l) z .sound) l (answers most job l .fitting z))
+pub pass-held : (edition : ℕ) (most : Limits) (job : Job) (l : Lent) → length (l .gains) ≡ fileCount job → let e = passEnds edition most job l in holdsPass (job .sizes) (e .answer) (listing (e .lent)) ≡ true
+pass-held edition most job l g = elim (ℕ-discrete (checkLent edition most job l .number) 0) [
+  | yes z ↦ rw (answers edition most job l .passDone z) (pass-told edition most job (lent-sound edition most job l z) l (answers edition most job l .fitting z .1))
   | no n ↦ rw (
-    answers most job l .passRefused n,
+    answers edition most job l .passRefused n,
     eq-eqb (length (l .gains)) (fileCount job) g,
     le-leb 0 (length (job .sizes)) (omega arith),
     le-leb 0 (length (l .tried)) (omega arith),
@@ -182,27 +188,27 @@ pass-held most job l g = elim (ℕ-discrete (checkLent most job l .number) 0) [
 ]
 
 -- and are as long as before
-pub pass-long : (most : Limits) (job : Job) (l : Lent) → let e = passEnds most job l in (length (e .sides) ≡ length (job .sides)) × (length (e .lent .recipes) ≡ length (l .recipes))
-pass-long most job l = elim (ℕ-discrete (checkLent most job l .number) 0) [
+pub pass-long : (edition : ℕ) (most : Limits) (job : Job) (l : Lent) → let e = passEnds edition most job l in (length (e .sides) ≡ length (job .sides)) × (length (e .lent .recipes) ≡ length (l .recipes))
+pass-long edition most job l = elim (ℕ-discrete (checkLent edition most job l .number) 0) [
   | yes z ↦
-      let s : Sound most job = accepted most job (fits job l) z .sound in
-      let p = pass-holds most job s (job .sides) (given-sides most job s) in
-      rw (answers most job l .passDone z) (p .any .moves .next .long ∙ sym (s .sidesLong), left most job s (job .sides) (tries job (job .sides)) l (answers most job l .fitting z) (p .any .moves) (p .scans) .recipes .long)
-  | no n ↦ rw (answers most job l .passRefused n) (refl, refl)
+      let s : Sound most job = lent-sound edition most job l z in
+      let p = pass-made edition most job s in
+      rw (answers edition most job l .passDone z) (p .0 .next .long ∙ sym (s .sidesLong), left most job s edition (job .sides) (triesBy edition job (job .sides)) l (answers edition most job l .fitting z .1) (p .0) (p .1) .recipes .long)
+  | no n ↦ rw (answers edition most job l .passRefused n) (refl, refl)
 ]
 
 -- what a pass leaves, told; and where it was made its lists hold it
-pub pass-traced : (most : Limits) (job : Job) (l : Lent) (room : List ℕ) →
-    let e = passEnds most job l in tracing most (job .sizes) (job .marks) (e .answer) (e .sides) (listing (e .lent)) room ≡ intoRoom (trace job (e .answer) (e .sides) (listing (e .lent))) room
-pass-traced most job l room = elim (ℕ-discrete (checkLent most job l .number) 0) [
+pub pass-traced : (edition : ℕ) (most : Limits) (job : Job) (l : Lent) (room : List ℕ) →
+    let e = passEnds edition most job l in tracing most (job .sizes) (job .marks) (e .answer) (e .sides) (listing (e .lent)) room ≡ intoRoom (trace job (e .answer) (e .sides) (listing (e .lent))) room
+pass-traced edition most job l room = elim (ℕ-discrete (checkLent edition most job l .number) 0) [
   | yes z ↦
-      let s : Sound most job = accepted most job (fits job l) z .sound in
-      let p : Pass = pass job (job .sides) in
-      rw (answers most job l .passDone z)
-      (made-traced most job (figuresOf done p (p ∷ [])) (p .sidesAfter) room (listing (leaves job l p)) (told p) (s .fewFiles) (s .marksLong) (pass-sides most job s) (pass-told most job s l (answers most job l .fitting z)))
+      let s : Sound most job = lent-sound edition most job l z in
+      let p : Pass = firstPass edition job in
+      rw (answers edition most job l .passDone z)
+      (made-traced most job (figuresOf done p (p ∷ [])) (p .sidesAfter) room (listing (leaves edition job l p)) (told p) (s .fewFiles) (s .marksLong) (pass-sides edition most job s) (pass-told edition most job s l (answers edition most job l .fitting z .1)))
   | no n ↦
-      let none : Figures = noFigures (checkLent most job l) in
-      rw (answers most job l .passRefused n)
+      let none : Figures = noFigures (checkLent edition most job l) in
+      rw (answers edition most job l .passRefused n)
       (tracing-refusal most (job .sizes) (job .marks) none (job .sides) (listing l) room n ∙ ap (λ (b : List ℕ). intoRoom b room) (sym (trace-refused job none (job .sides) (listing l) n)))
 ]
   where

@@ -11,19 +11,21 @@ use Rattle.rules.specs.declared.RunFigures.{RunFigures}
 use Rattle.rules.specs.Lists.{allBelow}
 use Rattle.rules.specs.Job.{Job, Limits, TwoByte}
 use Rattle.rules.specs.Split.{cut, balanced}
-use Rattle.rules.specs.Check.{done, refuseIf, _orElse_, checkSound, checkRest, check, checkJob, checkLent}
-use Rattle.rules.specs.Pass.{Pass, passOf, tries, pass}
-use Rattle.rules.specs.Run.{settles, passBy, mostPasses, passes, run, lastOf, lastBy, figuresOf, runFiguresOf, Ended, leftBy}
+use Rattle.rules.specs.Check.{done, refuseIf, _orElse_, checkSound, checkRest, check, checkJob, isEdition, checkEdition, checkLent}
+use Rattle.rules.specs.Pass.{Pass, passOf}
+use Rattle.rules.specs.Fronts.{triesBy}
+use Rattle.rules.specs.Run.{settles, passBy, mostPasses, passes, lastOf, lastBy, firstPass, runBy, lastPass, figuresOf, runFiguresOf, Ended, leftBy}
 use Rattle.rules.specs.Stored.{jobOf, readVerdict}
 use Rattle.rules.specs.Report.{refusal, allRoom, allLent, allRun, prints}
 use Rattle.rules.specs.Writing.{headerFor, blocksOf, withSides, HandedOut, resettles}
 use Rattle.rules.specs.Theorems.{Sound, Accepted, LawfulTry}
-use Rattle.rules.specs.RoundTrip.{BlocksHold, resettledBy, Sideless, ResettledHoldsBy, lastPass, resettled, ResettledHolds, ResettleRefuses, HandsBack}
+use Rattle.rules.specs.RoundTrip.{BlocksHold, resettledBy, Sideless, ResettledHoldsBy, resettled, ResettledHolds, ResettleRefuses, HandsBack}
 use Rattle.rules.proofs.Verdicts.{zero-of, passes-both, both-pass, chain-go}
-use Rattle.rules.proofs.Refusals.{rest-chain}
+use Rattle.rules.proofs.Refusals.{rest-chain, lent-chain}
 use Rattle.rules.proofs.SoundJob.{sound}
-use Rattle.rules.proofs.Proved.{accepted, run-holds-by, tries-lawful, check-writes, answers}
-use Rattle.rules.proofs.OtherSides.{same-recipes, same-size, same-passOf, same-tries, check-again}
+use Rattle.rules.proofs.Proved.{accepted, run-holds-by, check-writes, answers}
+use Rattle.rules.proofs.FrontsProved.{editions-hold}
+use Rattle.rules.proofs.OtherSides.{same-recipes, same-size, same-passOf, check-again}
 use Rattle.rules.proofs.Reports.{last-sides}
 use Rattle.rules.proofs.Lending.{runText, room-enough, lent-enough, prints-run}
 use Rattle.rules.proofs.Reading.{read-holds}
@@ -85,48 +87,58 @@ module _ (try : Job → List ℕ → List ℕ) (job : Job) (same : Sideless try 
         still = resettled-still;
       }
 
-pub resettled-holds : (most : Limits) (job : Job) → checkJob most job .number ≡ 0 → ResettledHolds most job
-resettled-holds most job ok = resettled-holds-by tries job (same-tries job) most (tries-lawful most job (accepted most job true ok .sound)) ok
+pub resettled-holds : (edition : ℕ) (most : Limits) (job : Job) → checkJob most job .number ≡ 0 → ResettledHolds edition most job
+resettled-holds edition most job ok =
+    let e = editions-hold most job (accepted most job true ok .sound) in
+    resettled-holds-by (triesBy edition) job (e .sideless edition) most (e .lawful edition) ok
 
 -- ---- the run of the program
 
-module _ (most : Limits) (job : Job) (s : Sound most job) where
-  -- its lists are long enough, so that the check of the run is that of the job
-  run-check : checkLent most job (allLent most job) ≡ checkJob most job
-  run-check = ap (check most job) (lent-enough most job (s .fewFiles) (s .fewRecipes) (s .fewPins))
+-- what is asked of a job that is run by an edition
+abbrev checkRun : ℕ → Limits → Job → Verdict
+checkRun edition most job = checkEdition edition orElse checkJob most job
 
-  run-refused : checkJob most job .number ≢ 0 → allRun most job .answer .figures .verdict ≡ checkJob most job
+module _ (edition : ℕ) (most : Limits) (job : Job) (s : Sound most job) where
+  -- its lists are long enough, so that the check of the run is that of the edition and the job
+  run-check : checkLent edition most job (allLent most job) ≡ checkRun edition most job
+  run-check = lent-chain edition most job (allLent most job) ∙ ap (λ (b : Bool). checkEdition edition orElse check most job b) (lent-enough most edition job (s .fewFiles) (s .fewRecipes) (s .fewPins))
+
+  run-refused : checkRun edition most job .number ≢ 0 → allRun edition most job .answer .figures .verdict ≡ checkRun edition most job
   run-refused n =
-      ap (λ (e : Ended RunFigures). e .answer .figures .verdict) (answers most job (allLent most job) .runRefused (λ z. n (sym (ap (λ (v : Verdict). v .number) run-check) ∙ z))) ∙ run-check
+      ap (λ (e : Ended RunFigures). e .answer .figures .verdict) (answers edition most job (allLent most job) .runRefused (λ z. n (sym (ap (λ (v : Verdict). v .number) run-check) ∙ z))) ∙ run-check
 
-  run-done : checkJob most job .number ≡ 0 → allRun most job ≡ leftBy job (allLent most job) (runFiguresOf done (pass job (job .sides)) (run job)) (lastPass job)
-  run-done z = answers most job (allLent most job) .runDone (ap (λ (v : Verdict). v .number) run-check ∙ z)
+  run-done : checkRun edition most job .number ≡ 0 → allRun edition most job ≡ leftBy edition job (allLent most job) (runFiguresOf done (firstPass edition job) (runBy edition job)) (lastPass edition job)
+  run-done z = answers edition most job (allLent most job) .runDone (ap (λ (v : Verdict). v .number) run-check ∙ z)
 
 -- ---- the program
 
-module _ (most : Limits) (input : List ℕ) (read : readVerdict most input (allRoom most) .number ≡ 0) where
+module _ (edition : ℕ) (most : Limits) (input : List ℕ) (read : readVerdict most input (allRoom most) .number ≡ 0) where
   read-sound : Sound most (jobOf input)
   read-sound = read-holds most input (allRoom most) .sound read
 
   -- after reading's verdict the run's
   abbrev ran : Verdict
-  ran = allRun most (jobOf input) .answer .figures .verdict
+  ran = allRun edition most (jobOf input) .answer .figures .verdict
 
-  run-no : checkJob most (jobOf input) .number ≢ 0 → resettles most input ≡ record { output = []; errors = refusal (checkJob most (jobOf input)) }
+  run-no : checkRun edition most (jobOf input) .number ≢ 0 → resettles edition most input ≡ record { output = []; errors = refusal (checkRun edition most (jobOf input)) }
   unfolding resettles
   run-no n =
       let v : Verdict = readVerdict most input (allRoom most) orElse ran in
-      let e : checkJob most (jobOf input) ≡ v = chain-go refl read (sym (run-refused most (jobOf input) read-sound n)) in
+      let e : checkRun edition most (jobOf input) ≡ v = chain-go refl read (sym (run-refused edition most (jobOf input) read-sound n)) in
       rw (ne-eqb (v .number) 0 (λ z. n (ap (λ (w : Verdict). w .number) e ∙ z)), resettles) (ap (λ (w : Verdict). record { output = []; errors = refusal w }) (sym e))
 
-  module _ (ok : checkJob most (jobOf input) .number ≡ 0) where
-    abbrev new : Job
-    new = resettled (jobOf input)
+  module _ (known : isEdition edition ≡ true) (ok : checkJob most (jobOf input) .number ≡ 0) where
+    let-through : checkRun edition most (jobOf input) .number ≡ 0
+    unfolding checkEdition
+    let-through = rw known ok
 
-    handed : resettles most input ≡ record { output = blocksOf new; errors = [] }
+    abbrev new : Job
+    new = resettled edition (jobOf input)
+
+    handed : resettles edition most input ≡ record { output = blocksOf new; errors = [] }
     unfolding resettles
     handed =
-        let e = run-done most (jobOf input) read-sound ok in
+        let e = run-done edition most (jobOf input) read-sound let-through in
         let passed : ran .number ≡ 0 = ap (λ (x : Ended RunFigures). x .answer .figures .verdict .number) e ∙ (unfold runFiguresOf figuresOf in refl) in
         let both = both-pass (readVerdict most input (allRoom most)) ran read passed in
         rw (eq-eqb ((readVerdict most input (allRoom most) orElse ran) .number) 0 both, resettles)
@@ -134,7 +146,7 @@ module _ (most : Limits) (input : List ℕ) (read : readVerdict most input (allR
 
     -- the new job passes 1 to 10, and so its blocks are read and run
     new-passes : checkJob most new .number ≡ 0
-    new-passes = ap (λ (v : Verdict). v .number) (resettled-holds most (jobOf input) ok .accepted)
+    new-passes = ap (λ (v : Verdict). v .number) (resettled-holds edition most (jobOf input) ok .accepted)
 
     new-sound : checkSound most new true .number ≡ 0
     new-sound = passes-both (checkSound most new true) (checkRest most new) (zero-of (rest-chain most new true) new-passes) .0
@@ -145,16 +157,16 @@ module _ (most : Limits) (input : List ℕ) (read : readVerdict most input (allR
     new-read : readVerdict most (blocksOf new) (allRoom most) ≡ done
     new-read = new-blocks .verdict (allRoom most) ∙ ap (λ (b : Bool). refuseIf (not b) 3 0) (let s = sound most new true new-sound in room-enough most (headerFor new) (s .fewFiles) (s .fewRecipes) (s .fewPins))
 
-    new-prints : prints most (blocksOf new) ≡ runText new
+    new-prints : prints edition most (blocksOf new) ≡ runText edition new
     new-prints =
-        prints-run most (blocksOf new) new-read (ap (checkJob most) (new-blocks .same) ∙ resettled-holds most (jobOf input) ok .accepted)
-        ∙ ap runText (new-blocks .same)
+        prints-run most (blocksOf new) edition known new-read (ap (checkJob most) (new-blocks .same) ∙ resettled-holds edition most (jobOf input) ok .accepted)
+        ∙ ap (runText edition) (new-blocks .same)
 
     -- but for the sides its numbers are those read
     new-small : allBelow 256 input → TwoByte new
     new-small small =
         let t : TwoByte (jobOf input) = read-holds most input (allRoom most) .small small in
-        let w = last-sides most (jobOf input) read-sound in
+        let w = last-sides edition most (jobOf input) read-sound in
         record {
           sizes = t .sizes;
           sides = λ i h. omega (arith, w .binary i);
@@ -167,9 +179,9 @@ module _ (most : Limits) (input : List ℕ) (read : readVerdict most input (allR
           k = t .k;
         }
 
-    pub hands-back : HandsBack most input
+    pub hands-back : HandsBack edition most input
     hands-back =
-        let out : resettles most input .output ≡ blocksOf new = ap (λ (x : HandedOut). x .output) handed in
+        let out : resettles edition most input .output ≡ blocksOf new = ap (λ (x : HandedOut). x .output) handed in
         record {
           hands = handed;
           long = rw out (new-blocks .long ∙ sym (read-length most input (allRoom most) read));
@@ -179,5 +191,5 @@ module _ (most : Limits) (input : List ℕ) (read : readVerdict most input (allR
           night = rw out new-prints;
         }
 
-pub refuses : (most : Limits) (input : List ℕ) → ResettleRefuses most input
-refuses most input = record { byReading = resettles-no most input; byRun = run-no most input }
+pub refuses : (edition : ℕ) (most : Limits) (input : List ℕ) → ResettleRefuses edition most input
+refuses edition most input = record { byReading = resettles-no edition most input; byRun = run-no edition most input }

@@ -81,7 +81,7 @@ balanceCheck most job lent = firstGiven (balanceRows most job lent)
 -- ---- the call: it is lent the job, whose sides change, and a pass's scratch
 
 abbrev pub balanceVerdict : Limits → Job → List ℕ → Verdict
-balanceVerdict most job scratch = balanceCheck most job (leb (scratchFor job) (length scratch))
+balanceVerdict most job scratch = balanceCheck most job (leb (scratchFor 1 job) (length scratch))
 
 -- what it answers, and what the sides and the scratch then hold
 pub record Balancing : Type 0 where
@@ -113,7 +113,7 @@ unfoldable pub balancing : Limits → Job → List ℕ → Balancing
 balancing most job scratch =
     let v = balanceVerdict most job scratch in
     elim (isDone v) [
-      | true ↦ balancingOf (balanceFigures job v) (balanceSides job) (listed (scratchFor job) 0 [] scratch)
+      | true ↦ balancingOf (balanceFigures job v) (balanceSides job) (listed (scratchFor 1 job) 0 [] scratch)
       | false ↦ balancingOf (noBalanceFigures v) (job .sides) scratch
     ]
 

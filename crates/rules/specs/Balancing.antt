@@ -11,7 +11,7 @@ use Rattle.rules.specs.declared.Verdict.{Verdict}
 use Rattle.rules.specs.Lists.{listed}
 use Rattle.rules.specs.Job.{Job, Limits, fileCount, recipes, Lent, scratchFor, fits, limitsOf}
 use Rattle.rules.specs.Split.{sideOf, cut, gain, isFree, sizeA, balanced}
-use Rattle.rules.specs.Check.{done, _orElse_, checkStart, check, checkLent}
+use Rattle.rules.specs.Check.{done, _orElse_, checkStart, check, isEdition, checkLent}
 use Rattle.rules.specs.Move.{start, after, Frees}
 use Rattle.rules.specs.Stored.{jobOf, readVerdict}
 use Rattle.rules.specs.Report.{refusal, allRoom, allLent}
@@ -99,22 +99,22 @@ pub record BalanceRefuses (most : Limits) (job : Job) (lent : Bool) : Type 0 whe
 pub record BalanceAnswers (most : Limits) (job : Job) (scratch : List ℕ) : Type 0 where
   -- number 0 has place 0, and is given only if the scratch is long enough
   pub place : balanceVerdict most job scratch .number ≡ 0 → balanceVerdict most job scratch ≡ done
-  pub fitting : balanceVerdict most job scratch .number ≡ 0 → scratchFor job ≤ length scratch
+  pub fitting : balanceVerdict most job scratch .number ≡ 0 → scratchFor 1 job ≤ length scratch
   -- a refusal changes neither sides nor scratch, and all its other numbers are 0
   pub refused : balanceVerdict most job scratch .number ≢ 0
       → balancing most job scratch ≡ balancingOf (noBalanceFigures (balanceVerdict most job scratch)) (job .sides) scratch
   -- else the sides are left as moved, and the cut and |A| told are those of the sides left
   pub made : balanceVerdict most job scratch .number ≡ 0
-      → balancing most job scratch ≡ balancingOf (balanceFigures job done) (balanceSides job) (listed (scratchFor job) 0 [] scratch)
+      → balancing most job scratch ≡ balancingOf (balanceFigures job done) (balanceSides job) (listed (scratchFor 1 job) 0 [] scratch)
   pub cut : balanceVerdict most job scratch .number ≡ 0 → balancing most job scratch .answer .cut ≡ cut (balancing most job scratch .sides) (recipes job)
   pub size : balanceVerdict most job scratch .number ≡ 0 → balancing most job scratch .answer .size ≡ sizeA job (balancing most job scratch .sides)
   -- the scratch numbers named are 0, any beyond stay
-  pub zeros : balanceVerdict most job scratch .number ≡ 0 → Listed (scratchFor job) 0 [] scratch (balancing most job scratch .scratch)
-  -- what is left is balanced, and the check of the job with these sides answers done: a pass or run on it is never refused
+  pub zeros : balanceVerdict most job scratch .number ≡ 0 → Listed (scratchFor 1 job) 0 [] scratch (balancing most job scratch .scratch)
+  -- what is left is balanced, and the check of the job with these sides answers done: a pass or run on it by any edition is never refused
   pub even : balanceVerdict most job scratch .number ≡ 0 → balanced job (sizeA job (balancing most job scratch .sides)) ≡ true
   pub passes : balanceVerdict most job scratch .number ≡ 0 → check most (withSides job (balancing most job scratch .sides)) true ≡ done
-  pub runs : balanceVerdict most job scratch .number ≡ 0 → (l : Lent) → fits (withSides job (balancing most job scratch .sides)) l ≡ true
-      → checkLent most (withSides job (balancing most job scratch .sides)) l ≡ done
+  pub runs : balanceVerdict most job scratch .number ≡ 0 → (edition : ℕ) (l : Lent) → isEdition edition ≡ true → fits edition (withSides job (balancing most job scratch .sides)) l ≡ true
+      → checkLent edition most (withSides job (balancing most job scratch .sides)) l ≡ done
 
 -- ---- the program (Balancing `program-holds`, of any input)
 

@@ -229,9 +229,23 @@ check most job lent = firstGiven (allRows most job lent)
 abbrev pub checkJob : Limits → Job → Verdict
 checkJob most job = check most job true
 
--- of a call that is lent these lists
-abbrev pub checkLent : Limits → Job → Lent → Verdict
-checkLent most job l = check most job (fits job l)
+-- ---- 32: an edition of the choice that there is not (document 02, order 9)
+
+abbrev pub isEdition : ℕ → Bool
+isEdition edition = eqb edition 1 || eqb edition 2
+
+abbrev pub editionRows : ℕ → Rows
+editionRows edition = row 32 (not (isEdition edition)) 0
+
+-- of a pass or a run by this edition that is lent these lists: 32 stands before all others
+abbrev pub lentRows : ℕ → Limits → Job → Lent → Rows
+lentRows edition most job l = editionRows edition followedBy allRows most job (fits edition job l)
+
+unfoldable pub checkEdition : ℕ → Verdict
+checkEdition edition = firstGiven (editionRows edition)
+
+unfoldable pub checkLent : ℕ → Limits → Job → Lent → Verdict
+checkLent edition most job l = firstGiven (lentRows edition most job l)
 
 -- ---- the measure: 1 to 6, else the cut and |A| and what could not be read, nothing moved
 

@@ -57,14 +57,14 @@ pub record NoneEmptied (job : Job) : Type 0 where
   pub balancing : noneBalanced job ≡ false → BothHold job (balanceSides job)
 
 -- after a pass, a run or a balancing that is not refused each vault's readable size is over 0 (Emptied `calls-leave`, of any input)
-pub record CallsLeave (most : Limits) (job : Job) (l : Lent) : Type 0 where
+pub record CallsLeave (edition : ℕ) (most : Limits) (job : Job) (l : Lent) : Type 0 where
   -- the start that the check lets through, and what the calls leave
-  pub start : checkLent most job l .number ≡ 0 → BothHold job (job .sides)
-  pub pass : checkLent most job l .number ≡ 0 → BothHold job (passEnds most job l .sides)
-  pub run : checkLent most job l .number ≡ 0 → BothHold job (runEnds most job l .sides)
+  pub start : checkLent edition most job l .number ≡ 0 → BothHold job (job .sides)
+  pub pass : checkLent edition most job l .number ≡ 0 → BothHold job (passEnds edition most job l .sides)
+  pub run : checkLent edition most job l .number ≡ 0 → BothHold job (runEnds edition most job l .sides)
   pub balancing : (scratch : List ℕ) → balanceVerdict most job scratch .number ≡ 0 → BothHold job (balancing most job scratch .sides)
   -- and on the way: all that is said above
-  pub met : checkLent most job l .number ≡ 0 → NoneEmptied job
+  pub met : checkLent edition most job l .number ≡ 0 → NoneEmptied job
   pub metBalancing : (scratch : List ℕ) → balanceVerdict most job scratch .number ≡ 0 → NoneEmptied job
 
 -- ---- document 01's m5, and jobs at the edges of the test (Emptied `worked`)
@@ -104,8 +104,8 @@ pub record EmptiedWorked : Type 0 where
   pub m5·check : (most : Limits) → 2 ≤ most .files → 1 ≤ most .recipes → 2 ≤ most .pins → 2 ≤ most .den → checkJob most pair ≡ record { number = 10; place = 0 }
   pub m5·balance : (most : Limits) → 2 ≤ most .files → 1 ≤ most .recipes → 2 ≤ most .pins → 2 ≤ most .den → balanceCheck most pair true ≡ record { number = 10; place = 0 }
   pub m5·stored : jobOf pairBytes ≡ pair
-  pub m5·prints : (most : Limits) → 2 ≤ most .files → 1 ≤ most .recipes → 2 ≤ most .pins → 2 ≤ most .den → prints most pairBytes ≡ text "refused 10 0\n"
-  pub m5·traces : (most : Limits) → 2 ≤ most .files → 1 ≤ most .recipes → 2 ≤ most .pins → 2 ≤ most .den → traces most pairBytes ≡ text "refused 10 0\n"
+  pub m5·prints : (most : Limits) → 2 ≤ most .files → 1 ≤ most .recipes → 2 ≤ most .pins → 2 ≤ most .den → prints 1 most pairBytes ≡ text "refused 10 0\n"
+  pub m5·traces : (most : Limits) → 2 ≤ most .files → 1 ≤ most .recipes → 2 ≤ most .pins → 2 ≤ most .den → traces 1 most pairBytes ≡ text "refused 10 0\n"
   pub m5·measure : (measure (limitsOf 2 1 2 2) pair .cut ≡ 1) × (measure (limitsOf 2 1 2 2) pair .size ≡ 1)
   -- the first half hit exactly, W = 3·k, and missed by one, W = 3·k + 1
   pub hitA : given edgeA 1 4 7 10 ≡ (10, 10) ∷ (10, 10) ∷ (10, 10) ∷ (10, 10) ∷ []

@@ -99,11 +99,8 @@ chooseFront job b = ofTwo (better (gainIn job b) (distAfter job (b .state))) (of
 unfoldable pub frontTries : Job → List ℕ → List ℕ
 frontTries job sides = movesBy (chooseFront job) (movedOn job) (fileCount job) (startBuckets job sides)
 
--- ---- the editions
+-- ---- the moves by edition
 
-abbrev pub isEdition : ℕ → Bool
-isEdition edition = eqb edition 1 || eqb edition 2
-
--- the moves that a pass from these sides tries: document 01's, but for edition 2
+-- those that a pass from these sides tries: document 01's, but for edition 2
 abbrev pub triesBy : ℕ → Job → List ℕ → List ℕ
 triesBy edition job sides = cond (eqb edition 2) (frontTries job sides) (tries job sides)

@@ -132,7 +132,3 @@ pub record EditionsHold (job : Job) : Type 0 where
   pub run : (edition : ℕ) → RunHoldsBy job (triesBy edition job)
   -- and they do not go by the job's own sides
   pub sideless : (edition : ℕ) → Sideless (triesBy edition) job
-
--- so its sides may be taken up again (FrontsProved `resettled-editions`, of a job that passes 1 to 10)
-abbrev pub ResettledEditions : Limits → Job → Type 0
-ResettledEditions most job = (edition : ℕ) → ResettledHoldsBy (triesBy edition) most job

@@ -137,18 +137,18 @@ lentOf gains tried gained cuts ends recipes kinds scratch = record {
   scratch = scratch;
 }
 
--- P + 4C + 4N + 16
-abbrev pub scratchNumbers : ℕ → ℕ → ℕ → ℕ
-scratchNumbers p c n = p + 4 * c + 4 * n + 16
+-- P + 4C + 4N + 16; edition 2 has 8N in place of 4N (document 02, order 9)
+abbrev pub scratchNumbers : ℕ → ℕ → ℕ → ℕ → ℕ
+scratchNumbers edition p c n = p + 4 * c + cond (eqb edition 2) 8 4 * n + 16
 
-abbrev pub scratchFor : Job → ℕ
-scratchFor job = scratchNumbers (pinCount job) (fileCount job) (recipeCount job)
+abbrev pub scratchFor : ℕ → Job → ℕ
+scratchFor edition job = scratchNumbers edition (pinCount job) (fileCount job) (recipeCount job)
 
 -- gains exactly C; each move list at least C, each scan list at least 4N, scratch at least its numbers
-abbrev pub fits : Job → Lent → Bool
-fits job l =
+abbrev pub fits : ℕ → Job → Lent → Bool
+fits edition job l =
     eqb (length (l .gains)) (fileCount job)
     && leb (fileCount job) (length (l .tried)) && leb (fileCount job) (length (l .gained))
     && leb (fileCount job) (length (l .cuts)) && leb (fileCount job) (length (l .ends))
     && leb (4 * recipeCount job) (length (l .recipes)) && leb (4 * recipeCount job) (length (l .kinds))
-    && leb (scratchFor job) (length (l .scratch))
+    && leb (scratchFor edition job) (length (l .scratch))

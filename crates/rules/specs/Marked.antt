@@ -75,10 +75,10 @@ pub record Marked : Type 0 where
   pub m1·gains : lastOf (pass chain (chain .sides)) (run chain) .gains ≡ pos 1 ∷ pos 0 ∷ pos 0 ∷ negsuc 0 ∷ []
   pub m1·stored : jobOf chainBytes ≡ chain
   pub m1·prints : (most : Limits) → 4 ≤ most .files → 3 ≤ most .recipes → 6 ≤ most .pins → 2 ≤ most .den
-      → prints most chainBytes ≡ text "done\ncut 3 1\nsize 3 1\npasses 2\nsettled yes\nkept 1\nvisits 36\nsides AAAB\n"
+      → prints 1 most chainBytes ≡ text "done\ncut 3 1\nsize 3 1\npasses 2\nsettled yes\nkept 1\nvisits 36\nsides AAAB\n"
   -- and what the program that shows one pass prints
   pub m1·traces : (most : Limits) → 4 ≤ most .files → 3 ≤ most .recipes → 6 ≤ most .pins → 2 ≤ most .den
-      → traces most chainBytes
+      → traces 1 most chainBytes
       ≡ text "done\nmove 1 2 1\nscan 0 2\nscan 0 3\nscan 2 2\nscan 2 3\nmove 2 0 1\nscan 1 2\nscan 1 3\nscan 2 1\nmove 0 -1 2\nscan 0 1\nmove 3 -1 3\nscan 1 1\n"
       ++ text "gains -1 2 0 -1\ncut 3 1\nsize 3 1\ntried 4\nkept 1\nscans 9\nvisits 18\nsides AAAB\n"
   -- its starting gains
@@ -97,7 +97,7 @@ pub record Marked : Type 0 where
   pub m8 : blockCheck (set (replicate 510 0) 509 255) ≡ 20823
   -- a 512-byte file of zeros is refused 21, under any limits: by reading, whatever is lent, and so by the program
   pub m9·reads : (most : Limits) (room : Room) → readVerdict most (replicate 512 0) room ≡ record { number = 21; place = 0 }
-  pub m9·prints : (most : Limits) → prints most (replicate 512 0) ≡ text "refused 21 0\n"
+  pub m9·prints : (most : Limits) → prints 1 most (replicate 512 0) ≡ text "refused 21 0\n"
   -- order 2's worked case: it starts at 10 and is refused 9, under any limits wide enough; A may be 6 or 7
   pub order2·refused : (most : Limits) → 4 ≤ most .files → 2 ≤ most .recipes → 4 ≤ most .pins → 2 ≤ most .den → checkJob most archive ≡ record { number = 9; place = 0 }
   pub order2·window : map (balanced archive) (5 ∷ 6 ∷ 7 ∷ 8 ∷ 10 ∷ []) ≡ false ∷ true ∷ true ∷ false ∷ false ∷ []

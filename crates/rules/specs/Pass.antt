@@ -101,8 +101,8 @@ pass job sides = passOf job sides (tries job sides)
 
 -- the lent lists after a pass: the first C move entries and first 4N scan entries hold the lists, then zeros; further entries stay.
 -- The scratch numbers named are 0, any beyond stay
-unfoldable pub leaves : Job → Lent → Pass → Lent
-leaves job l p =
+unfoldable pub leaves : ℕ → Job → Lent → Pass → Lent
+leaves edition job l p =
     let c = fileCount job in
     let n = 4 * recipeCount job in
     record {
@@ -113,5 +113,5 @@ leaves job l p =
       ends = listed c 0 (p .ends) (l .ends);
       recipes = listed n 0 (map (λ s. s .recipe) (p .scanned)) (l .recipes);
       kinds = listed n 0 (map (λ s. s .kind) (p .scanned)) (l .kinds);
-      scratch = listed (scratchFor job) 0 [] (l .scratch);
+      scratch = listed (scratchFor edition job) 0 [] (l .scratch);
     }

@@ -137,7 +137,7 @@ allRoom most = record {
   pins = replicate (most .pins) 0;
 }
 
--- the gain list is a part of its own
+-- the gain list is a part of its own; the scratch is long enough for every edition
 abbrev pub ownLent : Limits → List ℤ → Lent
 ownLent most gains = record {
   gains = gains;
@@ -147,20 +147,20 @@ ownLent most gains = record {
   ends = replicate (most .files) 0;
   recipes = replicate (4 * most .recipes) 0;
   kinds = replicate (4 * most .recipes) 0;
-  scratch = replicate (scratchNumbers (most .pins) (most .files) (most .recipes)) 0;
+  scratch = replicate (scratchNumbers 2 (most .pins) (most .files) (most .recipes)) 0;
 }
 
 abbrev pub allLent : Limits → Job → Lent
 allLent most job = ownLent most (replicate (fileCount job) (pos 0))
 
--- the run of a job, lent these lists
-abbrev pub allRun : Limits → Job → Ended RunFigures
-allRun most job = runEnds most job (allLent most job)
+-- the run of a job by an edition, lent these lists
+abbrev pub allRun : ℕ → Limits → Job → Ended RunFigures
+allRun edition most job = runEnds edition most job (allLent most job)
 
--- reading gives its refusal or a job, and the run of the job gives its answer, 7 to 10 among them
-unfoldable pub prints : Limits → List ℕ → List ℕ
-prints most input =
+-- reading gives its refusal or a job, and the run of the job gives its answer, 7 to 10 among them; the night program stays with edition 1
+unfoldable pub prints : ℕ → Limits → List ℕ → List ℕ
+prints edition most input =
     let v = readVerdict most input (allRoom most) in
     let job = jobOf input in
-    let e = allRun most job in
+    let e = allRun edition most job in
     elim (isDone v) [ true ↦ report job (e .answer) (e .sides) | false ↦ refusal v ]

@@ -8,11 +8,11 @@ use mathlib.Core.List.{List, [], _∷_}
 use lib.ListN.{length}
 use Rattle.rules.specs.Lists.{allBelow}
 use Rattle.rules.specs.Job.{Job, asJob, Limits, TwoByte, fileCount}
-use Rattle.rules.specs.Check.{done, refuseIf, checkJob}
+use Rattle.rules.specs.Check.{done, refuseIf, _orElse_, checkJob, checkEdition}
 use Rattle.rules.specs.Stored.{headerOf, blockCount, jobOf, Room, roomy, readVerdict, written, reading}
 use Rattle.rules.specs.Split.{sizeA}
-use Rattle.rules.specs.Pass.{Pass, tries, pass}
-use Rattle.rules.specs.Run.{settles, passBy, passes, run, lastBy, runFiguresOf}
+use Rattle.rules.specs.Fronts.{triesBy}
+use Rattle.rules.specs.Run.{settles, passBy, passes, lastBy, firstPass, runBy, lastPass, runFiguresOf}
 use Rattle.rules.specs.Report.{refusal, report, allRoom, prints}
 use Rattle.rules.specs.Writing.{headerFor, blocksOf, writingOf, checkWritten, writeVerdict, writing, withSides, resettles}
 
@@ -83,34 +83,31 @@ pub record ResettledHoldsBy (try : Job → List ℕ → List ℕ) (most : Limits
       → (let new = resettledBy try job in passes new (try new) ≡ lastBy job (try job) ∷ []) × (lastBy job (try job) .kept ≡ 0)
   pub still : settles (lastBy job (try job)) ≡ true → resettledBy try (resettledBy try job) ≡ resettledBy try job
 
--- edition 1: the last pass of a job's run, and the job with the sides that it leaves
-abbrev pub lastPass : Job → Pass
-lastPass job = lastBy job (tries job)
-
-abbrev pub resettled : Job → Job
-resettled job = resettledBy tries job
+-- by an edition of the choice
+abbrev pub resettled : ℕ → Job → Job
+resettled edition job = resettledBy (triesBy edition) job
 
 -- (Resettling `resettled-holds`, of a job that passes 1 to 10)
-abbrev pub ResettledHolds : Limits → Job → Type 0
-ResettledHolds most job = ResettledHoldsBy tries most job
+abbrev pub ResettledHolds : ℕ → Limits → Job → Type 0
+ResettledHolds edition most job = ResettledHoldsBy (triesBy edition) most job
 
 -- ---- the program `resettle`
 
 -- refused by reading, or then by the run: nothing on standard output, the refusal's line on standard error (Resettling `refuses`, of any input)
-pub record ResettleRefuses (most : Limits) (input : List ℕ) : Type 0 where
-  pub byReading : readVerdict most input (allRoom most) .number ≢ 0 → resettles most input ≡ record { output = []; errors = refusal (readVerdict most input (allRoom most)) }
-  pub byRun : readVerdict most input (allRoom most) .number ≡ 0 → checkJob most (jobOf input) .number ≢ 0
-      → resettles most input ≡ record { output = []; errors = refusal (checkJob most (jobOf input)) }
+pub record ResettleRefuses (edition : ℕ) (most : Limits) (input : List ℕ) : Type 0 where
+  pub byReading : readVerdict most input (allRoom most) .number ≢ 0 → resettles edition most input ≡ record { output = []; errors = refusal (readVerdict most input (allRoom most)) }
+  pub byRun : readVerdict most input (allRoom most) .number ≡ 0 → (checkEdition edition orElse checkJob most (jobOf input)) .number ≢ 0
+      → resettles edition most input ≡ record { output = []; errors = refusal (checkEdition edition orElse checkJob most (jobOf input)) }
 
--- (Resettling `hands-back`, of an input that is read and whose job passes 1 to 10)
-pub record HandsBack (most : Limits) (input : List ℕ) : Type 0 where
+-- (Resettling `hands-back`, of an edition that there is and an input that is read and whose job passes 1 to 10)
+pub record HandsBack (edition : ℕ) (most : Limits) (input : List ℕ) : Type 0 where
   -- the blocks of the job with the sides after the run, and no line
-  pub hands : resettles most input ≡ record { output = blocksOf (resettled (jobOf input)); errors = [] }
+  pub hands : resettles edition most input ≡ record { output = blocksOf (resettled edition (jobOf input)); errors = [] }
   -- as many bytes as were read; each is one, where those were
-  pub long : length (resettles most input .output) ≡ length input
-  pub bytes : allBelow 256 input → allBelow 256 (resettles most input .output)
-  -- read back they are that job, and `night` runs it
-  pub read : readVerdict most (resettles most input .output) (allRoom most) ≡ done
-  pub same : jobOf (resettles most input .output) ≡ resettled (jobOf input)
-  pub night : prints most (resettles most input .output)
-      ≡ (let new = resettled (jobOf input) in report new (runFiguresOf done (pass new (new .sides)) (run new)) (lastPass new .sidesAfter))
+  pub long : length (resettles edition most input .output) ≡ length input
+  pub bytes : allBelow 256 input → allBelow 256 (resettles edition most input .output)
+  -- read back they are that job, and a night by this edition runs it
+  pub read : readVerdict most (resettles edition most input .output) (allRoom most) ≡ done
+  pub same : jobOf (resettles edition most input .output) ≡ resettled edition (jobOf input)
+  pub night : prints edition most (resettles edition most input .output)
+      ≡ (let new = resettled edition (jobOf input) in report new (runFiguresOf done (firstPass edition new) (runBy edition new)) (lastPass edition new .sidesAfter))

@@ -11,7 +11,8 @@ use Rattle.rules.specs.Lists.{total}
 use Rattle.rules.specs.Job.{Job, Limits, recipes, Lent}
 use Rattle.rules.specs.Split.{cut}
 use Rattle.rules.specs.Check.{isDone, checkLent}
-use Rattle.rules.specs.Pass.{Pass, passOf, tries, pass, leaves}
+use Rattle.rules.specs.Pass.{Pass, passOf, tries, leaves}
+use Rattle.rules.specs.Fronts.{triesBy}
 
 -- ---- the passes
 
@@ -49,6 +50,16 @@ lastOf first (p ∷ ps) = lastOf p ps
 -- the last pass of a run
 abbrev pub lastBy : Job → (List ℕ → List ℕ) → Pass
 lastBy job try = lastOf (passBy job try (job .sides)) (passes job try)
+
+-- by an edition of the choice (document 02, order 9): the first pass, the passes of the run, and the last of them
+abbrev pub firstPass : ℕ → Job → Pass
+firstPass edition job = passBy job (triesBy edition job) (job .sides)
+
+abbrev pub runBy : ℕ → Job → List Pass
+runBy edition job = passes job (triesBy edition job)
+
+abbrev pub lastPass : ℕ → Job → Pass
+lastPass edition job = lastBy job (triesBy edition job)
 
 -- ---- the answers
 
@@ -103,25 +114,24 @@ abbrev pub endedOf : {A : Type 0} → A → List ℕ → Lent → Ended A
 endedOf a sides l = record { answer = a; sides = sides; lent = l }
 
 -- the lists are the last pass's
-abbrev pub leftBy : {A : Type 0} → Job → Lent → A → Pass → Ended A
-leftBy job l a p = record { answer = a; sides = p .sidesAfter; lent = leaves job l p }
+abbrev pub leftBy : {A : Type 0} → ℕ → Job → Lent → A → Pass → Ended A
+leftBy edition job l a p = record { answer = a; sides = p .sidesAfter; lent = leaves edition job l p }
 
 -- no lent list changes
 abbrev pub unchanged : {A : Type 0} → Job → Lent → A → Ended A
 unchanged job l a = record { answer = a; sides = job .sides; lent = l }
 
--- a pass is a run of one
-unfoldable pub passEnds : Limits → Job → Lent → Ended Figures
-passEnds most job l =
-    let v = checkLent most job l in
-    let p = pass job (job .sides) in
-    elim (isDone v) [ true ↦ leftBy job l (figuresOf v p (p ∷ [])) p | false ↦ unchanged job l (noFigures v) ]
+-- by an edition of the choice; a pass is a run of one
+unfoldable pub passEnds : ℕ → Limits → Job → Lent → Ended Figures
+passEnds edition most job l =
+    let v = checkLent edition most job l in
+    let p = firstPass edition job in
+    elim (isDone v) [ true ↦ leftBy edition job l (figuresOf v p (p ∷ [])) p | false ↦ unchanged job l (noFigures v) ]
 
-unfoldable pub runEnds : Limits → Job → Lent → Ended RunFigures
-runEnds most job l =
-    let v = checkLent most job l in
-    let first = pass job (job .sides) in
+unfoldable pub runEnds : ℕ → Limits → Job → Lent → Ended RunFigures
+runEnds edition most job l =
+    let v = checkLent edition most job l in
     elim (isDone v) [
-      | true ↦ leftBy job l (runFiguresOf v first (run job)) (lastOf first (run job))
+      | true ↦ leftBy edition job l (runFiguresOf v (firstPass edition job) (runBy edition job)) (lastPass edition job)
       | false ↦ unchanged job l (noRunFigures v)
     ]

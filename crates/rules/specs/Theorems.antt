@@ -13,10 +13,10 @@ use Rattle.rules.specs.declared.Header.{Header}
 use Rattle.rules.specs.Lists.{total, count, diff, sum, onto, allBelow}
 use Rattle.rules.specs.Job.{Job, Limits, TwoByte, fileCount, recipeCount, pinCount, bound, pin, views, recipes, Lent, scratchFor, fits}
 use Rattle.rules.specs.Split.{sideOf, cut, times, holds, recipesWith, gain, sizeOf, unreadFiles, unreadRecipes, sizeOn, weight, sizeA, balanced}
-use Rattle.rules.specs.Check.{done, refuseAt, Row, Rows, none, one, _followedBy_, overMost, mayEmpty, soundRows, allRows, checkSound, checkRest, check, checkLent, measure}
+use Rattle.rules.specs.Check.{done, refuseAt, Row, Rows, none, one, _followedBy_, overMost, mayEmpty, soundRows, allRows, checkSound, checkRest, check, isEdition, lentRows, checkLent, measure}
 use Rattle.rules.specs.Move.{State, start, lockOf, free, stepsBy, after, legal, distAfter, Scan, scanPins, scanAll, Change, changesIn, changesBy, changesOf, changed, replay}
-use Rattle.rules.specs.Pass.{cutAt, startGains, Pass, passOf, tries, pass, leaves}
-use Rattle.rules.specs.Run.{settles, passBy, passes, run, lastOf, lastBy, noFigures, noRunFigures, leftBy, unchanged, figuresOf, runFiguresOf, passEnds, runEnds}
+use Rattle.rules.specs.Pass.{cutAt, startGains, Pass, passOf, tries, leaves}
+use Rattle.rules.specs.Run.{settles, passBy, passes, lastBy, firstPass, runBy, lastPass, noFigures, noRunFigures, leftBy, unchanged, figuresOf, runFiguresOf, passEnds, runEnds}
 use Rattle.rules.specs.Report.{allRoom, allLent, prints}
 use Rattle.rules.specs.Trace.{traces}
 use Rattle.rules.specs.Writing.{resettles}
@@ -145,15 +145,15 @@ pub record Listed {ℓ} {A : Type ℓ} (n : ℕ) (z : A) (xs old new : List A) :
   pub further : (d : A) (i : ℕ) → n ≤ i → getD new i d ≡ getD old i d
 
 -- (Proved `left`, of a sound job, moves that hold with their scans, and lists that fit)
-pub record Left (job : Job) (l : Lent) (p : Pass) : Type 0 where
-  pub gains : leaves job l p .gains ≡ p .gains
-  pub tried : Listed (fileCount job) 0 (p .tried) (l .tried) (leaves job l p .tried)
-  pub gained : Listed (fileCount job) (pos 0) (p .gained) (l .gained) (leaves job l p .gained)
-  pub cuts : Listed (fileCount job) 0 (p .cuts) (l .cuts) (leaves job l p .cuts)
-  pub ends : Listed (fileCount job) 0 (p .ends) (l .ends) (leaves job l p .ends)
-  pub recipes : Listed (4 * recipeCount job) 0 (map (λ s. s .recipe) (p .scanned)) (l .recipes) (leaves job l p .recipes)
-  pub kinds : Listed (4 * recipeCount job) 0 (map (λ s. s .kind) (p .scanned)) (l .kinds) (leaves job l p .kinds)
-  pub scratch : Listed (scratchFor job) 0 [] (l .scratch) (leaves job l p .scratch)
+pub record Left (edition : ℕ) (job : Job) (l : Lent) (p : Pass) : Type 0 where
+  pub gains : leaves edition job l p .gains ≡ p .gains
+  pub tried : Listed (fileCount job) 0 (p .tried) (l .tried) (leaves edition job l p .tried)
+  pub gained : Listed (fileCount job) (pos 0) (p .gained) (l .gained) (leaves edition job l p .gained)
+  pub cuts : Listed (fileCount job) 0 (p .cuts) (l .cuts) (leaves edition job l p .cuts)
+  pub ends : Listed (fileCount job) 0 (p .ends) (l .ends) (leaves edition job l p .ends)
+  pub recipes : Listed (4 * recipeCount job) 0 (map (λ s. s .recipe) (p .scanned)) (l .recipes) (leaves edition job l p .recipes)
+  pub kinds : Listed (4 * recipeCount job) 0 (map (λ s. s .kind) (p .scanned)) (l .kinds) (leaves edition job l p .kinds)
+  pub scratch : Listed (scratchFor edition job) 0 [] (l .scratch) (leaves edition job l p .scratch)
 
 -- ---- the replay of the lists that the caller is left with, zeros and all (Proved `replayed`, of a sound job and moves whose scans hold)
 
@@ -169,19 +169,19 @@ replayedBy job sides l k =
     replay (recipes job) (start job sides) (take k (l .tried)) 0 (l .ends) (scansTold (l .recipes) (l .kinds))
     (startGains (recipes job) (fileCount job) (start job sides))
 
-pub record Replayed (job : Job) (l : Lent) (sides ms : List ℕ) : Type 0 where
+pub record Replayed (edition : ℕ) (job : Job) (l : Lent) (sides ms : List ℕ) : Type 0 where
   -- it is the replay of the pass, so all that holds of that one holds of it
-  pub same : (k : ℕ) → k ≤ length ms → replayedBy job sides (leaves job l (passOf job sides ms)) k ≡ replayedTo job sides ms k
+  pub same : (k : ℕ) → k ≤ length ms → replayedBy job sides (leaves edition job l (passOf job sides ms)) k ≡ replayedTo job sides ms k
   -- after every move tried it gives each free file's gain worked out afresh
   pub fresh : (k f : ℕ) → k ≤ length ms → f < fileCount job → lockOf (stateAt job sides ms k) f ≡ 0
-      → getD (replayedBy job sides (leaves job l (passOf job sides ms)) k) f (pos 0) ≡ gain (stateAt job sides ms k .sides) (recipes job) f
+      → getD (replayedBy job sides (leaves edition job l (passOf job sides ms)) k) f (pos 0) ≡ gain (stateAt job sides ms k .sides) (recipes job) f
   -- and after the last the gain list left
-  pub gains : replayedBy job sides (leaves job l (passOf job sides ms)) (length ms) ≡ leaves job l (passOf job sides ms) .gains
+  pub gains : replayedBy job sides (leaves edition job l (passOf job sides ms)) (length ms) ≡ leaves edition job l (passOf job sides ms) .gains
   -- the last of the ends is the number of scans, 0 where there is none
-  pub last : getD (0 ∷ leaves job l (passOf job sides ms) .ends) (length ms) 0 ≡ length (passOf job sides ms .scanned)
+  pub last : getD (0 ∷ leaves edition job l (passOf job sides ms) .ends) (length ms) 0 ≡ length (passOf job sides ms .scanned)
   -- of as many recipes listed, visits are the sum of their lengths, and none stands there more than four times
-  pub visits : passOf job sides ms .visited ≡ total (λ j. length (getD (views job) j [])) (take (length (passOf job sides ms .scanned)) (leaves job l (passOf job sides ms) .recipes))
-  pub four : (j : ℕ) → times j (take (length (passOf job sides ms .scanned)) (leaves job l (passOf job sides ms) .recipes)) ≤ 4
+  pub visits : passOf job sides ms .visited ≡ total (λ j. length (getD (views job) j [])) (take (length (passOf job sides ms .scanned)) (leaves edition job l (passOf job sides ms) .recipes))
+  pub four : (j : ℕ) → times j (take (length (passOf job sides ms .scanned)) (leaves edition job l (passOf job sides ms) .recipes)) ≤ 4
 
 -- ---- one pass, whoever chose its moves (Proved `pass-holds-by`, of a sound job, sides that a pass may start from and lawful moves)
 
@@ -319,18 +319,20 @@ pub record AtLowest (k : ℕ) (test : ℕ → Bool) (n : ℕ) : Type 0 where
 
 -- ---- the answers (Proved `answers`, of any input)
 
-pub record Answers (most : Limits) (job : Job) (l : Lent) : Type 0 where
-  -- number 0 has place 0, and is given only if the lent lists fit
-  pub place : checkLent most job l .number ≡ 0 → checkLent most job l ≡ done
-  pub fitting : checkLent most job l .number ≡ 0 → fits job l ≡ true
+pub record Answers (edition : ℕ) (most : Limits) (job : Job) (l : Lent) : Type 0 where
+  -- each number is given exactly when the table says, with its place: 32 before all others
+  pub table : FirstGiven (inOrder (lentRows edition most job l)) (checkLent edition most job l)
+  -- number 0 has place 0, and is given only of an edition that there is and if the lent lists fit
+  pub place : checkLent edition most job l .number ≡ 0 → checkLent edition most job l ≡ done
+  pub fitting : checkLent edition most job l .number ≡ 0 → (isEdition edition ≡ true) × (fits edition job l ≡ true)
   -- a refusal changes no lent list, and all its other numbers are 0
-  pub passRefused : checkLent most job l .number ≢ 0 → passEnds most job l ≡ unchanged job l (noFigures (checkLent most job l))
-  pub runRefused : checkLent most job l .number ≢ 0 → runEnds most job l ≡ unchanged job l (noRunFigures (checkLent most job l))
+  pub passRefused : checkLent edition most job l .number ≢ 0 → passEnds edition most job l ≡ unchanged job l (noFigures (checkLent edition most job l))
+  pub runRefused : checkLent edition most job l .number ≢ 0 → runEnds edition most job l ≡ unchanged job l (noRunFigures (checkLent edition most job l))
   -- else the figures and lists are those of the pass, and of the run's passes
-  pub passDone : checkLent most job l .number ≡ 0
-      → passEnds most job l ≡ leftBy job l (figuresOf done (pass job (job .sides)) (pass job (job .sides) ∷ [])) (pass job (job .sides))
-  pub runDone : checkLent most job l .number ≡ 0
-      → runEnds most job l ≡ leftBy job l (runFiguresOf done (pass job (job .sides)) (run job)) (lastOf (pass job (job .sides)) (run job))
+  pub passDone : checkLent edition most job l .number ≡ 0
+      → passEnds edition most job l ≡ leftBy edition job l (figuresOf done (firstPass edition job) (firstPass edition job ∷ [])) (firstPass edition job)
+  pub runDone : checkLent edition most job l .number ≡ 0
+      → runEnds edition most job l ≡ leftBy edition job l (runFiguresOf done (firstPass edition job) (runBy edition job)) (lastPass edition job)
   -- the measure
   pub measureRefused : checkSound most job true .number ≢ 0 → measure most job ≡ record { verdict = checkSound most job true; cut = 0; size = 0; unread = 0; holding = 0 }
   pub measureDone : checkSound most job true .number ≡ 0
@@ -376,15 +378,15 @@ mostBytes most = 512 * (1 + blocksFor 126 (most .files) + blocksFor 253 (most .r
 
 -- a program that takes up more bytes than those of the largest job need read no further: what it prints is the same
 pub record Longer (most : Limits) (k : ℕ) (input : List ℕ) : Type 0 where
-  pub same : mostBytes most < k → prints most (take k input) ≡ prints most input
-  pub traced : mostBytes most < k → traces most (take k input) ≡ traces most input
-  pub handed : mostBytes most < k → resettles most (take k input) ≡ resettles most input
+  pub same : (edition : ℕ) → mostBytes most < k → prints edition most (take k input) ≡ prints edition most input
+  pub traced : (edition : ℕ) → mostBytes most < k → traces edition most (take k input) ≡ traces edition most input
+  pub handed : (edition : ℕ) → mostBytes most < k → resettles edition most (take k input) ≡ resettles edition most input
 
 -- a program has room for every job that passes 1 and 2, so 3 is never given
 pub record LendsEnough (most : Limits) (input : List ℕ) : Type 0 where
-  -- for reading what a header tells of, and for the run or the pass of a job
+  -- for reading what a header tells of, and for the run or the pass of a job by any edition
   pub room : (h : Header) → overMost most (h .files) (h .recipes) (h .pins) ≡ false → roomy h (allRoom most) ≡ true
-  pub lent : (job : Job) → overMost most (fileCount job) (recipeCount job) (pinCount job) ≡ false → fits job (allLent most job) ≡ true
+  pub lent : (edition : ℕ) (job : Job) → overMost most (fileCount job) (recipeCount job) (pinCount job) ≡ false → fits edition job (allLent most job) ≡ true
   -- neither by reading nor by the check of the job that was read
   pub read : readVerdict most input (allRoom most) .number ≢ 3
-  pub made : readVerdict most input (allRoom most) .number ≡ 0 → checkLent most (jobOf input) (allLent most (jobOf input)) .number ≢ 3
+  pub made : (edition : ℕ) → readVerdict most input (allRoom most) .number ≡ 0 → checkLent edition most (jobOf input) (allLent most (jobOf input)) .number ≢ 3

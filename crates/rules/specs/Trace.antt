@@ -107,9 +107,9 @@ tracing most sizes marks f sides l room = telling most sizes marks sides (f .ver
 
 -- ---- the program: it reads a stored job from standard input and makes one pass
 
-unfoldable pub traces : Limits → List ℕ → List ℕ
-traces most input =
+unfoldable pub traces : ℕ → Limits → List ℕ → List ℕ
+traces edition most input =
     let v = readVerdict most input (allRoom most) in
     let job = jobOf input in
-    let e = passEnds most job (allLent most job) in
+    let e = passEnds edition most job (allLent most job) in
     elim (isDone v) [ true ↦ trace job (e .answer) (e .sides) (listing (e .lent)) | false ↦ refusal v ]

@@ -130,9 +130,9 @@ abbrev pub handsOut : Verdict → Job → List ℕ → HandedOut
 handsOut v job told = cond (isDone v) (record { output = blocksOf job; errors = told }) (record { output = []; errors = refusal v })
 
 -- the program `resettle`: it reads a stored job from standard input, runs it, and writes it with the sides after the run
-unfoldable pub resettles : Limits → List ℕ → HandedOut
-resettles most input =
-    let e = allRun most (jobOf input) in
+unfoldable pub resettles : ℕ → Limits → List ℕ → HandedOut
+resettles edition most input =
+    let e = allRun edition most (jobOf input) in
     let v = readVerdict most input (allRoom most) orElse (e .answer .figures .verdict) in
     handsOut v (withSides (jobOf input) (e .sides)) []
 

@@ -9,17 +9,29 @@ use lib.IntN.{pos}
 use lib.ListN.{length, length-map}
 use Rattle.rules.specs.Job.{Job, Limits, fileCount, recipeCount, recipes, Lent, lentOf, scratchFor, fits}
 use Rattle.rules.specs.Move.{start, scans, endsFrom}
-use Rattle.rules.specs.Pass.{gainsWhen, cutsAfter, passOf, tries, pass, leaves}
-use Rattle.rules.specs.Theorems.{Sound, Sides, MovesHold, ScansHold, Left, PassHolds}
+use Rattle.rules.specs.Pass.{gainsWhen, cutsAfter, passOf, leaves}
+use Rattle.rules.specs.Fronts.{triesBy}
+use Rattle.rules.specs.Run.{passBy}
+use Rattle.rules.specs.Theorems.{Sound, Sides, MovesHold, ScansHold, Left, Lawful, PassHoldsBy}
 use Rattle.rules.proofs.Entries.{listed-again}
-use Rattle.rules.proofs.Proved.{left, pass-holds}
+use Rattle.rules.proofs.FrontsProved.{editions-hold}
+use Rattle.rules.proofs.Proved.{left, lawful-frees, pass-holds-by, scans-hold}
 use Rattle.rules.proofs.Steps.{gains-length, cuts-length, ends-length}
 use Rattle.rules.proofs.Fits.{long-enough}
 
+-- ---- one pass by an edition, from sides that it may start from: what holds of it and of its scans
+
+pub edition-holds : (edition : ℕ) (most : Limits) (job : Job) → Sound most job → (before : List ℕ) → Sides job before
+    → PassHoldsBy job before (triesBy edition job before) × ScansHold job before (triesBy edition job before)
+edition-holds edition most job s before w =
+    let lawful : Lawful job before (triesBy edition job before) = editions-hold most job s .lawful edition before w in
+    let ms : List ℕ = triesBy edition job before in
+    (pass-holds-by most job s before ms w lawful, scans-hold most job s before ms w (lawful-frees most job s before ms w lawful))
+
 -- ---- the lists after two passes are the second's
 
-module _ (job : Job) (l : Lent) (x y ms ns : List ℕ) (a : MovesHold job x ms) (c : ScansHold job x ms) (b : MovesHold job y ns) (d : ScansHold job y ns) where
-  pub leaves-again : leaves job (leaves job l (passOf job x ms)) (passOf job y ns) ≡ leaves job l (passOf job y ns)
+module _ (edition : ℕ) (job : Job) (l : Lent) (x y ms ns : List ℕ) (a : MovesHold job x ms) (c : ScansHold job x ms) (b : MovesHold job y ns) (d : ScansHold job y ns) where
+  pub leaves-again : leaves edition job (leaves edition job l (passOf job x ms)) (passOf job y ns) ≡ leaves edition job l (passOf job y ns)
   unfolding leaves passOf
   leaves-again =
       let rs : List (List ℕ) = recipes job in
@@ -33,7 +45,7 @@ module _ (job : Job) (l : Lent) (x y ms ns : List ℕ) (a : MovesHold job x ms) 
       let ends = listed-again m 0 (endsFrom rs 0 (start job x) ms) (endsFrom rs 0 (start job y) ns) (l .ends) (rw ends-length few) (rw ends-length few') in
       let recipes = listed-again n 0 (map (λ s. s .recipe) (scans rs (start job x) ms)) (map (λ s. s .recipe) (scans rs (start job y) ns)) (l .recipes) (rw length-map (c .scans)) (rw length-map (d .scans)) in
       let kinds = listed-again n 0 (map (λ s. s .kind) (scans rs (start job x) ms)) (map (λ s. s .kind) (scans rs (start job y) ns)) (l .kinds) (rw length-map (c .scans)) (rw length-map (d .scans)) in
-      let scratch = listed-again (scratchFor job) 0 [] [] (l .scratch) (omega arith) (omega arith) in
+      let scratch = listed-again (scratchFor edition job) 0 [] [] (l .scratch) (omega arith) (omega arith) in
       λ i. lentOf (passOf job y ns .gains) (tried i) (gained i) (cuts i) (ends i) (recipes i) (kinds i) (scratch i)
 
 -- ---- the lists keep their lengths
@@ -49,15 +61,15 @@ pub record Alike (job : Job) (l : Lent) (standing : List ℕ) (lent : Lent) : Ty
   pub kinds : length (lent .kinds) ≡ length (l .kinds)
   pub scratch : length (lent .scratch) ≡ length (l .scratch)
 
-pub leaves-alike : (most : Limits) (job : Job) → Sound most job → (l : Lent) → fits job l ≡ true → (before : List ℕ) → Sides job before
-    → Alike job l (pass job before .sidesAfter) (leaves job l (pass job before))
-leaves-alike most job s l ok before w =
-    let p : PassHolds job before = pass-holds most job s before w in
-    let m : MovesHold job before (tries job before) = p .any .moves in
-    let v : Left job l (pass job before) = left most job s before (tries job before) l ok m (p .scans) in
+pub leaves-alike : (edition : ℕ) (most : Limits) (job : Job) → Sound most job → (l : Lent) → fits edition job l ≡ true → (before : List ℕ) → Sides job before
+    → let p = passBy job (triesBy edition job) before in Alike job l (p .sidesAfter) (leaves edition job l p)
+leaves-alike edition most job s l ok before w =
+    let h = edition-holds edition most job s before w in
+    let m : MovesHold job before (triesBy edition job before) = h .0 .moves in
+    let v : Left edition job l (passBy job (triesBy edition job) before) = left most job s edition before (triesBy edition job before) l ok m (h .1) in
     record {
       sides = m .next .long ∙ sym (s .sidesLong);
-      gains = ap length (v .gains) ∙ m .all ∙ sym (long-enough job l ok .gains);
+      gains = ap length (v .gains) ∙ m .all ∙ sym (long-enough edition job l ok .gains);
       tried = v .tried .long;
       gained = v .gained .long;
       cuts = v .cuts .long;
@@ -68,10 +80,10 @@ leaves-alike most job s l ok before w =
     }
 
 -- so they fit the job as those lent did
-pub fits-alike : {job : Job} {l lent : Lent} {sides : List ℕ} → Alike job l sides lent → fits job lent ≡ fits job l
-fits-alike {job} {l} {lent} a = λ i.
+pub fits-alike : (edition : ℕ) {job : Job} {l lent : Lent} {sides : List ℕ} → Alike job l sides lent → fits edition job lent ≡ fits edition job l
+fits-alike edition {job} {l} {lent} a = λ i.
     eqb (a .gains i) (fileCount job)
     && leb (fileCount job) (a .tried i) && leb (fileCount job) (a .gained i)
     && leb (fileCount job) (a .cuts i) && leb (fileCount job) (a .ends i)
     && leb (4 * recipeCount job) (a .recipes i) && leb (4 * recipeCount job) (a .kinds i)
-    && leb (scratchFor job) (a .scratch i)
+    && leb (scratchFor edition job) (a .scratch i)

@@ -1,4 +1,4 @@
--- A run after its first k passes: the sums so far, and what the lists then hold. Assumes nothing.
+-- A run by an edition of the choice after its first k passes: the sums so far, and what the lists then hold. Assumes nothing.
 use mathlib.Core.Path.{_≡_}
 use Prim.Native.Nat.{ℕ, _+_, _≤_, _<_, _^_}
 use mathlib.Core.Bool.{Bool, true, false, not, cond, _&&_, _||_}
@@ -9,8 +9,8 @@ use Rattle.rules.specs.declared.Figures.{Figures}
 use Rattle.rules.specs.declared.RunFigures.{RunFigures}
 use Rattle.rules.specs.Job.{Job, Lent}
 use Rattle.rules.specs.Check.{done, isDone}
-use Rattle.rules.specs.Pass.{Pass, pass, leaves}
-use Rattle.rules.specs.Run.{settles, run, lastOf, figuresOf, runFiguresOf, leftBy, Ended}
+use Rattle.rules.specs.Pass.{Pass, leaves}
+use Rattle.rules.specs.Run.{settles, firstPass, runBy, lastPass, lastOf, figuresOf, runFiguresOf, leftBy, Ended}
 
 -- ---- the answer so far
 
@@ -58,18 +58,18 @@ pub record SumsFit (sum : Figures) : Type 0 where
 -- ---- what it stands for
 
 -- the last of the first k passes
-abbrev pub lastAt : Job → ℕ → Pass
-lastAt job k = lastOf (pass job (job .sides)) (take k (run job))
+abbrev pub lastAt : ℕ → Job → ℕ → Pass
+lastAt edition job k = lastOf (firstPass edition job) (take k (runBy edition job))
 
 -- after the first k passes
-pub record Running (job : Job) (l : Lent) (k : ℕ) (sum : Figures) (settled : Bool) (sides : List ℕ) (lent : Lent) : Type 0 where
+pub record Running (edition : ℕ) (job : Job) (l : Lent) (k : ℕ) (sum : Figures) (settled : Bool) (sides : List ℕ) (lent : Lent) : Type 0 where
   pub some : 1 ≤ k
-  pub few : k ≤ length (run job)
-  pub sums : sum ≡ figuresOf done (pass job (job .sides)) (take k (run job))
-  pub equal : settled ≡ settles (lastAt job k)
-  pub standing : sides ≡ lastAt job k .sidesAfter
-  pub lists : lent ≡ leaves job l (lastAt job k)
+  pub few : k ≤ length (runBy edition job)
+  pub sums : sum ≡ figuresOf done (firstPass edition job) (take k (runBy edition job))
+  pub equal : settled ≡ settles (lastAt edition job k)
+  pub standing : sides ≡ lastAt edition job k .sidesAfter
+  pub lists : lent ≡ leaves edition job l (lastAt edition job k)
 
 -- the run of a job that is not refused: its figures, and what it leaves
-abbrev pub runLeft : Job → Lent → Ended RunFigures
-runLeft job l = leftBy job l (runFiguresOf done (pass job (job .sides)) (run job)) (lastOf (pass job (job .sides)) (run job))
+abbrev pub runLeft : ℕ → Job → Lent → Ended RunFigures
+runLeft edition job l = leftBy edition job l (runFiguresOf done (firstPass edition job) (runBy edition job)) (lastPass edition job)

@@ -102,7 +102,7 @@ module _ (most : Limits) (job : Job) (s : Sound most job) (wide : 1 ≤ job .k) 
   unfolding balanceMoves
   each-picked k h = moves-each (balanceChoice job) moved (fileCount job) (begins job) k h
 
-  balance-picked : Picked job (balanceChoice job) (balanceMoves job)
+  balance-picked : Picked (λ k. balanceChoice job (stands job (balanceMoves job) k)) (balanceMoves job)
   balance-picked = record { each = each-picked; ended = rw (take-length (balanceMoves job)) (balance-holds most job s wide .ended) }
 
 -- they are underway, with some move lists
@@ -111,7 +111,7 @@ pub record BalanceUnderway (job : Job) (l : Lent) (w : Window) (sides : List ℕ
   pub gained : List ℤ
   pub cuts : List ℕ
   pub ends : List ℕ
-  pub under : Underway job (balanceMoves job) l w (record { sides = sides; tried = tried; gained = gained; cuts = cuts; ends = ends; rest = y })
+  pub under : Underway (scratchFor 1 job) job (balanceMoves job) l w (record { sides = sides; tried = tried; gained = gained; cuts = cuts; ends = ends; rest = y })
 
 pub balance-first : {job : Job} {l : Lent} {w : Window} {g : List ℤ} {z : List ℕ} {p : Progress} → Playable job l w
     → Prepared (job .bounds) (job .pins) (job .sides) (job .marks) (l .scratch) z g (recipeCount job)
@@ -121,7 +121,7 @@ balance-first {job} {l} y d e = record {
   gained = l .gained;
   cuts = l .cuts;
   ends = l .ends;
-  under = first-under (balance-holds (y .most) job (y .sound) (y .wide) .frees) y d e;
+  under = first-under (balance-holds (y .most) job (y .sound) (y .wide) .frees) y (omega arith) (long-enough 1 job l (y .fitting) .scratch) d e;
 }
 
 module _ {job : Job} {l : Lent} {w : Window} {sides : List ℕ} {y : Treated} (u : BalanceUnderway job l w sides y) where
@@ -172,7 +172,7 @@ module _ {job : Job} {l : Lent} {w : Window} {sides : List ℕ} {y : Treated} (u
         ∙ picks (heavy job (sizeA job (st .sides))) refl
 
     chose : Chose job ms b f
-    chose = record { pick = balanceChoice job; picked = balance-picked (may .most) job (may .sound) (may .wide); file = file-is }
+    chose = record { pick = λ i. balanceChoice job (stands job ms i); picked = balance-picked (may .most) job (may .sound) (may .wide); file = file-is }
 
     -- a file: it is moved
     module _ (h : f < c) where
@@ -212,17 +212,17 @@ module _ {job : Job} {l : Lent} {w : Window} {sides : List ℕ} {y : Treated} (u
       all-made = ap (after (begins job)) (take-length ms)
 
       pub balance-ends : {r : BalanceFigures} {z : List ℕ} {unread holding numbers : ℕ} → (unread ≡ unreadFiles job) × (holding ≡ unreadRecipes job)
-          → r ≡ balancedFrom unread holding (y .scanned .progress) → numbers ≡ scratchFor job
+          → r ≡ balancedFrom unread holding (y .scanned .progress) → numbers ≡ scratchFor 1 job
           → z ≡ clearedIn 0 numbers 0 (y .scratch)
-          → balancingOf r sides z ≡ balancingOf (balanceFigures job done) (balanceSides job) (listed (scratchFor job) 0 [] (l .scratch))
+          → balancingOf r sides z ≡ balancingOf (balanceFigures job done) (balanceSides job) (listed (scratchFor 1 job) 0 [] (l .scratch))
       unfolding balanceFigures
       balance-ends {r} {z} un told n e =
-          let long : scratchFor job ≤ length (y .scratch) = omega (arith, under-long (u .under) .scratch, long-enough job l (may .fitting) .scratch) in
+          let long : scratchFor 1 job ≤ length (y .scratch) = omega (arith, under-long (u .under) .scratch, long-enough 1 job l (may .fitting) .scratch) in
           let scratch = e ∙ ap (λ (i : ℕ). clearedIn 0 i 0 (y .scratch)) n
-          ∙ cleared-in 0 (scratchFor job) 0 (y .scratch) (omega arith) long
-          ∙ cleared-front 0 (scratchFor job) (y .scratch)
-          ∙ ap (λ (x : List ℕ). replicate (scratchFor job) 0 ++ x) (over .beyond)
-          ∙ listed-none (scratchFor job) 0 (l .scratch) in
+          ∙ cleared-in 0 (scratchFor 1 job) 0 (y .scratch) (omega arith) long
+          ∙ cleared-front 0 (scratchFor 1 job) (y .scratch)
+          ∙ ap (λ (x : List ℕ). replicate (scratchFor 1 job) 0 ++ x) (u .under .beyond)
+          ∙ listed-none (scratchFor 1 job) 0 (l .scratch) in
           let cuts = over .progress .cutNow ∙ ap (λ (x : State). cut (x .sides) (recipes job)) all-made in
           let sizes = over .progress .size ∙ ap (λ (x : State). sizeA job (x .sides)) all-made in
           λ i. record {
@@ -243,7 +243,7 @@ module _ (most : Limits) (job : Job) (gains : List ℤ) (rs kinds scratch : List
   l = ownLent (fileCount job) gains rs kinds scratch
 
   -- they fit a job within its most, so that only the scratch is asked
-  own-fit : WordOn (most .files) (most .recipes) (most .pins) (fileCount job) (recipeCount job) (pinCount job) (fits job l) (leb (scratchFor job) (length scratch))
+  own-fit : WordOn (most .files) (most .recipes) (most .pins) (fileCount job) (recipeCount job) (pinCount job) (fits 1 job l) (leb (scratchFor 1 job) (length scratch))
   own-fit h n p =
       let c = fileCount job in
       rw (
@@ -256,22 +256,22 @@ module _ (most : Limits) (job : Job) (gains : List ℤ) (rs kinds scratch : List
       )
       refl
 
-  verdict-same : checkFor true most job (fits job l) ≡ balanceVerdict most job scratch
-  verdict-same = word-late true most job (fits job l) (leb (scratchFor job) (length scratch)) own-fit
+  verdict-same : checkFor true most job (fits 1 job l) ≡ balanceVerdict most job scratch
+  verdict-same = word-late true most job (fits 1 job l) (leb (scratchFor 1 job) (length scratch)) own-fit
 
   -- of the move lists only the lengths are told
   abbrev ownLengths : ListLengths
   ownLengths = record { tried = fileCount job; gained = fileCount job; cuts = fileCount job; ends = fileCount job; recipes = length rs; kinds = length kinds }
 
-  own-word : fitsOf (fileCount job) (recipeCount job) (pinCount job) (length gains) (length scratch) ownLengths ≡ fits job l
+  own-word : fitsOf 1 (fileCount job) (recipeCount job) (pinCount job) (length gains) (length scratch) ownLengths ≡ fits 1 job l
   own-word = rw (length-replicate {A = ℕ} (fileCount job) 0, length-replicate (fileCount job) (pos 0)) refl
 
   pub own-accepting : {g : List ℤ} {z : List ℕ} {s : Survey}
-      → LaysOut true most job (fitsOf (fileCount job) (recipeCount job) (pinCount job) (length gains) (length scratch) ownLengths) gains scratch g z s
-      → Narrow most → ((i : ℕ) → sizeOf job i < 65536) → Accepting true most job l g z s
-  own-accepting {g} {z} {s} lays n h = accepting true most job l (subst (λ (word : Bool). LaysOut true most job word gains scratch g z s) own-word lays) n h
+      → LaysOut true most job (fitsOf 1 (fileCount job) (recipeCount job) (pinCount job) (length gains) (length scratch) ownLengths) gains scratch g z s
+      → Narrow most → ((i : ℕ) → sizeOf job i < 65536) → Accepting 1 true most job l g z s
+  own-accepting {g} {z} {s} lays n h = accepting 1 true most job l (subst (λ (word : Bool). LaysOut true most job word gains scratch g z s) own-word lays) n h
 
-  module _ {g : List ℤ} {z : List ℕ} {s : Survey} (a : Accepting true most job l g z s) where
+  module _ {g : List ℤ} {z : List ℕ} {s : Survey} (a : Accepting 1 true most job l g z s) where
     told-so : s .verdict ≡ balanceVerdict most job scratch
     told-so = told a ∙ verdict-same
 
@@ -280,5 +280,5 @@ module _ (most : Limits) (job : Job) (gains : List ℤ) (rs kinds scratch : List
         rw (a .lays .refused n .1, e, told-so) (sym (balance-answers most job scratch .refused (λ q. n (ap (λ (v : Verdict). v .number) told-so ∙ q))))
 
     pub balance-done : {x : Balancing} → s .verdict .number ≡ 0
-        → x ≡ balancingOf (balanceFigures job done) (balanceSides job) (listed (scratchFor job) 0 [] scratch) → x ≡ balancing most job scratch
+        → x ≡ balancingOf (balanceFigures job done) (balanceSides job) (listed (scratchFor 1 job) 0 [] scratch) → x ≡ balancing most job scratch
     balance-done d e = e ∙ sym (balance-answers most job scratch .made (zero-of told-so d))

@@ -102,9 +102,9 @@ pub record BoardLong (job : Job) (l : Lent) (b : Board) : Type 0 where
   pub scannedKinds : length (b .rest .scanned .kinds) ≡ length (l .kinds)
   pub scratch : length (b .rest .scratch) ≡ length (l .scratch)
 
-pub board-long : {job : Job} {ms : List ℕ} → Line job ms → {l : Lent} → fits job l ≡ true → {k : ℕ} {b : Board} → Going job ms l k b → BoardLong job l b
+pub board-long : {job : Job} {ms : List ℕ} → Line job ms → {l : Lent} → fits 1 job l ≡ true → {k : ℕ} {b : Board} → Going job ms l k b → BoardLong job l b
 board-long {job} {ms} v {l} ok {k} {b} g =
-    let r : LongEnough job l = long-enough job l ok in
+    let r : LongEnough 1 job l = long-enough 1 job l ok in
     let rs : List (List ℕ) = recipes job in
     let now : List ℕ = made ms k in
     let few : length now ≤ fileCount job = omega (arith, made-length job ms k (g .few), g .few, few-moves v) in
@@ -142,10 +142,10 @@ up-le : (a b : ℕ) (g : ℤ) → a + down g ≡ b + up g → up g ≤ a
 up-le a b (pos n) e = omega arith
 up-le a b (negsuc n) e = omega arith
 
-pub safe : {job : Job} {ms : List ℕ} → Line job ms → recipeCount job ≤ 65536 → {l : Lent} → fits job l ≡ true
+pub safe : {job : Job} {ms : List ℕ} → Line job ms → recipeCount job ≤ 65536 → {l : Lent} → fits 1 job l ≡ true
     → {k f : ℕ} {b : Board} → Going job ms l k b → Next job ms k f → Safe job ms k f b
 safe {job} {ms} v small {l} ok {k} {f} {b} g n =
-    let r : LongEnough job l = long-enough job l ok in
+    let r : LongEnough 1 job l = long-enough 1 job l ok in
     let m : BoardLong job l b = board-long v ok g in
     let early : k < fileCount job = n .early in
     record {

@@ -75,12 +75,12 @@ module _ {job : Job} {ms : List ℕ} (v : Line job ms) (k : ℕ) where
       (startGains (recipes job) (fileCount job) (begins job)) (start-fresh (recipes job) (recipes-distinct (v .most) job (v .sound)) (fileCount job) (begins job))
 
   module _ (w : Window) (den : w .den ≡ job .den) (aim : w .aim ≡ job .num * weight job) (span : w .span ≡ job .den * tolerance job) where
-    dist-same : (f : ℕ) → f < fileCount job → lockOf (stands job ms k) f ≡ 0
+    pub dist-same : (f : ℕ) → f < fileCount job → lockOf (stands job ms k) f ≡ 0
         → distIn w (sizeA job (stands job ms k .sides)) (job .sizes) (stands job ms k .sides) f ≡ distAfter job (stands job ms k) f
     unfolding distAfter
     dist-same f h e = ap₂ distance (ap₂ _*_ den (size-moved-by f h e)) aim
 
-    legal-same : (f : ℕ) → f < fileCount job
+    pub legal-same : (f : ℕ) → f < fileCount job
         → legalIn w (sizeA job (stands job ms k .sides)) (job .sizes) (stands job ms k .sides) (stands job ms k .locks) f ≡ legal job (stands job ms k) f
     unfolding legal balanced
     legal-same f h = elim (ℕ-discrete (lockOf (stands job ms k) f) 0) [

@@ -23,7 +23,6 @@ goes-first {job} {ms} g = record {
   cells = g .cells;
   counts = g .counts;
   long = g .long;
-  beyond = g .beyond;
   gains = g .gains;
   tried = g .tried;
   gained = g .gained;

@@ -1,6 +1,6 @@
 -- A job after the first k of some moves, whoever chose them: what the lists, the scratch and the record in progress then hold. Assumes nothing.
 use mathlib.Core.Path.{_≡_, sym, ap, _∙_}
-use Prim.Native.Nat.{ℕ, _+_, _*_, _≤_}
+use Prim.Native.Nat.{ℕ, _+_, _-_, _*_, _≤_}
 use native.Mathlib.Omega.{arith}
 use mathlib.Core.List.{List, map}
 use lib.ListN.{length, take, drop}
@@ -15,6 +15,11 @@ use Rattle.rules.proofs.GainKept.{keptUp}
 use Rattle.split.specs.declared.progress.Progress.{Progress}
 use Rattle.tables.specs.Zones.{countsAt, Cells, Counts}
 use Rattle.split.specs.Moving.{Board}
+use Rattle.split.specs.Links.{linksAt}
+
+-- where the counts end, and edition 2's links begin
+abbrev pub linksFrom : Job → ℕ
+linksFrom job = linksAt (fileCount job) (recipeCount job) (pinCount job)
 
 -- where the moves begin, the first k of them, and the state after those
 abbrev pub begins : Job → State
@@ -45,12 +50,11 @@ pub record InProgress (job : Job) (ms : List ℕ) (k : ℕ) (p : Progress) : Typ
 pub record Going (job : Job) (ms : List ℕ) (l : Lent) (k : ℕ) (b : Board) : Type 0 where
   pub few : k ≤ length ms
   pub sides : b .sides ≡ stands job ms k .sides
-  -- the scratch: cells and counts stand in it, the locks are the state's, and what lies beyond its numbers stays
+  -- the scratch: cells and counts stand in it, and the locks are the state's
   pub locks : take (fileCount job) (b .rest .scratch) ≡ stands job ms k .locks
   pub cells : Cells (recipes job) (fileCount job) (pinCount job) (b .rest .scratch)
   pub counts : Counts (recipes job) (stands job ms k) (countsAt (fileCount job) (pinCount job)) (recipeCount job) (b .rest .scratch)
   pub long : length (b .rest .scratch) ≡ length (l .scratch)
-  pub beyond : drop (scratchFor job) (b .rest .scratch) ≡ drop (scratchFor job) (l .scratch)
   -- the gains are kept up by the scans listed
   pub gains : b .rest .scanned .gains ≡ keptUp (recipes job) (begins job) (made ms k) (startGains (recipes job) (fileCount job) (begins job))
   -- the lists so far, and further entries as they were
@@ -62,12 +66,9 @@ pub record Going (job : Job) (ms : List ℕ) (l : Lent) (k : ℕ) (b : Board) : 
   pub scannedKinds : b .rest .scanned .kinds ≡ onto (map (λ s. s .kind) (scans (recipes job) (begins job) (made ms k))) (l .kinds)
   pub progress : InProgress job ms k (b .rest .scanned .progress)
 
--- what lies beyond the counts is the same, so what lies beyond the scratch's numbers is
-pub beyond-numbers : (job : Job) (x y : List ℕ)
-    → drop (countsAt (fileCount job) (pinCount job) + 4 * recipeCount job) x ≡ drop (countsAt (fileCount job) (pinCount job) + 4 * recipeCount job) y
-    → drop (scratchFor job) x ≡ drop (scratchFor job) y
-beyond-numbers job x y e =
-    let m : ℕ = countsAt (fileCount job) (pinCount job) + 4 * recipeCount job in
-    let room : ℕ = 2 * fileCount job + 15 in
-    let n : m + room ≡ scratchFor job = omega arith in
-    ap (λ (i : ℕ). drop i x) (sym n) ∙ sym (drop-drop room m x) ∙ ap (drop room) e ∙ drop-drop room m y ∙ ap (λ (i : ℕ). drop i y) n
+-- what lies beyond the counts is the same, so what lies beyond more numbers is
+pub beyond-more : (job : Job) (n : ℕ) (x y : List ℕ) → linksFrom job ≤ n → drop (linksFrom job) x ≡ drop (linksFrom job) y → drop n x ≡ drop n y
+beyond-more job n x y h e =
+    let m : ℕ = linksFrom job in
+    let r : m + (n - m) ≡ n = omega arith in
+    ap (λ (i : ℕ). drop i x) (sym r) ∙ sym (drop-drop (n - m) m x) ∙ ap (drop (n - m)) e ∙ drop-drop (n - m) m y ∙ ap (λ (i : ℕ). drop i y) r

@@ -48,7 +48,7 @@ fill-in {ℓ} : {A : Type ℓ} (n : ℕ) (z : A) (xs ys old now : List A) (k : �
 fill-in n z xs ys old now k e i m h = rw (e, i, m) (listed-of n z ys old h)
 
 -- what the end of a pass finds
-pub record Finished (job : Job) (ms : List ℕ) (l : Lent) (b : Board) : Type 0 where
+pub record Finished (edition : ℕ) (job : Job) (ms : List ℕ) (l : Lent) (b : Board) : Type 0 where
   -- there is room for the zeros, and the moves beyond the best prefix are taken back
   pub early : b .rest .scanned .progress .moves ≤ fileCount job
   pub few : b .rest .scanned .progress .scans ≤ 4 * recipeCount job
@@ -62,14 +62,13 @@ pub record Finished (job : Job) (ms : List ℕ) (l : Lent) (b : Board) : Type 0 
   pub scanned : b .rest .scanned .progress .scans ≡ length (passOf job (job .sides) ms .scanned)
   pub visited : b .rest .scanned .progress .visits ≡ passOf job (job .sides) ms .visited
   -- the lists end in zeros
-  pub gains : b .rest .scanned .gains ≡ leaves job l (passOf job (job .sides) ms) .gains
-  pub tried : cleared (b .rest .scanned .progress .moves) (fileCount job) 0 (b .tried) ≡ leaves job l (passOf job (job .sides) ms) .tried
-  pub gained : cleared (b .rest .scanned .progress .moves) (fileCount job) (pos 0) (b .gained) ≡ leaves job l (passOf job (job .sides) ms) .gained
-  pub cuts : cleared (b .rest .scanned .progress .moves) (fileCount job) 0 (b .cuts) ≡ leaves job l (passOf job (job .sides) ms) .cuts
-  pub scansSoFar : cleared (b .rest .scanned .progress .moves) (fileCount job) 0 (b .ends) ≡ leaves job l (passOf job (job .sides) ms) .ends
-  pub scannedRecipes : cleared (b .rest .scanned .progress .scans) (4 * recipeCount job) 0 (b .rest .scanned .recipes) ≡ leaves job l (passOf job (job .sides) ms) .recipes
-  pub scannedKinds : cleared (b .rest .scanned .progress .scans) (4 * recipeCount job) 0 (b .rest .scanned .kinds) ≡ leaves job l (passOf job (job .sides) ms) .kinds
-  pub scratch : replicate (scratchFor job) 0 ++ drop (scratchFor job) (b .rest .scratch) ≡ leaves job l (passOf job (job .sides) ms) .scratch
+  pub gains : b .rest .scanned .gains ≡ leaves edition job l (passOf job (job .sides) ms) .gains
+  pub tried : cleared (b .rest .scanned .progress .moves) (fileCount job) 0 (b .tried) ≡ leaves edition job l (passOf job (job .sides) ms) .tried
+  pub gained : cleared (b .rest .scanned .progress .moves) (fileCount job) (pos 0) (b .gained) ≡ leaves edition job l (passOf job (job .sides) ms) .gained
+  pub cuts : cleared (b .rest .scanned .progress .moves) (fileCount job) 0 (b .cuts) ≡ leaves edition job l (passOf job (job .sides) ms) .cuts
+  pub scansSoFar : cleared (b .rest .scanned .progress .moves) (fileCount job) 0 (b .ends) ≡ leaves edition job l (passOf job (job .sides) ms) .ends
+  pub scannedRecipes : cleared (b .rest .scanned .progress .scans) (4 * recipeCount job) 0 (b .rest .scanned .recipes) ≡ leaves edition job l (passOf job (job .sides) ms) .recipes
+  pub scannedKinds : cleared (b .rest .scanned .progress .scans) (4 * recipeCount job) 0 (b .rest .scanned .kinds) ≡ leaves edition job l (passOf job (job .sides) ms) .kinds
 
 module _ {job : Job} {ms : List ℕ} (v : Line job ms) {l : Lent} {k : ℕ} {b : Board} (g : Going job ms l k b) (end : k ≡ length ms) where
   all-made : made ms k ≡ ms
@@ -96,9 +95,9 @@ module _ {job : Job} {ms : List ℕ} (v : Line job ms) {l : Lent} {k : ℕ} {b :
       (ap (λ (i : ℕ). backTo (b .tried) B (k - B) (stands job ms i .sides)) (sym e)
       ∙ back-to v (b .tried) B (k - B) (omega arith) (λ i h. tried-at i (omega arith)))
 
-  pub finished : Finished job ms l b
+  pub finished : (edition : ℕ) → Finished edition job ms l b
   unfolding passOf leaves
-  finished =
+  finished edition =
       let rs : List (List ℕ) = recipes job in
       let few : length ms ≤ fileCount job = few-moves v in
       let scanned : scans rs (begins job) (made ms k) ≡ scans rs (begins job) ms = ap (λ (x : List ℕ). scans rs (begins job) x) all-made in
@@ -131,7 +130,4 @@ module _ {job : Job} {ms : List ℕ} (v : Line job ms) {l : Lent} {k : ℕ} {b :
             (g .progress .scanned ∙ sym (length-map (scans rs (begins job) (made ms k)) (λ c. c .recipe))) (ap (λ (x : List Scan). map (λ c. c .recipe) x) scanned) (rw length-map some);
         scannedKinds = fill-in (4 * recipeCount job) 0 (map (λ c. c .kind) (scans rs (begins job) (made ms k))) (map (λ c. c .kind) (scans rs (begins job) ms)) (l .kinds) (b .rest .scanned .kinds) _ (g .scannedKinds)
             (g .progress .scanned ∙ sym (length-map (scans rs (begins job) (made ms k)) (λ c. c .kind))) (ap (λ (x : List Scan). map (λ c. c .kind) x) scanned) (rw length-map some);
-        scratch =
-            ap (λ (x : List ℕ). replicate (scratchFor job) 0 ++ x) (g .beyond)
-            ∙ listed-none (scratchFor job) 0 (l .scratch);
       }

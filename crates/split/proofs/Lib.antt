@@ -16,6 +16,13 @@ pub mod Treating
 pub mod MoveNow
 pub mod Played
 pub mod PassMoves
+pub mod Choosing
+pub mod OtherScratch
+pub mod LinksLent
+pub mod LinksSteps
+pub mod LinksKept
+pub mod Following
+pub mod PassSteps
 pub mod PassOnce
 pub mod Shifts
 pub mod ScanLaws

@@ -24,7 +24,7 @@ use Rattle.tables.specs.Ending.{turned}
 use Rattle.split.specs.Moving.{Board, cutBy, shiftedTo, countedOn, wayTo, treatFrom, treatMove, moveOne}
 use Rattle.split.specs.Movable.{Movable}
 use Rattle.split.proofs.Playable.{Small}
-use Rattle.split.proofs.Going.{begins, made, stands, Line, Going, beyond-numbers}
+use Rattle.split.proofs.Going.{linksFrom, begins, made, stands, Line, Going}
 use Rattle.split.proofs.Treats.{Shifted, MoveTreated}
 use Rattle.rules.proofs.Fits.{LongEnough, long-enough}
 use Rattle.split.proofs.Bounds.{BoardLong, board-long, cut-few, Safe, safe}
@@ -57,7 +57,7 @@ pub record MoveFits (sizes bounds pins : List ℕ) (f : ℕ) (b : Board) : Type 
   pub scans : treatMove sizes bounds pins f b .scanned .progress .scans < 65536
   pub moves : treatMove sizes bounds pins f b .scanned .progress .moves < 2 ^ 32
 
-module _ {job : Job} {ms : List ℕ} (v : Line job ms) (small : Small job) {l : Lent} (ok : fits job l ≡ true) {k f : ℕ} {b : Board} (g : Going job ms l k b) (x : Next job ms k f) where
+module _ {job : Job} {ms : List ℕ} (v : Line job ms) (small : Small job) {l : Lent} (ok : fits 1 job l ≡ true) {k f : ℕ} {b : Board} (g : Going job ms l k b) (x : Next job ms k f) where
   abbrev rs : List (List ℕ)
   rs = recipes job
 
@@ -92,8 +92,8 @@ module _ {job : Job} {ms : List ℕ} (v : Line job ms) (small : Small job) {l : 
   unfolding views
   sees j h = sym (getD-tabled (view job) n j [] h)
 
-  room : scratchFor job ≤ length z
-  room = omega (arith, long-enough job l ok .scratch, board-long v ok g .scratch)
+  room : scratchFor 1 job ≤ length z
+  room = omega (arith, long-enough 1 job l ok .scratch, board-long v ok g .scratch)
 
   long : length locked ≡ length z
   long = length-set z f 1
@@ -176,16 +176,14 @@ module _ {job : Job} {ms : List ℕ} (v : Line job ms) (small : Small job) {l : 
   pub recipes-treated : MoveTreated job ms l k f b (treatMove (job .sizes) (job .bounds) (job .pins) f b)
   unfolding shiftedTo
   recipes-treated =
-      let r : LongEnough job l = long-enough job l ok in
+      let r : LongEnough 1 job l = long-enough 1 job l ok in
       let y : Treated = treatMove (job .sizes) (job .bounds) (job .pins) f b in
       record {
         locks = beside-part (did .beside) 0 c (omega arith) ∙ locks ∙ ap (λ (u : State). u .locks) (sym (x .then));
         cells = cells-same entry below (g .cells);
         counts = rw (x .then) (did .counts);
         long = did .beside .long ∙ long;
-        beyond =
-            beyond-numbers job (y .scratch) locked (did .beside .beyond)
-            ∙ drop-set-lt (scratchFor job) z f 1 (omega (arith, x .below));
+        beyond = did .beside .beyond ∙ drop-set-lt (linksFrom job) z f 1 (omega (arith, x .below));
         gains = did .gains ∙ scans-whole job st (moved st f) unread-stays (other (sideOf (st .sides) f)) f (b .rest .scanned .gains);
         scannedRecipes =
             did .recipes (map (λ u. u .recipe) (scans rs (begins job) (made ms k))) (l .recipes) (g .scannedRecipes)
@@ -223,7 +221,7 @@ module _ {job : Job} {ms : List ℕ} (v : Line job ms) (small : Small job) {l : 
 
   fitting : Fits (treatMove (job .sizes) (job .bounds) (job .pins) f b .scanned)
   fitting =
-      let r : LongEnough job l = long-enough job l ok in
+      let r : LongEnough 1 job l = long-enough 1 job l ok in
       record {
         recipes = omega (arith, shifted .scanned, care .scanning, ap length (recipes-treated .scannedRecipes) ∙ as-long (λ u. u .recipe) (l .recipes) (r .scannedRecipes), r .scannedRecipes);
         kinds = omega (arith, shifted .scanned, care .scanning, ap length (recipes-treated .scannedKinds) ∙ as-long (λ u. u .kind) (l .kinds) (r .scannedKinds), r .scannedKinds);

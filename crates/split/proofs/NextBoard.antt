@@ -32,7 +32,7 @@ one-more {ℓ} : {A : Type ℓ} (xs xs' old now : List A) (k : ℕ) (v v' : A) �
     → set now k v ≡ onto xs' old
 one-more xs xs' old now k v v' e i w m h = rw (e, i, w, m) (onto-set xs old v' h)
 
-module _ {job : Job} {ms : List ℕ} (v : Line job ms) {l : Lent} (ok : fits job l ≡ true) {k f : ℕ} {b : Board} (g : Going job ms l k b) (n : Next job ms k f) where
+module _ {job : Job} {ms : List ℕ} (v : Line job ms) {l : Lent} (ok : fits 1 job l ≡ true) {k f : ℕ} {b : Board} (g : Going job ms l k b) (n : Next job ms k f) where
   sides-on : turned (b .sides) f ≡ stands job ms (suc k) .sides
   unfolding moved
   sides-on = ap (λ (x : List ℕ). turned x f) (g .sides) ∙ sym (ap (λ (st : State). st .sides) (n .then))
@@ -90,7 +90,7 @@ module _ {job : Job} {ms : List ℕ} (v : Line job ms) {l : Lent} (ok : fits job
       → Going job ms l (suc k) (moveOne (job .sizes) (job .bounds) (job .pins) f b)
   unfolding moveOne
   goes-on t =
-      let r : LongEnough job l = long-enough job l ok in
+      let r : LongEnough 1 job l = long-enough 1 job l ok in
       let rs : List (List ℕ) = recipes job in
       let now : List ℕ = made ms k in
       let long : length now ≡ k = made-length job ms k (g .few) in
@@ -103,7 +103,6 @@ module _ {job : Job} {ms : List ℕ} (v : Line job ms) {l : Lent} (ok : fits job
         cells = t .cells;
         counts = t .counts;
         long = t .long ∙ g .long;
-        beyond = t .beyond ∙ g .beyond;
         gains = t .gains ∙ gains-on;
         tried = one-more now (made ms (suc k)) (l .tried) (b .tried) _ f f (g .tried) (at ∙ sym long) refl (n .more) (omega arith);
         gained =

@@ -27,10 +27,10 @@ pub record Next (job : Job) (ms : List ℕ) (k f : ℕ) : Type 0 where
   pub free : lockOf (stands job ms k) f ≡ 0
   pub moves : Moves (stands job ms k) (moved (stands job ms k) f) f
 
--- the moves are those of a choice, which ends them
-pub record Picked (job : Job) (pick : State → Option ℕ) (ms : List ℕ) : Type 0 where
-  pub each : (k : ℕ) → k < length ms → pick (stands job ms k) ≡ some (getD ms k 0)
-  pub ended : pick (stands job ms (length ms)) ≡ none
+-- the moves are those of a choice, which ends them: `pick k` is what it gives after k moves
+pub record Picked (pick : ℕ → Option ℕ) (ms : List ℕ) : Type 0 where
+  pub each : (k : ℕ) → k < length ms → pick k ≡ some (getD ms k 0)
+  pub ended : pick (length ms) ≡ none
 
 -- a move is of a file then free
 frees-at : {st : State} {fs : List ℕ} → Frees st fs → (k : ℕ) → k < length fs
@@ -80,17 +80,17 @@ module _ {job : Job} {ms : List ℕ} (v : Line job ms) where
         moves = move-of (stands job ms k) f (omega (arith, below, long .sides)) (omega (arith, below, long .locks)) (here .1) (stands-binary k);
       }
 
-  module _ {pick : State → Option ℕ} (p : Picked job pick ms) (k : ℕ) (few : k ≤ length ms) where
-    pub next-move : (f : ℕ) → pick (stands job ms k) ≡ some f → Next job ms k f
+  module _ {pick : ℕ → Option ℕ} (p : Picked pick ms) (k : ℕ) (few : k ≤ length ms) where
+    pub next-move : (f : ℕ) → pick k ≡ some f → Next job ms k f
     next-move f e = elim (decLt k (length ms)) [
-      | yes h ↦ subst (Next job ms k) (same-some (pick (stands job ms k)) (getD ms k 0) f (p .each k h) e) (next-at k h)
+      | yes h ↦ subst (Next job ms k) (same-some (pick k) (getD ms k 0) f (p .each k h) e) (next-at k h)
       | no n ↦
           let q : k ≡ length ms = omega arith in
-          never-both (pick (stands job ms k)) f e (rw q (p .ended))
+          never-both (pick k) f e (rw q (p .ended))
     ]
 
-    pub no-move : pick (stands job ms k) ≡ none → k ≡ length ms
+    pub no-move : pick k ≡ none → k ≡ length ms
     no-move e = elim (decLt k (length ms)) [
-      | yes h ↦ never-both (pick (stands job ms k)) (getD ms k 0) (p .each k h) e
+      | yes h ↦ never-both (pick k) (getD ms k 0) (p .each k h) e
       | no n ↦ omega arith
     ]

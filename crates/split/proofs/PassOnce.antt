@@ -1,10 +1,10 @@
 -- One pass, put together from what its steps answer. Assumes nothing.
 use mathlib.Core.Path.{_≡_, refl, sym, ap, subst, _∙_}
 use Prim.Native.Nat.{ℕ, _-_, _*_, _≤_, _<_}
-use mathlib.Core.List.{List}
+use mathlib.Core.List.{List, _++_}
 use native.Mathlib.Nat.{add-zero}
 use native.Mathlib.Omega.{arith}
-use lib.ListN.{length}
+use lib.ListN.{length, replicate}
 use lib.IntN.{ℤ, pos}
 use Rattle.rules.specs.declared.Figures.{Figures}
 use Rattle.rules.specs.Lists.{total}
@@ -12,8 +12,9 @@ use Rattle.rules.specs.Job.{Job, Limits, fileCount, recipeCount, pinCount, view
 use Rattle.rules.specs.Split.{unreadFiles, unreadRecipes}
 use Rattle.rules.specs.Check.{done}
 use Rattle.rules.specs.Move.{Frees}
-use Rattle.rules.specs.Pass.{tries, Pass, pass}
-use Rattle.rules.specs.Run.{endedOf, lastOf, figuresOf}
+use Rattle.rules.specs.Pass.{Pass, leaves}
+use Rattle.rules.specs.Fronts.{triesBy}
+use Rattle.rules.specs.Run.{endedOf, lastOf, firstPass, figuresOf}
 use Rattle.rules.specs.Theorems.{Sound}
 use Rattle.rules.proofs.Fits.{LongEnough, long-enough}
 use Rattle.rules.proofs.Runs.{pass-from, pass-unread}
@@ -27,14 +28,15 @@ use Rattle.choice.specs.declared.window.Window.{Window}
 use Rattle.split.specs.declared.progress.Progress.{Progress}
 use Rattle.split.specs.Moving.{Board, board, begun}
 use Rattle.split.specs.Playing.{passLeft, figuresFrom}
-use Rattle.split.proofs.Going.{begins, Line, Going, beyond-numbers}
+use Rattle.split.proofs.Going.{linksFrom, begins, Line, Going, beyond-more}
+use Rattle.split.proofs.LentLists.{listed-none}
 use Rattle.split.proofs.Treats.{Begun}
 use Rattle.split.proofs.Playable.{Playable, sizeAtStart, cutAtStart}
 use Rattle.split.proofs.Bounds.{BoardLong, board-long}
 use Rattle.split.proofs.FirstMove.{goes-first}
 use Rattle.split.proofs.LastMove.{Finished, finished}
 use Rattle.split.proofs.Played.{Underway}
-use Rattle.split.proofs.PassMoves.{passMoves, pass-frees}
+use Rattle.split.proofs.PassMoves.{passMoves}
 
 -- ---- before the first move
 
@@ -55,7 +57,6 @@ begins-here most job s l g z d =
       cells = rw (← e) (d .cells);
       counts = rw (← e) (d .counts);
       long = d .long;
-      beyond = beyond-numbers job z (l .scratch) (rw e at (d .beyond));
       gains = rw (← e) (d .starting);
       tried = refl;
       gained = refl;
@@ -66,12 +67,20 @@ begins-here most job s l g z d =
       progress = refl;
     }
 
-pub first-under : {job : Job} {ms : List ℕ} → Frees (begins job) ms → {l : Lent} {w : Window} {g : List ℤ} {z : List ℕ} {p : Progress} → Playable job l w
+pub first-under : {n : ℕ} {job : Job} {ms : List ℕ} → Frees (begins job) ms → {l : Lent} {w : Window} {g : List ℤ} {z : List ℕ} {p : Progress} → Playable job l w
+    → linksFrom job ≤ n → n ≤ length (l .scratch)
     → Prepared (job .bounds) (job .pins) (job .sides) (job .marks) (l .scratch) z g (recipeCount job)
-    → p ≡ begun (sizeAtStart job) (cutAtStart job) → Underway job ms l w (boardOn job l g z p)
-first-under {job} {ms} frees {l} {w} {g} {z} y d e =
-    subst (λ (q : Progress). Underway job ms l w (boardOn job l g z q)) (sym e)
-    (record { playable = y; frees = frees; going = goes-first (begins-here (y .most) job (y .sound) l g z d) })
+    → p ≡ begun (sizeAtStart job) (cutAtStart job) → Underway n job ms l w (boardOn job l g z p)
+first-under {n} {job} {ms} frees {l} {w} {g} {z} y h k d e =
+    subst (λ (q : Progress). Underway n job ms l w (boardOn job l g z q)) (sym e)
+    (record {
+      playable = y;
+      frees = frees;
+      going = goes-first (begins-here (y .most) job (y .sound) l g z d);
+      counts = h;
+      enough = k;
+      beyond = beyond-more job n z (l .scratch) h (rw (y .sound .sidesLong) at (d .beyond));
+    })
 
 -- ---- after the last
 
@@ -80,18 +89,22 @@ pub few-numbers : {job : Job} {l : Lent} {w : Window} → Playable job l w → (
 few-numbers y = (y .small .files, y .small .bounds, omega (arith, y .small .pins))
 
 -- how far the scan lists and the scratch end in zeros, by the job's extent
-pub extent-known : {e : Extent} {c n p : ℕ} → e ≡ extentOf c n p → (4 * e .recipes ≡ 4 * n) × (scratchNumbers (e .pins) (e .files) (e .recipes) ≡ scratchNumbers p c n)
-extent-known q = (ap (λ (e : Extent). 4 * e .recipes) q, ap (λ (e : Extent). scratchNumbers (e .pins) (e .files) (e .recipes)) q)
+pub extent-known : (edition : ℕ) {e : Extent} {c n p : ℕ} → e ≡ extentOf c n p → (4 * e .recipes ≡ 4 * n) × (scratchNumbers edition (e .pins) (e .files) (e .recipes) ≡ scratchNumbers edition p c n)
+extent-known edition q = (ap (λ (e : Extent). 4 * e .recipes) q, ap (λ (e : Extent). scratchNumbers edition (e .pins) (e .files) (e .recipes)) q)
 
-module _ {job : Job} {l : Lent} {w : Window} (y : Playable job l w) {b : Board} (going : Going job (passMoves job) l (length (passMoves job)) b) where
+module _ (edition : ℕ) {job : Job} {l : Lent} {w : Window} {b : Board} (u : Underway (scratchFor edition job) job (passMoves edition job) l w b)
+    (going : Going job (passMoves edition job) l (length (passMoves edition job)) b) where
+  abbrev y : Playable job l w
+  y = u .playable
+
   abbrev q : Progress
   q = b .rest .scanned .progress
 
-  abbrev line : Line job (passMoves job)
-  line = record { most = y .most; sound = y .sound; frees = pass-frees (y .most) job (y .sound) }
+  abbrev line : Line job (passMoves edition job)
+  line = record { most = y .most; sound = y .sound; frees = u .frees }
 
-  ended : Finished job (passMoves job) l b
-  ended = finished line going refl
+  ended : Finished edition job (passMoves edition job) l b
+  ended = finished line going refl edition
 
   -- what the pass leaves; scans and numbers as the code has them
   pub pass-ends : {before unread holding scans numbers : ℕ} {r : Figures} {sides tried : List ℕ} {gained : List ℤ} {cuts ends rs kinds scratch : List ℕ}
@@ -103,17 +116,17 @@ module _ {job : Job} {l : Lent} {w : Window} (y : Playable job l w) {b : Board} 
       × (gained ≡ clearedIn (q .moves) (fileCount job) (pos 0) (b .gained))
       × (cuts ≡ clearedIn (q .moves) (fileCount job) 0 (b .cuts))
       × (ends ≡ clearedIn (q .moves) (fileCount job) 0 (b .ends))
-      → (scans ≡ 4 * recipeCount job) × (numbers ≡ scratchFor job)
+      → (scans ≡ 4 * recipeCount job) × (numbers ≡ scratchFor edition job)
       → (rs ≡ clearedIn (q .scans) scans 0 (b .rest .scanned .recipes))
       × (kinds ≡ clearedIn (q .scans) scans 0 (b .rest .scanned .kinds))
       × (scratch ≡ clearedIn 0 numbers 0 (b .rest .scratch))
-      → endedOf r sides (lentOf (b .rest .scanned .gains) tried gained cuts ends rs kinds scratch) ≡ passLeft job l
-  unfolding figuresOf lastOf total
+      → endedOf r sides (lentOf (b .rest .scanned .gains) tried gained cuts ends rs kinds scratch) ≡ passLeft edition job l
+  unfolding figuresOf lastOf total leaves
   pass-ends {scans = scans} {numbers = numbers} be un told m ro s =
-      let p : Pass = pass job (job .sides) in
+      let p : Pass = firstPass edition job in
       let c : ℕ = fileCount job in
-      let d : Finished job (passMoves job) l b = ended in
-      let o : LongEnough job l = long-enough job l (y .fitting) in
+      let d : Finished edition job (passMoves edition job) l b = ended in
+      let o : LongEnough 1 job l = long-enough 1 job l (y .fitting) in
       let long : BoardLong job l b = board-long line (y .fitting) going in
       let early : q .moves ≤ c = d .early in
       let back = m .0 ∙ d .back in
@@ -126,20 +139,22 @@ module _ {job : Job} {l : Lent} {w : Window} (y : Playable job l w) {b : Board} 
       let ki = s .1 ∙ ap (λ (i : ℕ). clearedIn (q .scans) i 0 (b .rest .scanned .kinds)) (ro .0)
       ∙ cleared-in (q .scans) (4 * recipeCount job) 0 (b .rest .scanned .kinds) (d .few) (omega (arith, long .scannedKinds, o .scannedKinds)) ∙ d .scannedKinds in
       let sc = s .2 ∙ ap (λ (i : ℕ). clearedIn 0 i 0 (b .rest .scratch)) (ro .1)
-      ∙ cleared-in 0 (scratchFor job) 0 (b .rest .scratch) (omega arith) (omega (arith, long .scratch, o .scratch))
-      ∙ cleared-front 0 (scratchFor job) (b .rest .scratch) ∙ d .scratch in
+      ∙ cleared-in 0 (scratchFor edition job) 0 (b .rest .scratch) (omega arith) (omega (arith, long .scratch, u .enough))
+      ∙ cleared-front 0 (scratchFor edition job) (b .rest .scratch)
+      ∙ ap (λ (x : List ℕ). replicate (scratchFor edition job) 0 ++ x) (u .beyond)
+      ∙ listed-none (scratchFor edition job) 0 (l .scratch) in
       λ i. record {
         answer = (told ∙ λ j. record {
           verdict = done;
-          before = (be ∙ sym (pass-from job (tries job) (job .sides))) j;
+          before = (be ∙ sym (pass-from job (triesBy edition job) (job .sides))) j;
           cut = d .least j;
           size = d .size j;
           tried = (d .moves ∙ sym (add-zero (length (p .tried)))) j;
           kept = (d .best ∙ sym (add-zero (p .kept))) j;
           scans = (d .scanned ∙ sym (add-zero (length (p .scanned)))) j;
           visits = (d .visited ∙ sym (add-zero (p .visited))) j;
-          unread = (un .0 ∙ sym (pass-unread job (tries job) (job .sides) .0)) j;
-          holding = (un .1 ∙ sym (pass-unread job (tries job) (job .sides) .1)) j;
+          unread = (un .0 ∙ sym (pass-unread job (triesBy edition job) (job .sides) .0)) j;
+          holding = (un .1 ∙ sym (pass-unread job (triesBy edition job) (job .sides) .1)) j;
         }) i;
         sides = back i;
         lent = record {

@@ -1,6 +1,6 @@
 -- What a pass may count on in a job that is not refused. Assumes nothing.
 use mathlib.Core.Path.{_≡_}
-use Prim.Native.Nat.{ℕ, _*_, _≤_, _<_, _^_}
+use Prim.Native.Nat.{ℕ, _+_, _*_, _≤_, _<_, _^_}
 use mathlib.Core.Bool.{true}
 use lib.ListN.{length}
 use Rattle.rules.specs.Job.{Job, Limits, fileCount, recipeCount, pinCount, recipes, Lent, fits}
@@ -14,6 +14,7 @@ pub record Small (job : Job) : Type 0 where
   pub bounds : length (job .bounds) < 65536
   pub pins : pinCount job < 65535
   pub scans : 4 * recipeCount job < 65536
+  pub links : fileCount job + 4 * recipeCount job + 2 < 65536
   pub weight : weight job < 2 ^ 32
 
 -- den, and num·W and den times the tolerance
@@ -28,7 +29,7 @@ pub record Playable (job : Job) (l : Lent) (w : Window) : Type 0 where
   pub sound : Sound most job
   pub wide : 1 ≤ job .k
   pub small : Small job
-  pub fitting : fits job l ≡ true
+  pub fitting : fits 1 job l ≡ true
   pub measured : Measured job w
 
 -- |A| and the cut that a pass starts from

@@ -4,20 +4,20 @@ use Prim.Native.Nat.{ℕ, suc, _-_, _*_, _≤_, _<_, _^_}
 use mathlib.Core.List.{List}
 use mathlib.Core.Option.{Option, none, some}
 use native.Mathlib.Omega.{arith}
-use lib.ListN.{length}
+use lib.ListN.{length, drop}
 use mir.Syntax.{w16, w64}
 use mir.Val.{Fits}
 use Rattle.rules.specs.Job.{Job, fileCount, Lent}
-use Rattle.rules.specs.Move.{State, Frees}
+use Rattle.rules.specs.Move.{Frees}
 use Rattle.choice.specs.declared.window.Window.{Window}
 use Rattle.choice.specs.Choosing.{fileOr}
 use Rattle.split.specs.Moving.{Board, moveOne}
 use Rattle.split.specs.Movable.{Movable}
-use Rattle.split.proofs.Going.{begins, stands, Line, Going}
+use Rattle.split.proofs.Going.{linksFrom, begins, Line, Going, beyond-more}
 use Rattle.split.proofs.Playable.{Playable}
 use Rattle.rules.proofs.Fits.{long-enough}
 use Rattle.split.proofs.Bounds.{BoardLong, board-long, size-few}
-use Rattle.split.proofs.MoveNow.{MoveFits, move-safe, move-fits, move-goes}
+use Rattle.split.proofs.MoveNow.{MoveFits, recipes-treated, move-safe, move-fits, move-goes}
 use Rattle.split.proofs.NextMove.{Next, Picked, next-move, no-move}
 
 -- ---- numbers, for where many lists are known
@@ -45,17 +45,20 @@ one-less h e = omega arith
 abbrev pub movesOf : Board → ℕ
 movesOf b = b .rest .scanned .progress .moves
 
--- between two moves
-pub record Underway (job : Job) (ms : List ℕ) (l : Lent) (w : Window) (b : Board) : Type 0 where
+-- between two moves; what lies beyond the first n numbers of the scratch is as it was lent
+pub record Underway (n : ℕ) (job : Job) (ms : List ℕ) (l : Lent) (w : Window) (b : Board) : Type 0 where
   pub playable : Playable job l w
   pub frees : Frees (begins job) ms
   pub going : Going job ms l (movesOf b) b
+  pub counts : linksFrom job ≤ n
+  pub enough : n ≤ length (l .scratch)
+  pub beyond : drop n (b .rest .scratch) ≡ drop n (l .scratch)
 
 -- f is what the choice gives that makes these moves; C where it gives none
 pub record Chose (job : Job) (ms : List ℕ) (b : Board) (f : ℕ) : Type 0 where
-  pub pick : State → Option ℕ
-  pub picked : Picked job pick ms
-  pub file : f ≡ fileOr (fileCount job) (pick (stands job ms (movesOf b)))
+  pub pick : ℕ → Option ℕ
+  pub picked : Picked pick ms
+  pub file : f ≡ fileOr (fileCount job) (pick (movesOf b))
 
 -- the lists fit the choice, and |A| is a four-byte number
 pub record Choosable (job : Job) (b : Board) : Type 0 where
@@ -73,7 +76,7 @@ file-none : (n f : ℕ) (o : Option ℕ) → ((x : ℕ) → o ≡ some x → x <
 file-none n f none below e h = refl
 file-none n f (some x) below e h = absurd (omega (arith, below x refl))
 
-module _ {job : Job} {ms : List ℕ} {l : Lent} {w : Window} {b : Board} (u : Underway job ms l w b) where
+module _ {n : ℕ} {job : Job} {ms : List ℕ} {l : Lent} {w : Window} {b : Board} (u : Underway n job ms l w b) where
   abbrev y : Playable job l w
   y = u .playable
 
@@ -91,7 +94,7 @@ module _ {job : Job} {ms : List ℕ} {l : Lent} {w : Window} {b : Board} (u : Un
   sides-stay = under-long .sides ∙ sym (y .sound .sidesLong)
 
   pub gains-stay : length (b .rest .scanned .gains) ≡ length (l .gains)
-  gains-stay = under-long .gains ∙ sym (long-enough job l (y .fitting) .gains)
+  gains-stay = under-long .gains ∙ sym (long-enough 1 job l (y .fitting) .gains)
 
   pub choosable : Choosable job b
   choosable =
@@ -99,7 +102,7 @@ module _ {job : Job} {ms : List ℕ} {l : Lent} {w : Window} {b : Board} (u : Un
       record {
         sides = m .sides;
         gains = m .gains;
-        locks = omega (arith, long-enough job l (y .fitting) .scratch, m .scratch);
+        locks = omega (arith, long-enough 1 job l (y .fitting) .scratch, m .scratch);
         size = omega (arith, g .progress .size, size-few line (movesOf b), y .small .weight);
       }
 
@@ -108,7 +111,7 @@ module _ {job : Job} {ms : List ℕ} {l : Lent} {w : Window} {b : Board} (u : Un
     -- it is a file: the next move
     module _ (h : f < fileCount job) where
       pub playing-next : Next job ms (movesOf b) f
-      playing-next = next-move line (c .picked) (movesOf b) (g .few) f (file-some (fileCount job) f (c .pick (stands job ms (movesOf b))) (c .file) h)
+      playing-next = next-move line (c .picked) (movesOf b) (g .few) f (file-some (fileCount job) f (c .pick (movesOf b)) (c .file) h)
 
       pub playing-safe : Movable (job .sizes) (job .bounds) (job .pins) f (b .sides) (b .rest)
       playing-safe = move-safe line (y .small) (y .fitting) g playing-next
@@ -124,13 +127,23 @@ module _ {job : Job} {ms : List ℕ} {l : Lent} {w : Window} {b : Board} (u : Un
         pub playing-more : movesOf b' ≡ suc (movesOf b)
         playing-more = goes .progress .moves
 
-        pub playing-goes : Underway job ms l w b'
-        playing-goes = record { playable = y; frees = u .frees; going = subst (λ (k : ℕ). Going job ms l k b') (sym playing-more) goes }
+        pub playing-goes : Underway n job ms l w b'
+        unfolding moveOne
+        playing-goes = record {
+          playable = y;
+          frees = u .frees;
+          going = subst (λ (k : ℕ). Going job ms l k b') (sym playing-more) goes;
+          counts = u .counts;
+          enough = u .enough;
+          beyond =
+              ap (λ (x : Board). drop n (x .rest .scratch)) e
+              ∙ beyond-more job n _ _ (u .counts) (recipes-treated line (y .small) (y .fitting) g playing-next .beyond) ∙ u .beyond;
+        }
 
     -- none is: the moves have ended
     pub playing-end : fileCount job ≤ f → Going job ms l (length ms) b
     playing-end h =
-        let pick : Option ℕ = c .pick (stands job ms (movesOf b)) in
+        let pick : Option ℕ = c .pick (movesOf b) in
         let below : (x : ℕ) → pick ≡ some x → x < fileCount job = λ x e. next-move line (c .picked) (movesOf b) (g .few) x e .below in
         let end : movesOf b ≡ length ms = no-move line (c .picked) (movesOf b) (g .few) (file-none (fileCount job) f pick below (c .file) h) in
         subst (λ (k : ℕ). Going job ms l k b) end g

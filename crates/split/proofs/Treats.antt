@@ -15,7 +15,7 @@ use Rattle.tables.specs.Zones.{countsAt, Cells, Counts}
 use Rattle.split.specs.Scanning.{Treated}
 use Rattle.choice.specs.Choosing.{sizeBy}
 use Rattle.split.specs.Moving.{Board, begun, cutBy}
-use Rattle.split.proofs.Going.{begins, made, stands}
+use Rattle.split.proofs.Going.{linksFrom, begins, made, stands}
 
 -- no move yet: cells and counts are built, the gains are the starting ones, and the lists are as lent
 pub record Begun (job : Job) (l : Lent) (b : Board) : Type 0 where
@@ -24,7 +24,6 @@ pub record Begun (job : Job) (l : Lent) (b : Board) : Type 0 where
   pub cells : Cells (recipes job) (fileCount job) (pinCount job) (b .rest .scratch)
   pub counts : Counts (recipes job) (begins job) (countsAt (fileCount job) (pinCount job)) (recipeCount job) (b .rest .scratch)
   pub long : length (b .rest .scratch) ≡ length (l .scratch)
-  pub beyond : drop (scratchFor job) (b .rest .scratch) ≡ drop (scratchFor job) (l .scratch)
   pub gains : b .rest .scanned .gains ≡ startGains (recipes job) (fileCount job) (begins job)
   pub tried : b .tried ≡ l .tried
   pub gained : b .gained ≡ l .gained
@@ -51,7 +50,7 @@ pub record MoveTreated (job : Job) (ms : List ℕ) (l : Lent) (k f : ℕ) (b : B
   pub cells : Cells (recipes job) (fileCount job) (pinCount job) (y .scratch)
   pub counts : Counts (recipes job) (stands job ms (suc k)) (countsAt (fileCount job) (pinCount job)) (recipeCount job) (y .scratch)
   pub long : length (y .scratch) ≡ length (b .rest .scratch)
-  pub beyond : drop (scratchFor job) (y .scratch) ≡ drop (scratchFor job) (b .rest .scratch)
+  pub beyond : drop (linksFrom job) (y .scratch) ≡ drop (linksFrom job) (b .rest .scratch)
   pub gains : y .scanned .gains ≡ gainsScanned (recipes job) (stands job ms k) f (b .rest .scanned .gains)
   pub scannedRecipes : y .scanned .recipes ≡ onto (map (λ s. s .recipe) (scans (recipes job) (begins job) (made ms (suc k)))) (l .recipes)
   pub scannedKinds : y .scanned .kinds ≡ onto (map (λ s. s .kind) (scans (recipes job) (begins job) (made ms (suc k)))) (l .kinds)

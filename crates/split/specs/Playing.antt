@@ -5,13 +5,12 @@ use Rattle.rules.specs.declared.Figures.{Figures}
 use Rattle.rules.specs.declared.BalanceFigures.{BalanceFigures}
 use Rattle.rules.specs.Job.{Job, Lent}
 use Rattle.rules.specs.Check.{done}
-use Rattle.rules.specs.Pass.{pass}
-use Rattle.rules.specs.Run.{Ended, figuresOf, leftBy}
+use Rattle.rules.specs.Run.{Ended, firstPass, figuresOf, leftBy}
 use Rattle.split.specs.declared.progress.Progress.{Progress}
 
--- one pass of a job that is not refused: its figures, and what it leaves
-abbrev pub passLeft : Job → Lent → Ended Figures
-passLeft job l = leftBy job l (figuresOf done (pass job (job .sides)) (pass job (job .sides) ∷ [])) (pass job (job .sides))
+-- one pass by an edition of a job that is not refused: its figures, and what it leaves
+abbrev pub passLeft : ℕ → Job → Lent → Ended Figures
+passLeft edition job l = leftBy edition job l (figuresOf done (firstPass edition job) (firstPass edition job ∷ [])) (firstPass edition job)
 
 -- the figures of a pass from its record, the cut before, and what could not be read
 abbrev pub figuresFrom : ℕ → ℕ → ℕ → Progress → Figures

@@ -1,6 +1,6 @@
 -- What the code of a move's scans does, on lists. Assumes nothing.
 use Prim.Native.Nat.{ℕ, _+_, _-_, _*_, _≤_, _<_, _^_}
-use mathlib.Core.Bool.{cond, _&&_}
+use mathlib.Core.Bool.{Bool, cond, _&&_}
 use mathlib.Core.List.{List, [], _∷_}
 use lib.ListN.{length, getD, set}
 use lib.Dec.{eqb}
@@ -14,9 +14,13 @@ use Rattle.split.specs.declared.scan.Kinds.{Kinds}
 
 -- ---- one pin, one scan
 
--- a file's gain after a scan of this kind
+-- a scan of this kind changes a file with this lock on this side
+abbrev pub changedBy : ℕ → ℕ → ℕ → ℕ → ℕ → Bool
+changedBy lock side there left kind = eqb lock 0 && reaches (eqb side there) (eqb side left) kind
+
+-- a file's gain after it
 abbrev pub shiftedBy : ℤ → ℕ → ℕ → ℕ → ℕ → ℕ → ℤ
-shiftedBy g lock side there left kind = cond (eqb lock 0 && reaches (eqb side there) (eqb side left) kind) (g +ℤ change kind) g
+shiftedBy g lock side there left kind = cond (changedBy lock side there left kind) (g +ℤ change kind) g
 
 -- one scan more, of a recipe with this many files
 unfoldable pub visitedBy : Progress → ℕ → Progress

@@ -60,6 +60,7 @@ fn balance_with(
         kinds: kinds.len(),
     };
     let s = lay_out(
+        1,
         job,
         sizes,
         sides,
@@ -82,7 +83,7 @@ fn balance_with(
         let f = greatest_on(side, sides, scratch, gains);
         if c <= f {
             let extent = extent_of(c, bounds, pins);
-            end_scans(recipes, kinds, scratch, p.scans, extent);
+            end_scans(recipes, kinds, scratch, p.scans, 1, extent);
             return p.balanced(s.unread, s.holding);
         }
         p = treat_move(

@@ -2,6 +2,7 @@
 ghost use mathlib.Core.Path.{_≡_};
 ghost use Prim.Native.Nat.{_-_, _*_, _<_, _^_};
 ghost use lib.ListN.{length};
+ghost use Rattle.rules.specs.Check.{checkEdition};
 ghost use Rattle.rules.specs.Run.{noFigures};
 ghost use Rattle.job.specs.Parts.{ofFigures};
 ghost use Rattle.tables.specs.Zones.{extentOf};
@@ -9,9 +10,17 @@ ghost use Rattle.choice.specs.Choosing.{windowOf};
 use choice::Window;
 use job::Job;
 use job::recipe_count;
+use job::refuse_if;
 use rules::Figures;
 use rules::Verdict;
 use tables::Extent;
+
+// 32 for an edition of the choice that there is not.
+pub(crate) fn check_edition(edition: u16) -> Verdict
+    ensures { λ r. ⌜ r ≡ checkEdition edition ⌝ }
+{
+    refuse_if(!((edition == 1) | (edition == 2)), 32, 0)
+}
 
 // Den, and num·W and den times the tolerance.
 pub(crate) fn window_of(job: Job, weight: u64, tolerance: u64) -> Window

@@ -42,10 +42,10 @@ fn way_to(extent: Extent, side: u16) -> Way
     }
 }
 
-// Where a file's cells begin and end.
-struct Span {
-    from: usize,
-    to: usize,
+// Where a part of the scratch begins and ends, such as a file's cells.
+pub(crate) struct Span {
+    pub from: usize,
+    pub to: usize,
 }
 
 // The file is locked; the span of its cells.

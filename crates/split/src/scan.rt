@@ -7,7 +7,7 @@ ghost use Rattle.rules.specs.Job.{viewOf};
 ghost use Rattle.rules.specs.Move.{scanPins};
 ghost use Rattle.rules.proofs.Signed.{abs};
 ghost use Rattle.tables.specs.Zones.{part, stateOf};
-ghost use Rattle.split.specs.Scanning.{shiftedBy, RoomFor, NearVisits, Fits, scanned, scanIf, kindBy, kindsNow, recount, treated, treatAll, Countable, Ready};
+ghost use Rattle.split.specs.Scanning.{changedBy, shiftedBy, RoomFor, NearVisits, Fits, scanned, scanIf, kindBy, kindsNow, recount, treated, treatAll, Countable, Ready};
 use super::progress::Progress;
 use job::wide;
 
@@ -27,16 +27,23 @@ pub(crate) struct Kinds {
     pub second: u16,
 }
 
-// A file's gain after a scan of this kind, which reaches it on the sides that the kind names, if it is free.
-fn shifted(g: i32, lock: u16, side: u16, there: u16, left: u16, kind: u16) -> i32
-    requires { ⌜ abs g < 2 ^ 31 - 1 ⌝ }
-    ensures { λ r. ⌜ r ≡ shiftedBy g lock side there left kind ⌝ }
+// Whether a scan of this kind changes a file: it reaches the file on the sides that the kind names, if the file is free.
+pub(crate) fn is_changed(lock: u16, side: u16, there: u16, left: u16, kind: u16) -> bool
+    ensures { λ r. ⌜ r ≡ changedBy lock side there left kind ⌝ }
 {
     let reached = (kind == 1)
         | (kind == 3)
         | ((kind == 2) & (side == there))
         | ((kind == 4) & (side == left));
-    if (lock == 0) & reached {
+    (lock == 0) & reached
+}
+
+// A file's gain after a scan of this kind.
+fn shifted(g: i32, lock: u16, side: u16, there: u16, left: u16, kind: u16) -> i32
+    requires { ⌜ abs g < 2 ^ 31 - 1 ⌝ }
+    ensures { λ r. ⌜ r ≡ shiftedBy g lock side there left kind ⌝ }
+{
+    if is_changed(lock, side, there, left, kind) {
         if (kind == 1) | (kind == 4) {
             return g + 1;
         }

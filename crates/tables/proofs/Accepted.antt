@@ -13,7 +13,7 @@ use Rattle.rules.specs.Job.{Job, Limits, fileCount, recipeCount, pinCount, view
 use Rattle.rules.specs.Split.{weight, tolerance, cut, sizeA, unreadFiles, unreadRecipes}
 use Rattle.rules.specs.Check.{_orElse_, checkSound, checkGoal}
 use Rattle.rules.specs.Theorems.{Binary, Sound}
-use Rattle.rules.proofs.Fits.{LongEnough, long-enough}
+use Rattle.rules.proofs.Fits.{numbers-least, LongEnough, long-enough}
 use Rattle.rules.proofs.SoundJob.{ratio-pass, goal-pass, sound, views-distinct}
 use Rattle.rules.proofs.Verdicts.{zero-of, passes-both}
 use Rattle.rules.proofs.Proved.{lent-sound}
@@ -33,6 +33,7 @@ pub record Narrow (most : Limits) : Type 0 where
   pub recipes : 4 * most .recipes < 65536
   pub pins : most .pins < 65535
   pub den : most .den < 65536
+  pub links : most .files + 4 * most .recipes + 2 < 65536
 
 -- ---- the survey's fields
 
@@ -100,16 +101,16 @@ buildable {most} {job} n s =
     })
 
 -- of six of the lent lists only the lengths are told
-module _ (job : Job) (gains : List ℤ) (z : List ℕ) (l : ListLengths) where
+module _ (edition : ℕ) (job : Job) (gains : List ℤ) (z : List ℕ) (l : ListLengths) where
   abbrev pub fitWord : Bool
-  fitWord = fitsOf (fileCount job) (recipeCount job) (pinCount job) (length gains) (length z) l
+  fitWord = fitsOf edition (fileCount job) (recipeCount job) (pinCount job) (length gains) (length z) l
 
   -- some lists of these lengths
   abbrev some : Lent
   some =
       lentOf gains (replicate (l .tried) 0) (replicate (l .gained) (pos 0)) (replicate (l .cuts) 0) (replicate (l .ends) 0) (replicate (l .recipes) 0) (replicate (l .kinds) 0) z
 
-  some-fit : fits job some ≡ fitWord
+  some-fit : fits edition job some ≡ fitWord
   some-fit = rw (length-replicate {A = ℕ} (l .tried) 0, length-replicate (l .gained) (pos 0), length-replicate {A = ℕ} (l .cuts) 0, length-replicate {A = ℕ} (l .ends) 0, length-replicate {A = ℕ} (l .recipes) 0, length-replicate {A = ℕ} (l .kinds) 0) refl
 
   pub builders-ask : (most : Limits) → Narrow most → checkSound most job fitWord .number ≡ 0
@@ -118,10 +119,10 @@ module _ (job : Job) (gains : List ℤ) (z : List ℕ) (l : ListLengths) where
       × ((countsAt (length (job .sides)) (pinCount job) + 4 * recipeCount job ≤ length z) × Binary (job .sides)))
   builders-ask most n ok =
       let s = sound most job fitWord ok in
-      let r : LongEnough job some = long-enough job some (some-fit ∙ lent-sound most job fitWord ok) in (
+      let r : LongEnough edition job some = long-enough edition job some (some-fit ∙ lent-sound most job fitWord ok) in (
         buildable n s,
         (
           (r .gains ∙ sym (s .sidesLong), s .marksLong ∙ sym (s .sidesLong)),
-          (omega (arith, r .scratch, s .sidesLong), s .binary),
+          (omega (arith, r .scratch, numbers-least edition (pinCount job) (fileCount job) (recipeCount job), s .sidesLong), s .binary),
         ),
       )

@@ -45,7 +45,7 @@ side-at-settled κs a x y e f p q = both p q
 
 -- the answer, the gains and the scratch
 pub lay-out-settled : Settles 7 lay-out-kinds.ps lay-out-kinds.r (Survey × List ℤ × List ℕ)
-    (λ κs x e. (x, now (e .1 .1 .1 .1 .1 .1 .0), now (e .1 .1 .1 .1 .1 .1 .1 .0))) lay-out.Post
+    (λ κs x e. (x, now (e .1 .1 .1 .1 .1 .1 .1 .0), now (e .1 .1 .1 .1 .1 .1 .1 .1 .0))) lay-out.Post
 lay-out-settled κs a x y e f p q =
     let s = laid-once p q in
     λ i. (s .0 i, s .1 i, s .2 i)

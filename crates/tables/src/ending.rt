@@ -60,18 +60,19 @@ pub fn end_moves(
     clear(ends, moves, files);
 }
 
-// The scan lists end in zeros, from the number of scans up to 4N; all numbers of the scratch that the extent asks are zeros.
+// The scan lists end in zeros, from the number of scans up to 4N; all numbers of the scratch that the edition and the extent ask are zeros.
 pub fn end_scans(
     recipes: &mut [u16],
     kinds: &mut [u16],
     scratch: &mut [u16],
     scans: usize,
+    edition: u16,
     extent: Extent,
 )
-    ensures { λ _. ⌜ (now (recipes .exit) ≡ clearedIn scans (4 * extent .recipes) 0 (now (recipes .entry))) × (now (kinds .exit) ≡ clearedIn scans (4 * extent .recipes) 0 (now (kinds .entry))) × (now (scratch .exit) ≡ clearedIn 0 (scratchNumbers (extent .pins) (extent .files) (extent .recipes)) 0 (now (scratch .entry))) ⌝ }
+    ensures { λ _. ⌜ (now (recipes .exit) ≡ clearedIn scans (4 * extent .recipes) 0 (now (recipes .entry))) × (now (kinds .exit) ≡ clearedIn scans (4 * extent .recipes) 0 (now (kinds .entry))) × (now (scratch .exit) ≡ clearedIn 0 (scratchNumbers edition (extent .pins) (extent .files) (extent .recipes)) 0 (now (scratch .entry))) ⌝ }
 {
     let most = scans_for(extent);
-    let numbers = numbers_for(extent);
+    let numbers = numbers_for(edition, extent);
     clear(recipes, scans, most);
     clear(kinds, scans, most);
     clear(scratch, 0, numbers);

@@ -15,9 +15,10 @@ pub struct ListLengths {
     pub kinds: usize,
 }
 
-// Gains exactly C; each move list at least C, each scan list at least 4N, scratch at least its numbers.
+// Gains exactly C; each move list at least C, each scan list at least 4N, scratch at least its numbers by the edition.
 // A job over its most is refused before this is looked at.
 pub(crate) fn lists_fit(
+    edition: u16,
     c: usize,
     n: usize,
     p: usize,
@@ -25,7 +26,7 @@ pub(crate) fn lists_fit(
     scratch: usize,
     lists: ListLengths,
 ) -> bool
-    ensures { λ r. do ⌜ WordOn (← ⟦Job::MOST_FILES⟧ .entry) (← ⟦Job::MOST_RECIPES⟧ .entry) (← ⟦Job::MOST_PINS⟧ .entry) c n p r (fitsOf c n p gains scratch lists) ⌝ }
+    ensures { λ r. do ⌜ WordOn (← ⟦Job::MOST_FILES⟧ .entry) (← ⟦Job::MOST_RECIPES⟧ .entry) (← ⟦Job::MOST_PINS⟧ .entry) c n p r (fitsOf edition c n p gains scratch lists) ⌝ }
 {
     if (Job::MOST_FILES < c) | (Job::MOST_RECIPES < n) | (Job::MOST_PINS < p) {
         return false;
@@ -36,7 +37,7 @@ pub(crate) fn lists_fit(
         pins: p as u16,
     };
     let scans = scans_for(extent);
-    let numbers = numbers_for(extent);
+    let numbers = numbers_for(edition, extent);
     let moves = (gains == c)
         & (c <= lists.tried)
         & (c <= lists.gained)

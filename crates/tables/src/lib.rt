@@ -29,9 +29,10 @@ ghost use Rattle.job.specs.Parts.{wholeJob};
 ghost use Rattle.tables.specs.LentFits.{fitsOf};
 ghost use Rattle.tables.specs.LayingOut.{LaysOut};
 
-// The check of a pass or of the balancing, with the lengths of the lent lists under 3; where it lets through, cells, locks and counts are laid out in the
+// The check of a pass by an edition or of the balancing, with the lengths of the lent lists under 3; where it lets through, cells, locks and counts are laid out in the
 // scratch, and the gains are the starting ones. Of the move lists and scan lists only their lengths are told.
 pub fn lay_out(
+    edition: u16,
     job: Job,
     sizes: &[u16],
     sides: &[u16],
@@ -43,9 +44,10 @@ pub fn lay_out(
     lists: ListLengths,
     balancing: bool,
 ) -> Survey
-    ensures { λ r. do ⌜ LaysOut balancing (limitsOf (← ⟦Job::MOST_FILES⟧ .entry) (← ⟦Job::MOST_RECIPES⟧ .entry) (← ⟦Job::MOST_PINS⟧ .entry) (← ⟦Job::MOST_DEN⟧ .entry)) (wholeJob job (now (sizes .entry)) (now (sides .entry)) (now (marks .entry)) (now (bounds .entry)) (now (pins .entry))) (fitsOf (length (now (sizes .entry))) (length (now (bounds .entry)) - 1) (length (now (pins .entry))) (length (now (gains .entry))) (length (now (scratch .entry))) lists) (now (gains .entry)) (now (scratch .entry)) (now (gains .exit)) (now (scratch .exit)) r ⌝ }
+    ensures { λ r. do ⌜ LaysOut balancing (limitsOf (← ⟦Job::MOST_FILES⟧ .entry) (← ⟦Job::MOST_RECIPES⟧ .entry) (← ⟦Job::MOST_PINS⟧ .entry) (← ⟦Job::MOST_DEN⟧ .entry)) (wholeJob job (now (sizes .entry)) (now (sides .entry)) (now (marks .entry)) (now (bounds .entry)) (now (pins .entry))) (fitsOf edition (length (now (sizes .entry))) (length (now (bounds .entry)) - 1) (length (now (pins .entry))) (length (now (gains .entry))) (length (now (scratch .entry))) lists) (now (gains .entry)) (now (scratch .entry)) (now (gains .exit)) (now (scratch .exit)) r ⌝ }
 {
     let fit = lists_fit(
+        edition,
         sizes.len(),
         recipe_count(bounds),
         pins.len(),

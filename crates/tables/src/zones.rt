@@ -43,14 +43,19 @@ pub fn side_at(extent: Extent, u: u16) -> usize
     zones.counts + wide(extent.recipes)
 }
 
-// The numbers of the scratch, and those of the largest job; they agree.
-pub const MOST_NUMBERS: usize = Job::MOST_PINS + 4 * Job::MOST_FILES + 4 * Job::MOST_RECIPES + 16;
+// The numbers of the scratch by an edition, and those of the largest job by edition 2, which has the most; they agree.
+pub const MOST_NUMBERS: usize = Job::MOST_PINS + 4 * Job::MOST_FILES + 8 * Job::MOST_RECIPES + 16;
 
-pub(crate) fn numbers_for(extent: Extent) -> usize
-    ensures { λ r. ⌜ r ≡ scratchNumbers (extent .pins) (extent .files) (extent .recipes) ⌝ }
-    ensures { λ _. do ⌜ (← ⟦MOST_NUMBERS⟧ .entry) ≡ scratchNumbers (← ⟦Job::MOST_PINS⟧ .entry) (← ⟦Job::MOST_FILES⟧ .entry) (← ⟦Job::MOST_RECIPES⟧ .entry) ⌝ }
+pub(crate) fn numbers_for(edition: u16, extent: Extent) -> usize
+    ensures { λ r. ⌜ r ≡ scratchNumbers edition (extent .pins) (extent .files) (extent .recipes) ⌝ }
+    ensures { λ _. do ⌜ (← ⟦MOST_NUMBERS⟧ .entry) ≡ scratchNumbers 2 (← ⟦Job::MOST_PINS⟧ .entry) (← ⟦Job::MOST_FILES⟧ .entry) (← ⟦Job::MOST_RECIPES⟧ .entry) ⌝ }
 {
-    wide(extent.pins) + 4 * wide(extent.files) + scans_for(extent) + 16
+    let counts = scans_for(extent);
+    let numbers = wide(extent.pins) + 4 * wide(extent.files) + counts + 16;
+    if edition == 2 {
+        return numbers + counts;
+    }
+    numbers
 }
 
 // The scans that a pass may list, and those of the largest job.

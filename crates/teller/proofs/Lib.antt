@@ -1,3 +1,4 @@
 pub mod Telling
+pub mod Named
 pub mod WholeInput
 pub mod Unique

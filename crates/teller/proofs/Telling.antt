@@ -30,55 +30,55 @@ pub refusal-told : (most : Limits) {v : Verdict} {a : RunFigures} {x : Printing}
 refusal-told most {v} sizes marks sides room e f h = e ∙ ap (λ (r : RunFigures). reporting most sizes marks r sides room) f ∙ reporting-refusal most sizes marks (noRunFigures v) sides room h
 
 -- a run with the teller's own lists, reported
-pub run-printed : (most : Limits) (job : Job) (a : Printed) (f : RunFigures) (sides room room' : List ℕ) (own lent : Lent) → endedOf f sides lent ≡ runEnds most job own → own ≡ allLent most job
+pub run-printed : (edition : ℕ) (most : Limits) (job : Job) (a : Printed) (f : RunFigures) (sides room room' : List ℕ) (own lent : Lent) → endedOf f sides lent ≡ runEnds edition most job own → own ≡ allLent most job
     → printed a room' ≡ reporting most (job .sizes) (job .marks) f sides room
-    → (printed a room' ≡ intoRoom (runReport most job) room) × (a .verdict .number ≢ 3 → a .verdict .number ≡ 0)
-run-printed most job a f sides room room' own lent e q g =
-    let ran : endedOf f sides lent ≡ allRun most job = e ∙ ap (runEnds most job) q in
-    let told : printed a room' ≡ intoRoom (runReport most job) room
-    = g ∙ ap (λ (x : Ended RunFigures). reporting most (job .sizes) (job .marks) (x .answer) (x .sides) room) ran ∙ run-told most job (allLent most job) room in
-    (told, into-number (runReport most job) room room' a told)
+    → (printed a room' ≡ intoRoom (runReport edition most job) room) × (a .verdict .number ≢ 3 → a .verdict .number ≡ 0)
+run-printed edition most job a f sides room room' own lent e q g =
+    let ran : endedOf f sides lent ≡ allRun edition most job = e ∙ ap (runEnds edition most job) q in
+    let told : printed a room' ≡ intoRoom (runReport edition most job) room
+    = g ∙ ap (λ (x : Ended RunFigures). reporting most (job .sizes) (job .marks) (x .answer) (x .sides) room) ran ∙ run-told edition most job (allLent most job) room in
+    (told, into-number (runReport edition most job) room room' a told)
 
 -- one pass with them, traced
-pub pass-printed : (most : Limits) (job : Job) (a : Printed) (f : Figures) (sides room room' : List ℕ) (own lent : Lent) → endedOf f sides lent ≡ passEnds most job own → own ≡ allLent most job
+pub pass-printed : (edition : ℕ) (most : Limits) (job : Job) (a : Printed) (f : Figures) (sides room room' : List ℕ) (own lent : Lent) → endedOf f sides lent ≡ passEnds edition most job own → own ≡ allLent most job
     → printed a room' ≡ tracing most (job .sizes) (job .marks) f sides (listing lent) room
-    → (printed a room' ≡ intoRoom (passTrace most job) room) × (a .verdict .number ≢ 3 → a .verdict .number ≡ 0) × (holdsPass (job .sizes) f (listing lent) ≡ true)
+    → (printed a room' ≡ intoRoom (passTrace edition most job) room) × (a .verdict .number ≢ 3 → a .verdict .number ≡ 0) × (holdsPass (job .sizes) f (listing lent) ≡ true)
     × (length sides ≡ length (job .sides)) × (length (lent .recipes) ≡ 4 * most .recipes)
-pass-printed most job a f sides room room' own lent e q g =
-    let made : endedOf f sides lent ≡ passEnds most job (allLent most job) = e ∙ ap (passEnds most job) q in
-    let long = pass-long most job (allLent most job) in
-    let told : printed a room' ≡ intoRoom (passTrace most job) room
-    = g ∙ ap (λ (x : Ended Figures). tracing most (job .sizes) (job .marks) (x .answer) (x .sides) (listing (x .lent)) room) made ∙ pass-traced most job (allLent most job) room in (
+pass-printed edition most job a f sides room room' own lent e q g =
+    let made : endedOf f sides lent ≡ passEnds edition most job (allLent most job) = e ∙ ap (passEnds edition most job) q in
+    let long = pass-long edition most job (allLent most job) in
+    let told : printed a room' ≡ intoRoom (passTrace edition most job) room
+    = g ∙ ap (λ (x : Ended Figures). tracing most (job .sizes) (job .marks) (x .answer) (x .sides) (listing (x .lent)) room) made ∙ pass-traced edition most job (allLent most job) room in (
       told,
-      into-number (passTrace most job) room room' a told,
-      ap (λ (x : Ended Figures). holdsPass (job .sizes) (x .answer) (listing (x .lent))) made ∙ pass-held most job (allLent most job) (length-replicate (fileCount job) (pos 0)),
+      into-number (passTrace edition most job) room room' a told,
+      ap (λ (x : Ended Figures). holdsPass (job .sizes) (x .answer) (listing (x .lent))) made ∙ pass-held edition most job (allLent most job) (length-replicate (fileCount job) (pos 0)),
       ap (λ (x : Ended Figures). length (x .sides)) made ∙ long .0,
       ap (λ (x : Ended Figures). length (x .lent .recipes)) made ∙ long .1 ∙ length-replicate (4 * most .recipes) 0,
     )
 
 -- ---- of a stored job that was taken up
 
-module _ (most : Limits) (bytes : List ℕ) (t : TakenUp) (e : t .read ≡ takingUp most bytes .answer) (f : listsOf t ≡ takingUp most bytes .room) where
+module _ (edition : ℕ) (most : Limits) (bytes : List ℕ) (t : TakenUp) (e : t .read ≡ takingUp most bytes .answer) (f : listsOf t ≡ takingUp most bytes .room) where
   -- what reading refuses
   module _ (n : t .read .verdict .number ≢ 0) where
     refused : readVerdict most bytes (allRoom most) .number ≢ 0
     refused z = n (number-read most bytes t e f ∙ z)
 
-    pub night-refused : refusal (t .read .verdict) ≡ prints most bytes
-    night-refused = ap refusal (verdict-read most bytes t e f) ∙ sym (prints-no most bytes refused)
+    pub night-refused : refusal (t .read .verdict) ≡ prints edition most bytes
+    night-refused = ap refusal (verdict-read most bytes t e f) ∙ sym (prints-no edition most bytes refused)
 
-    pub trace-refused : refusal (t .read .verdict) ≡ traces most bytes
-    trace-refused = ap refusal (verdict-read most bytes t e f) ∙ sym (traces-no most bytes refused)
+    pub trace-refused : refusal (t .read .verdict) ≡ traces edition most bytes
+    trace-refused = ap refusal (verdict-read most bytes t e f) ∙ sym (traces-no edition most bytes refused)
 
   -- and what it lets through
   module _ (z : t .read .verdict .number ≡ 0) where
     let-through : readVerdict most bytes (allRoom most) .number ≡ 0
     let-through = sym (number-read most bytes t e f) ∙ z
 
-    pub night-read : runReport most (jobTaken t) ≡ prints most bytes
+    pub night-read : runReport edition most (jobTaken t) ≡ prints edition most bytes
     unfolding prints
-    night-read = ap (runReport most) (job-read most bytes t e f z) ∙ sym (rw (eq-eqb (readVerdict most bytes (allRoom most) .number) 0 let-through, prints) refl)
+    night-read = ap (runReport edition most) (job-read most bytes t e f z) ∙ sym (rw (eq-eqb (readVerdict most bytes (allRoom most) .number) 0 let-through, prints) refl)
 
-    pub trace-read : passTrace most (jobTaken t) ≡ traces most bytes
+    pub trace-read : passTrace edition most (jobTaken t) ≡ traces edition most bytes
     unfolding traces
-    trace-read = ap (passTrace most) (job-read most bytes t e f z) ∙ sym (rw (eq-eqb (readVerdict most bytes (allRoom most) .number) 0 let-through, traces) refl)
+    trace-read = ap (passTrace edition most) (job-read most bytes t e f z) ∙ sym (rw (eq-eqb (readVerdict most bytes (allRoom most) .number) 0 let-through, traces) refl)

@@ -8,8 +8,8 @@ use Rattle.rules.specs.Trace.{traces}
 use Rattle.rules.proofs.CutOff.{longer-same}
 use Rattle.layout.proofs.WholeInput.{most, inputBytes, input-whole}
 
-pub night-whole : (bytes : List ℕ) → prints most (take inputBytes bytes) ≡ prints most bytes
-night-whole bytes = longer-same most inputBytes bytes .same input-whole
+pub night-whole : (edition : ℕ) (bytes : List ℕ) → prints edition most (take inputBytes bytes) ≡ prints edition most bytes
+night-whole edition bytes = longer-same most inputBytes bytes .same edition input-whole
 
-pub trace-whole : (bytes : List ℕ) → traces most (take inputBytes bytes) ≡ traces most bytes
-trace-whole bytes = longer-same most inputBytes bytes .traced input-whole
+pub trace-whole : (edition : ℕ) (bytes : List ℕ) → traces edition most (take inputBytes bytes) ≡ traces edition most bytes
+trace-whole edition bytes = longer-same most inputBytes bytes .traced edition input-whole

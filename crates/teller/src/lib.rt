@@ -1,4 +1,7 @@
-// A stored job's bytes in, the bytes that tell of it out: the night's report, or the trace of one pass.
+// A stored job's bytes in, the bytes that tell of it out: the night's report, or the trace of one pass, by an edition of the choice.
+mod arguments;
+
+pub use arguments::edition_named;
 use job::Job;
 use rules::Printed;
 use rules::Verdict;
@@ -9,6 +12,7 @@ ghost use Prim.Native.Nat.{_≤_};
 ghost use lib.ListN.{length};
 ghost use Rattle.rules.specs.Job.{limitsOf, lentOf};
 ghost use Rattle.job.specs.Parts.{wholeJob};
+ghost use Rattle.rules.specs.Check.{checkEdition};
 ghost use Rattle.rules.specs.Report.{refusal, «printed», intoRoom, allLent, prints};
 ghost use Rattle.rules.specs.Trace.{traces};
 ghost use Rattle.report.specs.Lending.{Answered, Lendable};
@@ -43,8 +47,21 @@ fn print_refusal(verdict: Verdict, out: &mut [u8]) -> Printed
     report::report(runs::refused(verdict), &[], &[], &[], out)
 }
 
-// The report of the job's run, with the lists that a run is lent.
+// The line of an argument that names no edition there is.
+pub fn refuse_edition(out: &mut [u8]) -> Printed
+    ensures { λ r. ⌜ «printed» r (now (out .exit)) ≡ intoRoom (refusal (checkEdition 0)) (now (out .entry)) ⌝ }
+    ensures { λ r. do ⌜ Answered (← ⟦TEXT_BYTES⟧ .entry) (r .verdict) (now (out .entry)) × Lendable (r .bytes) (now (out .exit)) ⌝ }
+{
+    let verdict = Verdict {
+        number: 32,
+        place: 0,
+    };
+    print_refusal(verdict, out)
+}
+
+// The report of the job's run by an edition of the choice, with the lists that a run is lent.
 fn report_run(
+    edition: u16,
     job: Job,
     sizes: &[u16],
     sides: &mut [u16],
@@ -63,10 +80,11 @@ fn report_run(
 ) -> Printed
     requires { do ⌜ (length (now sizes) ≤ (← ⟦Job::MOST_FILES⟧)) × (length (now sides) ≡ length (now sizes)) × (length (now marks) ≡ length (now sizes)) ⌝ }
     requires { do ⌜ lentOf (now gains) (now tried) (now gained) (now cuts) (now ends) (now recipes) (now kinds) (now scratch) ≡ allLent (limitsOf (← ⟦Job::MOST_FILES⟧) (← ⟦Job::MOST_RECIPES⟧) (← ⟦Job::MOST_PINS⟧) (← ⟦Job::MOST_DEN⟧)) (wholeJob job (now sizes) (now sides) (now marks) (now bounds) (now pins)) ⌝ }
-    ensures { λ r. do ⌜ «printed» r (now (out .exit)) ≡ intoRoom (runReport (limitsOf (← ⟦Job::MOST_FILES⟧ .entry) (← ⟦Job::MOST_RECIPES⟧ .entry) (← ⟦Job::MOST_PINS⟧ .entry) (← ⟦Job::MOST_DEN⟧ .entry)) (wholeJob job (now (sizes .entry)) (now (sides .entry)) (now (marks .entry)) (now (bounds .entry)) (now (pins .entry)))) (now (out .entry)) ⌝ }
+    ensures { λ r. do ⌜ «printed» r (now (out .exit)) ≡ intoRoom (runReport edition (limitsOf (← ⟦Job::MOST_FILES⟧ .entry) (← ⟦Job::MOST_RECIPES⟧ .entry) (← ⟦Job::MOST_PINS⟧ .entry) (← ⟦Job::MOST_DEN⟧ .entry)) (wholeJob job (now (sizes .entry)) (now (sides .entry)) (now (marks .entry)) (now (bounds .entry)) (now (pins .entry)))) (now (out .entry)) ⌝ }
     ensures { λ r. do ⌜ Answered (← ⟦TEXT_BYTES⟧ .entry) (r .verdict) (now (out .entry)) ⌝ }
 {
     let f = runs::run(
+        edition,
         job,
         sizes,
         sides,
@@ -86,9 +104,9 @@ fn report_run(
 }
 
 // The same of a job that was taken up, with lists of the teller's own.
-fn report_job(t: TakenUp, out: &mut [u8]) -> Printed
+fn report_job(edition: u16, t: TakenUp, out: &mut [u8]) -> Printed
     requires { do ⌜ Held (limitsOf (← ⟦Job::MOST_FILES⟧) (← ⟦Job::MOST_RECIPES⟧) (← ⟦Job::MOST_PINS⟧) (← ⟦Job::MOST_DEN⟧)) t ⌝ }
-    ensures { λ r. do ⌜ «printed» r (now (out .exit)) ≡ intoRoom (runReport (limitsOf (← ⟦Job::MOST_FILES⟧ .entry) (← ⟦Job::MOST_RECIPES⟧ .entry) (← ⟦Job::MOST_PINS⟧ .entry) (← ⟦Job::MOST_DEN⟧ .entry)) (jobTaken t)) (now (out .entry)) ⌝ }
+    ensures { λ r. do ⌜ «printed» r (now (out .exit)) ≡ intoRoom (runReport edition (limitsOf (← ⟦Job::MOST_FILES⟧ .entry) (← ⟦Job::MOST_RECIPES⟧ .entry) (← ⟦Job::MOST_PINS⟧ .entry) (← ⟦Job::MOST_DEN⟧ .entry)) (jobTaken t)) (now (out .entry)) ⌝ }
     ensures { λ r. do ⌜ Answered (← ⟦TEXT_BYTES⟧ .entry) (r .verdict) (now (out .entry)) ⌝ }
 {
     let read = t.read;
@@ -111,6 +129,7 @@ fn report_job(t: TakenUp, out: &mut [u8]) -> Printed
     let mut kinds = [0u16; tables::MOST_SCANS];
     let mut scratch = [0u16; tables::MOST_NUMBERS];
     report_run(
+        edition,
         job,
         &sizes[..c],
         &mut sides[..c],
@@ -129,9 +148,9 @@ fn report_job(t: TakenUp, out: &mut [u8]) -> Printed
     )
 }
 
-// The night's report of a stored job: what the program `night` prints, for every input.
-pub fn night(input: &[u8], out: &mut [u8]) -> Printed
-    ensures { λ r. do ⌜ «printed» r (now (out .exit)) ≡ intoRoom (prints (limitsOf (← ⟦Job::MOST_FILES⟧ .entry) (← ⟦Job::MOST_RECIPES⟧ .entry) (← ⟦Job::MOST_PINS⟧ .entry) (← ⟦Job::MOST_DEN⟧ .entry)) (now (input .entry))) (now (out .entry)) ⌝ }
+// The night's report of a stored job by an edition: what the program `edition` prints where its argument names that edition, and `night` by edition 1, for every input.
+pub fn night(edition: u16, input: &[u8], out: &mut [u8]) -> Printed
+    ensures { λ r. do ⌜ «printed» r (now (out .exit)) ≡ intoRoom (prints edition (limitsOf (← ⟦Job::MOST_FILES⟧ .entry) (← ⟦Job::MOST_RECIPES⟧ .entry) (← ⟦Job::MOST_PINS⟧ .entry) (← ⟦Job::MOST_DEN⟧ .entry)) (now (input .entry))) (now (out .entry)) ⌝ }
     ensures { λ r. do ⌜ Answered (← ⟦TEXT_BYTES⟧ .entry) (r .verdict) (now (out .entry)) × Lendable (r .bytes) (now (out .exit)) ⌝ }
 {
     let t = stored::take_up(input);
@@ -140,11 +159,12 @@ pub fn night(input: &[u8], out: &mut [u8]) -> Printed
     if v.number != 0 {
         return print_refusal(v, out);
     }
-    report_job(t, out)
+    report_job(edition, t, out)
 }
 
-// The trace of one pass over the job, with the lists that a pass is lent.
+// The trace of one pass by an edition over the job, with the lists that a pass is lent.
 fn trace_pass(
+    edition: u16,
     job: Job,
     sizes: &[u16],
     sides: &mut [u16],
@@ -163,10 +183,11 @@ fn trace_pass(
 ) -> Printed
     requires { do ⌜ (length (now sizes) ≤ (← ⟦Job::MOST_FILES⟧)) × (length (now sides) ≡ length (now sizes)) × (length (now marks) ≡ length (now sizes)) ⌝ }
     requires { do ⌜ lentOf (now gains) (now tried) (now gained) (now cuts) (now ends) (now recipes) (now kinds) (now scratch) ≡ allLent (limitsOf (← ⟦Job::MOST_FILES⟧) (← ⟦Job::MOST_RECIPES⟧) (← ⟦Job::MOST_PINS⟧) (← ⟦Job::MOST_DEN⟧)) (wholeJob job (now sizes) (now sides) (now marks) (now bounds) (now pins)) ⌝ }
-    ensures { λ r. do ⌜ «printed» r (now (out .exit)) ≡ intoRoom (passTrace (limitsOf (← ⟦Job::MOST_FILES⟧ .entry) (← ⟦Job::MOST_RECIPES⟧ .entry) (← ⟦Job::MOST_PINS⟧ .entry) (← ⟦Job::MOST_DEN⟧ .entry)) (wholeJob job (now (sizes .entry)) (now (sides .entry)) (now (marks .entry)) (now (bounds .entry)) (now (pins .entry)))) (now (out .entry)) ⌝ }
+    ensures { λ r. do ⌜ «printed» r (now (out .exit)) ≡ intoRoom (passTrace edition (limitsOf (← ⟦Job::MOST_FILES⟧ .entry) (← ⟦Job::MOST_RECIPES⟧ .entry) (← ⟦Job::MOST_PINS⟧ .entry) (← ⟦Job::MOST_DEN⟧ .entry)) (wholeJob job (now (sizes .entry)) (now (sides .entry)) (now (marks .entry)) (now (bounds .entry)) (now (pins .entry)))) (now (out .entry)) ⌝ }
     ensures { λ r. do ⌜ Answered (← ⟦TRACE_BYTES⟧ .entry) (r .verdict) (now (out .entry)) ⌝ }
 {
     let f = split::pass_once(
+        edition,
         job,
         sizes,
         sides,
@@ -199,9 +220,9 @@ fn trace_pass(
 }
 
 // The same of a job that was taken up, with lists of the teller's own.
-fn trace_job(t: TakenUp, out: &mut [u8]) -> Printed
+fn trace_job(edition: u16, t: TakenUp, out: &mut [u8]) -> Printed
     requires { do ⌜ Held (limitsOf (← ⟦Job::MOST_FILES⟧) (← ⟦Job::MOST_RECIPES⟧) (← ⟦Job::MOST_PINS⟧) (← ⟦Job::MOST_DEN⟧)) t ⌝ }
-    ensures { λ r. do ⌜ «printed» r (now (out .exit)) ≡ intoRoom (passTrace (limitsOf (← ⟦Job::MOST_FILES⟧ .entry) (← ⟦Job::MOST_RECIPES⟧ .entry) (← ⟦Job::MOST_PINS⟧ .entry) (← ⟦Job::MOST_DEN⟧ .entry)) (jobTaken t)) (now (out .entry)) ⌝ }
+    ensures { λ r. do ⌜ «printed» r (now (out .exit)) ≡ intoRoom (passTrace edition (limitsOf (← ⟦Job::MOST_FILES⟧ .entry) (← ⟦Job::MOST_RECIPES⟧ .entry) (← ⟦Job::MOST_PINS⟧ .entry) (← ⟦Job::MOST_DEN⟧ .entry)) (jobTaken t)) (now (out .entry)) ⌝ }
     ensures { λ r. do ⌜ Answered (← ⟦TRACE_BYTES⟧ .entry) (r .verdict) (now (out .entry)) ⌝ }
 {
     let read = t.read;
@@ -224,6 +245,7 @@ fn trace_job(t: TakenUp, out: &mut [u8]) -> Printed
     let mut kinds = [0u16; tables::MOST_SCANS];
     let mut scratch = [0u16; tables::MOST_NUMBERS];
     trace_pass(
+        edition,
         job,
         &sizes[..c],
         &mut sides[..c],
@@ -242,9 +264,9 @@ fn trace_job(t: TakenUp, out: &mut [u8]) -> Printed
     )
 }
 
-// The trace of one pass over a stored job: what the program `trace` prints, for every input.
-pub fn trace(input: &[u8], out: &mut [u8]) -> Printed
-    ensures { λ r. do ⌜ «printed» r (now (out .exit)) ≡ intoRoom (traces (limitsOf (← ⟦Job::MOST_FILES⟧ .entry) (← ⟦Job::MOST_RECIPES⟧ .entry) (← ⟦Job::MOST_PINS⟧ .entry) (← ⟦Job::MOST_DEN⟧ .entry)) (now (input .entry))) (now (out .entry)) ⌝ }
+// The trace of one pass by an edition over a stored job: what the program `trace` prints, for every input.
+pub fn trace(edition: u16, input: &[u8], out: &mut [u8]) -> Printed
+    ensures { λ r. do ⌜ «printed» r (now (out .exit)) ≡ intoRoom (traces edition (limitsOf (← ⟦Job::MOST_FILES⟧ .entry) (← ⟦Job::MOST_RECIPES⟧ .entry) (← ⟦Job::MOST_PINS⟧ .entry) (← ⟦Job::MOST_DEN⟧ .entry)) (now (input .entry))) (now (out .entry)) ⌝ }
     ensures { λ r. do ⌜ Answered (← ⟦TRACE_BYTES⟧ .entry) (r .verdict) (now (out .entry)) × Lendable (r .bytes) (now (out .exit)) ⌝ }
 {
     let t = stored::take_up(input);
@@ -253,5 +275,5 @@ pub fn trace(input: &[u8], out: &mut [u8]) -> Printed
     if v.number != 0 {
         return print_refusal(v, out);
     }
-    trace_job(t, out)
+    trace_job(edition, t, out)
 }

@@ -23,8 +23,8 @@ returns c =
     let a = c .before .before .before .before .before .before .before .before .before .before .before .args in
     let t = c .before .before .before .before .before .before .before .before .take-up in
     let h = c .before .before .hand-refusal in
-    let e = h .ensures .0 ∙ ap (λ (x : HandedOut). handInto x (a .room .now)) (resettle-refused (limitsOf _ _ _ _) (a .input .now) (t .result) (t .ensures .0) (t .ensures .1) (c .before .before .before .before .if1 .taken)) in
-    (e, (λ long. h .ensures .1 (omega (arith, long)), both-lendable (resettles (limitsOf _ _ _ _) (a .input .now)) (a .room .now) _ (h .result) e))
+    let e = h .ensures .0 ∙ ap (λ (x : HandedOut). handInto x (a .room .now)) (resettle-refused (a .edition) (limitsOf _ _ _ _) (a .input .now) (t .result) (t .ensures .0) (t .ensures .1) (c .before .before .before .before .if1 .taken)) in
+    (e, (λ long. h .ensures .1 (omega (arith, long)), both-lendable (resettles (a .edition) (limitsOf _ _ _ _) (a .input .now)) (a .room .now) _ (h .result) e))
 
 resettle-job-requires : tie.Need-resettle-job-requires
 resettle-job-requires c κs =
@@ -42,8 +42,8 @@ returns-2 c =
     let a = c .before .before .before .before .before .before .before .before .before .before .before .args in
     let t = c .before .before .before .before .before .before .before .before .take-up in
     let j = c .before .before .resettle-job in
-    let e = j .ensures .0 ∙ ap (λ (x : HandedOut). handInto x (a .room .now)) (resettle-read (limitsOf _ _ _ _) (a .input .now) (t .result) (t .ensures .0) (t .ensures .1) (c .before .before .before .before .if1 .left)) in
-    (e, (j .ensures .1, both-lendable (resettles (limitsOf _ _ _ _) (a .input .now)) (a .room .now) _ (j .result) e))
+    let e = j .ensures .0 ∙ ap (λ (x : HandedOut). handInto x (a .room .now)) (resettle-read (a .edition) (limitsOf _ _ _ _) (a .input .now) (t .result) (t .ensures .0) (t .ensures .1) (c .before .before .before .before .if1 .left)) in
+    (e, (j .ensures .1, both-lendable (resettles (a .edition) (limitsOf _ _ _ _) (a .input .now)) (a .room .now) _ (j .result) e))
 
 pub resettle-spec : {M : Type 1} → statement M
 resettle-spec =

@@ -105,7 +105,7 @@ returns c =
     let a = c .before .before .before .before .before .before .before .before .before .before .before .before .before .before .before .before .before .before .before .before .before .before .before .before .before .before .before .before .before .before .before .before .before .before .before .before .before .before .args in
     let e = c .before .before .before .before .before .before .before .before .before .before .before .resettle-run .ensures in
     let whole = first-whole (a .t .read .header) (listsOf (a .t)) _ (c .before .before .before .before .before .before .before .before .before .before .before .before .before .before .before .before .before .before .before .before .before .before .before .before .before .before .before .before .before .before .before .figures-of .ensures) in
-    (e .0 ∙ ap (λ (j : Job). handInto (runOut most j) (a .room .now)) whole, e .1)
+    (e .0 ∙ ap (λ (j : Job). handInto (runOut (a .edition) most j) (a .room .now)) whole, e .1)
 
 pub resettle-job-spec : {M : Type 1} → statement M
 resettle-job-spec =

@@ -49,7 +49,7 @@ returns c =
     let start = c .before .before .before .before .before .before .before .before .before .before .before .before .before .before .before .before .before .before .before .before .before .before .before .before .before .before .before .before .before .before .before .before .before .before .before .before .before .before .before .before .before .before .before .before .before .before in
     let a = start .args in
     let job : Job = wholeJob (a .job) (a .sizes .now) (a .sides .now) (a .marks .now) (a .bounds .now) (a .pins .now) in
-    let o = run-refused (limitsOf _ _ _ _) job _ _ _ _ (c .before .before .before .before .before .before .before .before .before .before .before .before .before .before .before .before .before .before .before .before .before .before .before .before .run .ensures) (start .pre .0) (c .before .before .before .before .if1 .taken) in
+    let o = run-refused (a .edition) (limitsOf _ _ _ _) job _ _ _ _ (c .before .before .before .before .before .before .before .before .before .before .before .before .before .before .before .before .before .before .before .before .before .before .before .before .run .ensures) (start .pre .0) (c .before .before .before .before .if1 .taken) in
     let h = c .before .before .hand-refusal .ensures in
     (h .0 ∙ ap (λ (x : HandedOut). handInto x (a .room .now)) o, λ long. h .1 (omega (arith, long)))
 
@@ -58,7 +58,7 @@ hand-blocks-requires c κs =
     let start = c .before .before .before .before .before .before .before .before .before .before .before .before .before .before .before .before .before .before .before .before .before .before .before .before .before .before .before .before .before .before .before .before .before .before .before .before .before .before .before .before .before .before .before .before in
     let a = start .args in
     let job : Job = wholeJob (a .job) (a .sizes .now) (a .sides .now) (a .marks .now) (a .bounds .now) (a .pins .now) in
-    (run-writes (limitsOf _ _ _ _) job _ _ _ _ (c .before .before .before .before .before .before .before .before .before .before .before .before .before .before .before .before .before .before .before .before .before .before .run .ensures) (start .pre .0) (c .before .before .if1 .left), start .pre .1 .0)
+    (run-writes (a .edition) (limitsOf _ _ _ _) job _ _ _ _ (c .before .before .before .before .before .before .before .before .before .before .before .before .before .before .before .before .before .before .before .before .before .before .run .ensures) (start .pre .0) (c .before .before .if1 .left), start .pre .1 .0)
 
 same-length-11 : tie.Need-same-length-11
 same-length-11 c = search needs
@@ -95,7 +95,7 @@ returns-2 c =
     let start = c .before .before .before .before .before .before .before .before .before .before .before .before .before .before .before .before .before .before .before .before .before .before .before .before .before .before .before .before .before .before .before .before .before .before .before .before .before .before .before .before .before .before .before .before .before .before .before in
     let a = start .args in
     let job : Job = wholeJob (a .job) (a .sizes .now) (a .sides .now) (a .marks .now) (a .bounds .now) (a .pins .now) in
-    let o = run-made (limitsOf _ _ _ _) job _ _ _ _ (c .before .before .before .before .before .before .before .before .before .before .before .before .before .before .before .before .before .before .before .before .before .before .before .before .before .run .ensures) (start .pre .0) (c .before .before .before .before .before .if1 .left) in
+    let o = run-made (a .edition) (limitsOf _ _ _ _) job _ _ _ _ (c .before .before .before .before .before .before .before .before .before .before .before .before .before .before .before .before .before .before .before .before .before .before .before .before .before .run .ensures) (start .pre .0) (c .before .before .before .before .before .if1 .left) in
     let h = c .before .before .hand-blocks .ensures in
     (h .0 ∙ ap (λ (x : HandedOut). handInto x (a .room .now)) o, λ long. h .1 (omega (arith, long, start .pre .1 .1)))
 

@@ -20,15 +20,15 @@ abbrev most : Limits
 most = limitsOf (files.answer tt tt) (recipes.answer tt tt) (pins.answer tt tt) (den.answer tt tt)
 
 narrow : Narrow most
-narrow = record { files = omega arith; recipes = omega arith; pins = omega arith; den = omega arith }
+narrow = record { files = omega arith; recipes = omega arith; pins = omega arith; den = omega arith; links = omega arith }
 
 abbrev Inv-loop : tie.InvT-loop
-Inv-loop job sizes sides₀ marks bounds pins gains₀ tried₀ gained₀ cuts₀ ends₀ recipes₀ kinds₀ scratch₀ sum₀ sides gains tried gained cuts ends recipes kinds scratch sum =
-    Onward most (wholeJob job sizes sides₀ marks bounds pins) (lentOf gains₀ tried₀ gained₀ cuts₀ ends₀ recipes₀ kinds₀ scratch₀) sum sides
+Inv-loop edition job sizes sides₀ marks bounds pins gains₀ tried₀ gained₀ cuts₀ ends₀ recipes₀ kinds₀ scratch₀ sum₀ sides gains tried gained cuts ends recipes kinds scratch sum =
+    Onward edition most (wholeJob job sizes sides₀ marks bounds pins) (lentOf gains₀ tried₀ gained₀ cuts₀ ends₀ recipes₀ kinds₀ scratch₀) sum sides
     (lentOf gains tried gained cuts ends recipes kinds scratch)
 
 abbrev μ-loop : tie.MeasureT-loop
-μ-loop job sizes sides₀ marks bounds pins gains₀ tried₀ gained₀ cuts₀ ends₀ recipes₀ kinds₀ scratch₀ sum₀ sides gains tried gained cuts ends recipes kinds scratch sum =
+μ-loop edition job sizes sides₀ marks bounds pins gains₀ tried₀ gained₀ cuts₀ ends₀ recipes₀ kinds₀ scratch₀ sum₀ sides gains tried gained cuts ends recipes kinds scratch sum =
     toGo (wholeJob job sizes sides₀ marks bounds pins) sum
 
 -- ---- what the function came with
@@ -41,6 +41,9 @@ Passed = tie.After-pass-once Inv-loop μ-loop
 
 abbrev entry : At → tie.Start Inv-loop μ-loop
 entry a = a .before .before .before .before .before .before .before .before .before .before .before .before .before
+
+abbrev editionOf : At → ℕ
+editionOf a = entry a .args .edition
 
 abbrev jobOf : At → Job
 jobOf a =
@@ -57,16 +60,16 @@ lent a =
 abbrev atOf : Passed → At
 atOf p = p .before .before .before .before .before .before .before .before .before .before .before .before
 
-abbrev turn : (p : Passed) → (sides : List ℕ) × (left : Lent) × Turned most (jobOf (atOf p)) (lent (atOf p)) (atOf p .loop .sum) (p .pass-once .result) sides left
+abbrev turn : (p : Passed) → (sides : List ℕ) × (left : Lent) × Turned (editionOf (atOf p)) most (jobOf (atOf p)) (lent (atOf p)) (atOf p .loop .sum) (p .pass-once .result) sides left
 turn p =
     let go = sym (p .before .before .before .before .before .before .before .before .before .before .before .goes-on .ensures) ∙ p .before .before .before .before .before .before .before .before .before .before .if1 .taken in
-    (_, _, turn-made most (jobOf (atOf p)) (lent (atOf p)) narrow (atOf p .loop .inv) go _ _ _ (p .pass-once .ensures))
+    (_, _, turn-made (editionOf (atOf p)) most (jobOf (atOf p)) (lent (atOf p)) narrow (atOf p .loop .inv) go _ _ _ (p .pass-once .ensures))
 
 no-pass-requires : tie.Need-no-pass-requires Inv-loop μ-loop
 no-pass-requires c κs = tt
 
 loop-holds : tie.Need-loop-holds Inv-loop μ-loop
-loop-holds c = before-first most _ _ (c .no-pass .ensures)
+loop-holds c = before-first _ most _ _ (c .no-pass .ensures)
 
 goes-on-requires : tie.Need-goes-on-requires Inv-loop μ-loop
 goes-on-requires c κs = tt
@@ -87,7 +90,7 @@ loop-again c = rw (c .with-pass .ensures) (turn (c .before .before .before .befo
 
 kept : (a : At) → Alike (jobOf a) (lent a) (a .loop .sides)
     (lentOf (a .loop .gains) (a .loop .tried) (a .loop .gained) (a .loop .cuts) (a .loop .ends) (a .loop .recipes) (a .loop .kinds) (a .loop .scratch))
-kept a = alike most (jobOf a) (lent a) (a .loop .inv)
+kept a = alike (editionOf a) most (jobOf a) (lent a) (a .loop .inv)
 
 same-length : tie.Need-same-length Inv-loop μ-loop
 same-length c = kept (c .before .before) .sides
@@ -117,7 +120,7 @@ same-length-9 : tie.Need-same-length-9 Inv-loop μ-loop
 same-length-9 c = kept (c .before .before) .scratch
 
 returns : tie.Need-returns Inv-loop μ-loop
-returns c = run-ended most _ _ (c .before .before .loop .inv) (sym (c .before .goes-on .ensures) ∙ c .if1 .left)
+returns c = run-ended _ most _ _ (c .before .before .loop .inv) (sym (c .before .goes-on .ensures) ∙ c .if1 .left)
 
 pub run-spec : {M : Type 1} → statement M
 run-spec =

@@ -20,13 +20,13 @@ module _ (t : tie.After-survey) where
       wholeJob (s .args .job) (s .args .sizes .now) (s .args .sides .now) (s .args .marks .now) (s .args .bounds .now) (s .args .pins .now)
 
   abbrev word : Bool
-  word = fitWord job (s .args .gains .now) (s .args .scratch .now) (s .args .lists)
+  word = fitWord (s .args .edition) job (s .args .gains .now) (s .args .scratch .now) (s .args .lists)
 
   -- the job's own limits, and what the survey tells by them
   abbrev known : (most : Limits) × Surveyed (s .args .balancing) most job word (t .survey .result)
   known = (
     _,
-    surveyed _ _ job _ word (record { files = omega arith; recipes = omega arith; pins = omega arith; den = omega arith })
+    surveyed _ _ job _ word (record { files = omega arith; recipes = omega arith; pins = omega arith; den = omega arith; links = omega arith })
         (rw (t .before .before .recipe-count .ensures) at (t .before .lists-fit .ensures)) (t .survey .ensures),
   )
 
@@ -47,7 +47,7 @@ prepare-requires c κs =
     let e = c .before .before in
     let t = e .before .before .before in
     let x = s t .args in
-    builders-ask (job t) (x .gains .now) (x .scratch .now) (x .lists)
+    builders-ask (x .edition) (job t) (x .gains .now) (x .scratch .now) (x .lists)
     (known t .0) (known t .1 .narrow) (let-through (x .balancing) (known t .0) (job t) (word t) (known t .1 .answered) (e .if1 .left))
 
 same-length : tie.Need-same-length

@@ -25,8 +25,8 @@ returns c =
     let a = c .before .before .before .before .before .before .before .before .before .before .before .args in
     let t = c .before .before .before .before .before .before .before .before .take-up in
     let p = c .before .before .print-refusal in
-    let e = p .ensures .0 ∙ ap (λ (l : List ℕ). intoRoom l (a .out .now)) (night-refused (limitsOf _ _ _ _) (a .input .now) (t .result) (t .ensures .0) (t .ensures .1) (c .before .before .before .before .if1 .taken)) in
-    (e, (λ long. p .ensures .1 (omega (arith, long)), into-lendable (prints (limitsOf _ _ _ _) (a .input .now)) (a .out .now) _ (p .result) e))
+    let e = p .ensures .0 ∙ ap (λ (l : List ℕ). intoRoom l (a .out .now)) (night-refused (a .edition) (limitsOf _ _ _ _) (a .input .now) (t .result) (t .ensures .0) (t .ensures .1) (c .before .before .before .before .if1 .taken)) in
+    (e, (λ long. p .ensures .1 (omega (arith, long)), into-lendable (prints (a .edition) (limitsOf _ _ _ _) (a .input .now)) (a .out .now) _ (p .result) e))
 
 report-job-requires : tie.Need-report-job-requires
 report-job-requires c κs =
@@ -41,8 +41,8 @@ returns-2 c =
     let a = c .before .before .before .before .before .before .before .before .before .before .before .args in
     let t = c .before .before .before .before .before .before .before .before .take-up in
     let p = c .before .before .report-job in
-    let e = p .ensures .0 ∙ ap (λ (l : List ℕ). intoRoom l (a .out .now)) (night-read (limitsOf _ _ _ _) (a .input .now) (t .result) (t .ensures .0) (t .ensures .1) (c .before .before .before .before .if1 .left)) in
-    (e, (p .ensures .1, into-lendable (prints (limitsOf _ _ _ _) (a .input .now)) (a .out .now) _ (p .result) e))
+    let e = p .ensures .0 ∙ ap (λ (l : List ℕ). intoRoom l (a .out .now)) (night-read (a .edition) (limitsOf _ _ _ _) (a .input .now) (t .result) (t .ensures .0) (t .ensures .1) (c .before .before .before .before .if1 .left)) in
+    (e, (p .ensures .1, into-lendable (prints (a .edition) (limitsOf _ _ _ _) (a .input .now)) (a .out .now) _ (p .result) e))
 
 pub night-spec : {M : Type 1} → statement M
 night-spec =

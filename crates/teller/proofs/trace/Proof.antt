@@ -26,8 +26,8 @@ returns c =
     let a = c .before .before .before .before .before .before .before .before .before .before .before .args in
     let t = c .before .before .before .before .before .before .before .before .take-up in
     let p = c .before .before .print-refusal in
-    let e = p .ensures .0 ∙ ap (λ (l : List ℕ). intoRoom l (a .out .now)) (trace-refused (limitsOf _ _ _ _) (a .input .now) (t .result) (t .ensures .0) (t .ensures .1) (c .before .before .before .before .if1 .taken)) in
-    (e, (λ long. p .ensures .1 (omega (arith, long)), into-lendable (traces (limitsOf _ _ _ _) (a .input .now)) (a .out .now) _ (p .result) e))
+    let e = p .ensures .0 ∙ ap (λ (l : List ℕ). intoRoom l (a .out .now)) (trace-refused (a .edition) (limitsOf _ _ _ _) (a .input .now) (t .result) (t .ensures .0) (t .ensures .1) (c .before .before .before .before .if1 .taken)) in
+    (e, (λ long. p .ensures .1 (omega (arith, long)), into-lendable (traces (a .edition) (limitsOf _ _ _ _) (a .input .now)) (a .out .now) _ (p .result) e))
 
 trace-job-requires : tie.Need-trace-job-requires
 trace-job-requires c κs =
@@ -42,8 +42,8 @@ returns-2 c =
     let a = c .before .before .before .before .before .before .before .before .before .before .before .args in
     let t = c .before .before .before .before .before .before .before .before .take-up in
     let p = c .before .before .trace-job in
-    let e = p .ensures .0 ∙ ap (λ (l : List ℕ). intoRoom l (a .out .now)) (trace-read (limitsOf _ _ _ _) (a .input .now) (t .result) (t .ensures .0) (t .ensures .1) (c .before .before .before .before .if1 .left)) in
-    (e, (p .ensures .1, into-lendable (traces (limitsOf _ _ _ _) (a .input .now)) (a .out .now) _ (p .result) e))
+    let e = p .ensures .0 ∙ ap (λ (l : List ℕ). intoRoom l (a .out .now)) (trace-read (a .edition) (limitsOf _ _ _ _) (a .input .now) (t .result) (t .ensures .0) (t .ensures .1) (c .before .before .before .before .if1 .left)) in
+    (e, (p .ensures .1, into-lendable (traces (a .edition) (limitsOf _ _ _ _) (a .input .now)) (a .out .now) _ (p .result) e))
 
 pub trace-spec : {M : Type 1} → statement M
 trace-spec =

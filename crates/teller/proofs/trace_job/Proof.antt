@@ -109,7 +109,7 @@ returns c =
     let a = c .before .before .before .before .before .before .before .before .before .before .before .before .before .before .before .before .before .before .before .before .before .before .before .before .before .before .before .before .before .before .before .before .before .before .before .before .before .before .args in
     let e = c .before .before .before .before .before .before .before .before .before .before .before .trace-pass .ensures in
     let whole = first-whole (a .t .read .header) (listsOf (a .t)) _ (c .before .before .before .before .before .before .before .before .before .before .before .before .before .before .before .before .before .before .before .before .before .before .before .before .before .before .before .before .before .before .before .figures-of .ensures) in
-    (e .0 ∙ ap (λ (j : Job). intoRoom (passTrace most j) (a .out .now)) whole, e .1)
+    (e .0 ∙ ap (λ (j : Job). intoRoom (passTrace (a .edition) most j) (a .out .now)) whole, e .1)
 
 pub trace-job-spec : {M : Type 1} → statement M
 trace-job-spec =

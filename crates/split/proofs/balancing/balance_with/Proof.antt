@@ -49,17 +49,17 @@ module _ (t : tie.After-lay-out Inv-loop μ-loop) where
   lists = ownLent (length (s .args .sizes .now)) (s .args .gains .now) (s .args .recipes .now) (s .args .kinds .now) (s .args .scratch .now)
 
   -- the job's own limits, and the answer by them
-  abbrev known : (most : Limits) × Accepting true most job lists (t .lay-out .last .1 .1 .1 .1 .1 .1 .0) (t .lay-out .last .1 .1 .1 .1 .1 .1 .1 .0) (t .lay-out .result)
+  abbrev known : (most : Limits) × Accepting 1 true most job lists (t .lay-out .last .1 .1 .1 .1 .1 .1 .1 .0) (t .lay-out .last .1 .1 .1 .1 .1 .1 .1 .1 .0) (t .lay-out .result)
   known = (
     _,
     own-accepting _ job (s .args .gains .now) (s .args .recipes .now) (s .args .kinds .now) (s .args .scratch .now) (s .pre) (t .lay-out .ensures)
-        (record { files = omega arith; recipes = omega arith; pins = omega arith; den = omega arith })
+        (record { files = omega arith; recipes = omega arith; pins = omega arith; den = omega arith; links = omega arith })
         (λ i. omega (arith, t .before .before .before .before .before .before .before .before .before .before .before .shared-slice-known .given i)),
   )
 
 -- the answer, by the limits
 survey : (t : tie.After-lay-out Inv-loop μ-loop)
-    → Accepting true (known t .0) (job t) (lists t) (t .lay-out .last .1 .1 .1 .1 .1 .1 .0) (t .lay-out .last .1 .1 .1 .1 .1 .1 .1 .0) (t .lay-out .result)
+    → Accepting 1 true (known t .0) (job t) (lists t) (t .lay-out .last .1 .1 .1 .1 .1 .1 .1 .0) (t .lay-out .last .1 .1 .1 .1 .1 .1 .1 .1 .0) (t .lay-out .result)
 survey t = known t .1
 
 lay-out-requires : tie.Need-lay-out-requires Inv-loop μ-loop
@@ -72,10 +72,10 @@ same-length : tie.Need-same-length Inv-loop μ-loop
 same-length c = refl
 
 same-length-2 : tie.Need-same-length-2 Inv-loop μ-loop
-same-length-2 c = c .before .before .before .before .before .before .lay-out .kept .1 .1 .1 .1 .1 .1 .0
+same-length-2 c = c .before .before .before .before .before .before .lay-out .kept .1 .1 .1 .1 .1 .1 .1 .0
 
 same-length-3 : tie.Need-same-length-3 Inv-loop μ-loop
-same-length-3 c = c .before .before .before .before .before .before .lay-out .kept .1 .1 .1 .1 .1 .1 .1 .0
+same-length-3 c = c .before .before .before .before .before .before .lay-out .kept .1 .1 .1 .1 .1 .1 .1 .1 .0
 
 returns : tie.Need-returns Inv-loop μ-loop
 returns c =
@@ -96,7 +96,7 @@ module _ (n : tie.After-new Inv-loop μ-loop) where
   plays = playable (survey laid) clear (n .before .window-of .ensures)
 
   begins : BalanceUnderway (job laid) (lists laid) (n .before .window-of .result) (s laid .args .sides .now)
-      (treated (laid .lay-out .last .1 .1 .1 .1 .1 .1 .1 .0) (laid .lay-out .last .1 .1 .1 .1 .1 .1 .0) (s laid .args .recipes .now) (s laid .args .kinds .now) (n .new .result))
+      (treated (laid .lay-out .last .1 .1 .1 .1 .1 .1 .1 .1 .0) (laid .lay-out .last .1 .1 .1 .1 .1 .1 .1 .0) (s laid .args .recipes .now) (s laid .args .kinds .now) (n .new .result))
   begins = balance-first plays (survey laid .lays .laid clear) (begins-as (survey laid) clear (n .new .ensures))
 
 -- ---- between two moves
@@ -204,7 +204,7 @@ returns-2 c =
     let k = chosen c in
     balance-done (known t .0) (job t) (a .gains .now) (a .recipes .now) (a .kinds .now) (a .scratch .now) (s t .pre) (survey t) (clear (last c .before))
     (balance-ends (now (last c)) (k .before .before .before .before .heavy-side .ensures) (k .greatest-on .ensures) (c .before .before .before .before .before .before .before .before .before .before .before .before .if2 .taken) (unread-is (survey t) (clear (last c .before))) (c .balanced .ensures)
-    (extent-known (c .before .before .before .before .before .before .before .before .before .before .before .extent-of .ensures) .1) (scans c .end-scans .ensures .2))
+    (extent-known 1 (c .before .before .before .before .before .before .before .before .before .before .before .extent-of .ensures) .1) (scans c .end-scans .ensures .2))
 
 treat-move-requires : tie.Need-treat-move-requires Inv-loop μ-loop
 treat-move-requires c κs =

@@ -17,14 +17,14 @@ few c = none-over _ _ _ _ _ _ (c .if1 .left)
 returns : tie.Need-returns
 returns c = λ h k l. absurd (some-over (files.answer tt tt) (recipes.answer tt tt) (pins.answer tt tt) (c .before .args .c) (c .before .args .n) (c .before .args .p) (c .if1 .taken) h k l)
 
-cast-t16 : tie.Need-cast-t16
-cast-t16 c = omega (arith, few c)
-
 cast-t17 : tie.Need-cast-t17
 cast-t17 c = omega (arith, few c)
 
 cast-t18 : tie.Need-cast-t18
 cast-t18 c = omega (arith, few c)
+
+cast-t19 : tie.Need-cast-t19
+cast-t19 c = omega (arith, few c)
 
 scans-for-requires : tie.Need-scans-for-requires
 scans-for-requires c κs = search needs
@@ -40,9 +40,9 @@ lists-fit-spec =
     tie.close
     (tie.spec
     returns
-    cast-t16
     cast-t17
     cast-t18
+    cast-t19
     scans-for-requires
     numbers-for-requires
     returns-2)
