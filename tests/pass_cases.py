@@ -5,7 +5,7 @@
     python3 tests/pass_cases.py --list     each case on a line: its name, kind, edition and
                                            number
     python3 tests/pass_cases.py --check    whether the files are as made here, and the cases
-                                           leave out nothing that order 9 asks for
+                                           leave out nothing that orders 9 and 10 ask for
     python3 tests/pass_cases.py --compare edition|trace|resettle PROGRAM
                      run the program with each edition on every planned stored job of
                      make_cases.py, and with other words, and compare what it writes
@@ -376,6 +376,16 @@ def run_after_run():
             yield call(f"{name}, run by {first} and then by {then}", kind, then, after)
 
 
+def again(found):
+    """ "Each planned case of every edition is run again from its result", lent as much as
+    the first run was."""
+    for case in found:
+        number, _, _, sides, _ = answer(case)
+        if case.kind in "rs" and number == 0:
+            job = case.job.changed(sides=sides)
+            yield Call(f"{case.name}, again", "s", case.edition, job, case.lengths)
+
+
 @functools.cache
 def planned():
     """The stored jobs of make_cases.py that a run plans, by name."""
@@ -415,6 +425,7 @@ def cases():
         *run_after_run(),
         *older(),
     ]
+    found += list(again(found))
     names = [case.name for case in found]
     twice = {name for name in names if names.count(name) > 1}
     assert not twice, f"two cases have one name: {twice}"
@@ -651,9 +662,31 @@ def see_older():
             assert answer(called[f"{name}, edition {edition}, s", edition])[0] == 0, name
 
 
+def see_again():
+    """Each planned run is run again. Where it settled, the second run makes one pass, keeps
+    no move, and leaves the sides and the cut; and the passes of the first were at most the
+    starting cut plus one."""
+    called = {case.name: case for case in cases()}
+    unsettled = 0
+    for case in cases():
+        if case.kind == "p" or case.name.endswith(", again") or answer(case)[0]:
+            continue
+        _, _, first, sides, _ = answer(case)
+        number, _, second, left, _ = answer(called[f"{case.name}, again"])
+        assert number == 0, case.name
+        (before, after, *_, passes, settled), kept = first, second[4]
+        if not settled:
+            unsettled += 1
+            continue
+        assert passes <= before + 1, case.name
+        assert second[:2] == (after, after) and second[-2:] == (1, 1), case.name
+        assert kept == 0 and left == sides, case.name
+    assert unsettled > 10, unsettled
+
+
 def check():
     wrong = keep(made(), [])
-    for see in (see_passes, see_lengths, see_refusals, see_marks, see_older):
+    for see in (see_passes, see_lengths, see_refusals, see_marks, see_older, see_again):
         see()
     done = [case for case in cases() if answer(case)[0] == 0]
     print(f"{len(cases())} cases, {len(done)} of them planned, leave nothing out")

@@ -1031,12 +1031,21 @@ def fronts():
         "stops": lone_front([FREE, FREE]),
         # The same with file 1 pinned: no move is legal.
         "none": lone_front([PINNED, FREE]),
+        # W is 9 and |A| 3, from 2 up to 5: file 3 could move, and has not the highest gain.
+        "early": early(),
     }
 
 
 def lone_front(marks):
     """A holds a pinned file alone, and B a light one and a heavy one of these marks."""
     return all_free([[1, 2]], [A, B, B]).changed(sizes=[5, 1, 3], marks=[PINNED, *marks])
+
+
+def early():
+    """Order 10's: by edition 2 it settles at once, though a legal move lessens the cut."""
+    return all_free([[0, 1], [0, 2], [1, 3]], [A, B, B, A]).changed(
+        sizes=[2, 3, 3, 1], marks=[FREE, PINNED, PINNED, FREE], num=3, den=7
+    )
 
 
 # ---- Random jobs

@@ -888,20 +888,6 @@ class Resettled(unittest.TestCase):
             sides = planner.run(job).last.sides
             self.assertEqual(planner.read_job(data)[3], job.changed(sides=sides))
 
-    def test_the_next_night(self):
-        """The sides that the night printed, and nothing more to gain."""
-        settled = [job for job in small_jobs() if planner.run(job).settled]
-        self.assertGreater(len(settled), 100)
-        for job in settled:
-            data = planner.write_job(job)
-            before = planner.run_stored(data).splitlines()
-            after = planner.run_stored(planner.resettle(data)[0]).splitlines()
-            cut = before[1].split()[2]
-            self.assertEqual(after[1], f"cut {cut} {cut}")
-            self.assertEqual(after[2], before[2])
-            self.assertEqual(after[3:6], ["passes 1", "settled yes", "kept 0"])
-            self.assertEqual(after[-1], before[-1])
-
     def test_the_chain(self):
         """Sides A, A, A, B: of all bytes those of file 1 change, and the check."""
         old = planner.write_job(samples.chain())
@@ -2775,14 +2761,6 @@ class Editions(unittest.TestCase):
             self.assertEqual(answer.settled, cuts[-1] == cuts[-2])
             self.assertLessEqual(answer.passes, cuts[0] + 1)
 
-    def test_a_second_run_keeps_the_sides(self):
-        for job in small_jobs() + unread_jobs():
-            first = planner.run(job.changed(cap=0), edition=2)
-            after = job.changed(cap=0, sides=first.last.sides)
-            again = planner.run(after, edition=2)
-            self.assertEqual((again.passes, again.kept), (1, 0))
-            self.assertEqual(again.last.sides, first.last.sides)
-
     def test_the_programs(self):
         job = samples.worked()
         data = planner.write_job(job)
@@ -2817,6 +2795,96 @@ class Editions(unittest.TestCase):
             + ["kept 3", "scans 8", "visits 21", "sides AABBBABA"],
         )
         self.assertEqual(len(lines), 1 + 5 + 8 + 8)
+
+
+# ---- Order 10: what settled means
+
+
+def see_settled(job, edition):
+    """Of a run that answers settled yes, what is promised of both editions; whether it is
+    one."""
+    first = planner.run(job, edition=edition)
+    if not first.settled:
+        return False
+    again = planner.run(job.changed(sides=first.last.sides), edition=edition)
+    assert again.passes == 1, "a second run makes more than one pass"
+    assert again.kept == 0, "a second run keeps a move"
+    assert again.last.sides == first.last.sides, "a second run returns other sides"
+    assert first.passes <= first.cut_before + 1, "passes over the starting cut plus one"
+    return True
+
+
+def lessening(job, sides):
+    """The single legal moves that lessen the cut; every file with mark 0 is free again."""
+    now = planner.cut(job, sides)
+    singly = {
+        file: planner.sides_after(sides, [file])
+        for file in range(job.files)
+        if job.marks[file] == FREE
+    }
+    return [
+        file
+        for file, after in singly.items()
+        if in_window(job, after) and planner.cut(job, after) < now
+    ]
+
+
+def see_no_move_lessens(job):
+    """Of a run by edition 1 that answers settled yes, what is promised of it alone; whether
+    it is one."""
+    first = planner.run(job)
+    left = first.settled and lessening(job, first.last.sides)
+    assert not left, "a single legal move lessens the cut"
+    return first.settled
+
+
+class SettledYes(unittest.TestCase):
+    """ "A run that answers settled yes." """
+
+    def jobs(self):
+        return small_jobs() + unread_jobs() + wider_jobs()
+
+    def test_a_second_run(self):
+        for edition in planner.EDITIONS:
+            settled = [see_settled(job, edition) for job in self.jobs()]
+            # Some are ended by their cap.
+            self.assertGreater(settled.count(True), 500)
+            self.assertGreater(settled.count(False), 10)
+
+    def test_no_single_move_lessens_the_cut(self):
+        settled = [see_no_move_lessens(job) for job in self.jobs()]
+        self.assertGreater(settled.count(True), 500)
+
+    def test_why_not_of_edition_2(self):
+        """A's front is file 0, of gain 2, whose move is not legal, so edition 2 stops with
+        cut 3; the move of file 3 is legal and leaves 2."""
+        job = samples.early()
+        self.assertEqual(planner.check(job), (0, 0))
+        self.assertEqual(planner.all_gains(job, job.sides), [2, 2, 1, 1])
+        answer = planner.run(job, edition=2)
+        self.assertEqual((answer.settled, answer.passes, answer.tried), (True, 1, 0))
+        self.assertEqual((answer.cut_after, answer.last.sides), (3, list(job.sides)))
+        self.assertFalse(in_window(job, planner.sides_after(job.sides, [0])))
+        self.assertEqual(lessening(job, job.sides), [3])
+        self.assertEqual(planner.cut(job, planner.sides_after(job.sides, [3])), 2)
+        self.assertEqual(planner.run(job).cut_after, 2)
+
+    def test_the_next_night(self):
+        """ "A night on what `resettle` wrote": the cut twice, one pass, no move kept, and
+        the same letters; and `resettle` writes the same again."""
+        for edition, job in itertools.product(planner.EDITIONS, self.jobs()):
+            data = planner.write_job(job)
+            before = planner.run_stored(data, edition).splitlines()
+            if "settled yes" not in before:
+                continue
+            new = planner.resettle(data, edition)[0]
+            after = planner.run_stored(new, edition).splitlines()
+            cut = before[-7].split()[2]
+            self.assertEqual(after[:-7], before[:-7])
+            self.assertEqual(after[-7:-5], [f"cut {cut} {cut}", before[-6]])
+            self.assertEqual(after[-5:-2], ["passes 1", "settled yes", "kept 0"])
+            self.assertEqual(after[-1], before[-1])
+            self.assertEqual(planner.resettle(new, edition)[0], new)
 
 
 class Mill(unittest.TestCase):
@@ -3000,6 +3068,32 @@ class CanFail(unittest.TestCase):
 
         wrong = ("no_start_is_balanced", start_is_not)
         self.assertTrue(self.seen(see_9, *wrong, bad_starts()))
+
+    def test_settled_after_a_pass_that_lessened_the_cut(self):
+        def said_always(job, lent_ok=True, edition=1):
+            answer = right(job, lent_ok, edition)
+            answer.settled = answer.number == 0
+            return answer
+
+        def second_seen(job, _):
+            see_settled(job, 1)
+
+        def move_seen(job, _):
+            see_no_move_lessens(job)
+
+        right = planner.run
+        for see in (second_seen, move_seen):
+            self.assertTrue(self.seen(see, "run", said_always, wider_jobs()))
+
+    def test_settled_by_the_least_gain(self):
+        def least(job, sides, locked, gains):
+            legal = legal_moves(job, sides, locked)
+            return max(legal, key=lambda i: (legal[i][0], -i)) if legal else None
+
+        def move_seen(job, _):
+            see_no_move_lessens(job)
+
+        self.assertTrue(self.seen(move_seen, "choose", least))
 
     def job_seen(self, see, name, wrong, jobs):
         """The same with one of a job's own lists or figures worked out wrongly."""

@@ -53,3 +53,5 @@ pub mod Emptied
 pub mod Compare
 pub mod Comparing
 pub mod FrontsWorked
+pub mod NoneLessens
+pub mod SettledYes

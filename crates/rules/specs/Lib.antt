@@ -22,3 +22,4 @@ pub mod Compare
 pub mod Comparing
 pub mod FrontsHold
 pub mod FrontsWorked
+pub mod SettledYes

@@ -3,3 +3,4 @@ pub mod PassAfterPass
 pub mod RunNow
 pub mod RunOn
 pub mod Unique
+pub mod SettledRun
