@@ -5,10 +5,13 @@
     python3 tests/pass_cases.py --list     each case on a line: its name, kind, edition and
                                            number
     python3 tests/pass_cases.py --check    whether the files are as made here, and the cases
-                                           leave out nothing that orders 9 and 10 ask for
+                                           leave out nothing that orders 9, 10 and 12 ask for
     python3 tests/pass_cases.py --compare edition|trace|resettle PROGRAM
                      run the program with each edition on every planned stored job of
                      make_cases.py, and with other words, and compare what it writes
+    python3 tests/pass_cases.py --with-3 ...   any of these with edition 3 as one that there
+                     is, and its cases behind the others: for order 12, which widens
+                     planner.EDITIONS so that it is always so
 
 What is read. A case is a heading with its name (the letter `h`, and the name), and then seven
 frames of a call:
@@ -58,7 +61,7 @@ from program_files import frame, heading, keep, numbers
 import planner
 import samples
 from mill import mill
-from planner import A, B, EDITIONS, FREE, PINNED, UNREAD
+from planner import A, B, FREE, PINNED, UNREAD
 
 FILLED = 7
 # The most numbers of each lent list.
@@ -75,8 +78,9 @@ LISTS = (
     "scan_kinds",
     "scratch",
 )
-# "An edition other than 1, 2."
-OTHER_EDITIONS = (0, 3, 65535)
+# The editions of the cases from before order 12, and those that there were not.
+BOTH = (1, 2)
+OTHERS_THEN = (0, 3, 65535)
 
 
 class Call(NamedTuple):
@@ -90,26 +94,38 @@ class Call(NamedTuple):
 # ---- Ways to make cases
 
 
+def other_editions():
+    """ "An edition other than 1, 2 and those that a later order adds", the first of these
+    among them."""
+    return 0, planner.EDITIONS[-1] + 1, 65535
+
+
 def lengths(job, edition, **steps):
-    """The least lengths that serve, by edition 2 where there is no such edition; some of
-    them longer by a step. Those of a job that 1 or 2 refuse are 3 each."""
+    """The least lengths that serve this edition; some of them longer by a step. Those of a
+    job that 1 or 2 refuse are 3 each."""
     number, _ = planner.refusal(job, True, 2)
     if number:
         least = dict.fromkeys(LISTS, 3)
     else:
-        named = planner.scratch_numbers(job, edition if edition in EDITIONS else 2)
+        named = planner.scratch_numbers(job, edition)
         least = dict.fromkeys(LISTS, job.files) | {"scratch": named}
         least |= dict.fromkeys(LISTS[5:7], 4 * job.recipes)
     return tuple(max(0, least[name] + steps.get(name, 0)) for name in LISTS)
 
 
 def call(name, kind, edition, job, **steps):
-    return Call(name, kind, edition, job, lengths(job, edition, **steps))
+    """By edition 1 or 2, or by another with the lengths that serve 2."""
+    least = lengths(job, edition if edition in BOTH else 2, **steps)
+    return Call(name, kind, edition, job, least)
+
+
+def by_3(name, kind, job, **steps):
+    return Call(name, kind, 3, job, lengths(job, 3, **steps))
 
 
 def both(name, job, kinds="pr", **steps):
-    """A pass and a run by each edition."""
-    for edition, kind in itertools.product(EDITIONS, kinds):
+    """A pass and a run by editions 1 and 2."""
+    for edition, kind in itertools.product(BOTH, kinds):
         yield call(f"{name}, edition {edition}, {kind}", kind, edition, job, **steps)
 
 
@@ -137,7 +153,7 @@ def lent_lists():
     """Each list one short, exact, longer by one and by many, and empty; all longer at
     once. A gain list that is longer is refused too."""
     job = samples.fronts()["worked"]
-    for edition, kind in itertools.product(EDITIONS, "pr"):
+    for edition, kind in itertools.product(BOTH, "pr"):
         for name, step in itertools.product(LISTS, (-1, 0, 1, 16)):
             said = f"{name} {step:+}, edition {edition}, {kind}"
             yield call(said, kind, edition, job, **{name: step})
@@ -147,7 +163,7 @@ def lent_lists():
         said = f"all longer, edition {edition}, {kind}"
         yield call(said, kind, edition, job, **all_longer(1))
     # What serves edition 1 is too short for 2, and one more than that serves 1.
-    one, two = (planner.scratch_numbers(job, edition) for edition in EDITIONS)
+    one, two = (planner.scratch_numbers(job, edition) for edition in BOTH)
     for kind in "pr":
         said = f"scratch of the other edition, {kind}"
         yield call(f"{said}, 2 by 1", kind, 1, job, scratch=two - one)
@@ -179,7 +195,7 @@ def faults():
     a list is too short, and where several are wrong."""
     for number, fields in FAULTY.items():
         job = CHAIN.changed(**fields)
-        for edition, kind in zip((*EDITIONS, *OTHER_EDITIONS), itertools.cycle("pr")):
+        for edition, kind in zip((*BOTH, *OTHERS_THEN), itertools.cycle("pr")):
             yield call(f"fault {number}, edition {edition}, {kind}", kind, edition, job)
         yield call(f"fault {number}, edition 2, p", "p", 2, job)
         yield call(f"fault {number} and short, edition 2", "p", 2, job, scratch=-1)
@@ -200,8 +216,9 @@ def two_faults():
 
 
 def no_edition():
-    """Editions that there are not, of jobs that are right; nothing changes."""
-    for edition in (*OTHER_EDITIONS, 4, 256, 257, 258, 512, 32768, 32769):
+    """Editions that there were not before order 12, of jobs that are right; where there is
+    none nothing changes."""
+    for edition in (*OTHERS_THEN, 4, 256, 257, 258, 512, 32768, 32769):
         for kind in "prs":
             yield call(f"edition {edition}, {kind}", kind, edition, CHAIN)
         job = samples.fronts()["worked"]
@@ -323,7 +340,7 @@ def ends():
         for side in (A, B):
             yield from both(f"bundle of {recipes}, {'AB'[side]}", bundle(recipes, side))
     for side in (A, B):
-        for edition in EDITIONS:
+        for edition in BOTH:
             yield call(
                 f"bundle of 1024, {'AB'[side]}, edition {edition}",
                 "s",
@@ -337,9 +354,9 @@ def ends():
         yield call(f"star of 1000, {'AB'[side]}", "s", 2, star(1000, side))
 
 
-def largest():
-    """1,024 files, 1,024 recipes, 4,096 pins, in full and in short; lists that are longer."""
-    jobs = {
+def largest_jobs():
+    """1,024 files, 1,024 recipes, 4,096 pins, by name."""
+    return {
         "large": large(4, cap=1),
         "large, long recipes": large(1024, cap=1),
         "rising": rising(),
@@ -350,6 +367,11 @@ def largest():
             4, sides=[i // 2 % 2 for i in range(1024)], marks=[FREE, UNREAD] * 512, cap=1
         ),
     }
+
+
+def largest():
+    """These in full and in short; lists that are longer."""
+    jobs = largest_jobs()
     for name, job in jobs.items():
         yield call(f"{name}, edition 2", "s", 2, job)
         yield call(f"{name}, edition 2, short scratch", "s", 2, job, scratch=-1)
@@ -371,7 +393,7 @@ def run_after_run():
         if planner.check(job) != (0, 0):
             continue
         kind = "s" if name == "mill" else "r"
-        for first, then in itertools.product(EDITIONS, EDITIONS):
+        for first, then in itertools.product(BOTH, BOTH):
             after = job.changed(sides=planner.run(job, edition=first).last.sides)
             yield call(f"{name}, run by {first} and then by {then}", kind, then, after)
 
@@ -403,6 +425,203 @@ def older():
         yield from both(name, job, "s")
 
 
+# ---- Groups of order 12
+
+
+def worked_by_3():
+    """Those that are worked out by hand, also turned about, those of edition 2, and those of
+    document 01."""
+    for name, job in {**samples.foresights(), **samples.fronts()}.items():
+        yield by_3(f"{name} by 3, p", "p", job)
+        yield by_3(f"{name} by 3, r", "r", job)
+        yield by_3(f"{name} turned by 3", "p", samples.turned(job))
+    for name, job in samples.foresights().items():
+        yield from both(name, job, "r")
+    yield by_3("chain by 3, p", "p", CHAIN)
+    for cap in (0, 1, 2, 65535):
+        yield by_3(f"chain by 3, cap {cap}", "r", CHAIN.changed(cap=cap))
+    for name, job in (
+        ("two files", samples.past_10(samples.two_files())),
+        ("three files", samples.three_files()),
+        ("eight", samples.eight()),
+    ):
+        for kind in "pr":
+            yield by_3(f"{name} by 3, {kind}", kind, job)
+
+
+def one_recipe_by_3():
+    """One recipe with so many free and pinned files on each side: every pair of binding
+    numbers, of which a level asks for some."""
+    numbers = [(1, 0), (2, 0), (3, 0), (4, 0), (1, 1), (2, 1), (2, 2)]
+    others = [(0, 0), *numbers, (0, 1)]
+    for own, other in itertools.product(numbers, others):
+        if own == (1, 0) and other == (0, 0):
+            continue
+        free, pinned = own[0] + other[0], own[1] + other[1]
+        sides = [A] * own[0] + [B] * other[0] + [A] * own[1] + [B] * other[1]
+        job = samples.all_free([range(free + pinned)], sides)
+        job = job.changed(marks=[FREE] * free + [PINNED] * pinned)
+        # Two files on no recipe, with which |A| is a half and more of W.
+        room = [(20 + max(0, n), side, PINNED) for n, side in level_room(job)]
+        roomy = samples.with_files(job, *room).changed(k=4)
+        said = "{}+{} against {}+{}".format(*own, *other)
+        yield by_3(f"one recipe, {said}", "p", roomy)
+
+
+def level_room(job):
+    """What each vault lacks to the other."""
+    in_a = planner.size_of_a(job, job.sides)
+    return (job.total - 2 * in_a, A), (2 * in_a - job.total, B)
+
+
+def lent_lists_by_3():
+    """Each list one short, exact, longer by one and by many, and empty; all longer at once;
+    a scratch as long as for edition 2, and one less."""
+    job = samples.fronts()["worked"]
+    for kind in "pr":
+        for name, step in itertools.product(LISTS, (-1, 0, 1, 16)):
+            yield by_3(f"{name} {step:+} by 3, {kind}", kind, job, **{name: step})
+        for name in LISTS:
+            yield by_3(f"no {name} by 3, {kind}", kind, job, **{name: -9999})
+        yield by_3(f"all longer by 3, {kind}", kind, job, **all_longer(1))
+        for step in (4 * job.recipes - 1, 4 * job.recipes):
+            yield by_3(f"scratch {step} longer by 3, {kind}", kind, job, scratch=step)
+    named = {**samples.foresights(), "mill": mill().changed(num=53, den=100)}
+    for at, (name, job) in enumerate(named.items()):
+        kind = "s" if name == "mill" else "pr"[at % 2]
+        yield by_3(f"longer for {name} by 3", kind, job, **all_longer(1 + at % 9))
+
+
+def faults_by_3():
+    """Each fault by edition 3 and by 4, behind whose 32 each number is hidden; pairs of
+    faults; also where a list is too short."""
+    for number, fields in FAULTY.items():
+        job = CHAIN.changed(**fields)
+        for kind in "pr":
+            yield by_3(f"fault {number} by 3, {kind}", kind, job)
+            yield call(f"fault {number}, edition 4, {kind}", kind, 4, job)
+        yield by_3(f"fault {number} and short by 3", "r", job, scratch=-1)
+    for low, high in itertools.combinations(FAULTS, 2):
+        if not FAULTS[low].keys() & FAULTS[high].keys():
+            job = CHAIN.changed(**FAULTS[high]).changed(**FAULTS[low])
+            yield by_3(f"faults {low} and {high} by 3", "pr"[high % 2], job)
+    # Those whose low byte, or whose last two bits, are 3.
+    for edition in (5, 7, 259, 515, 771, 32771, 65283):
+        for kind in "pr":
+            yield call(f"edition {edition}, {kind}", kind, edition, CHAIN)
+
+
+def marks_and_k_by_3():
+    """At each k, with unread files, and with pinned ones."""
+    for k in (1, 2, 3, 4):
+        for name, job in {**samples.foresights(), **samples.fronts()}.items():
+            wider = job.changed(k=k)
+            if k != job.k and planner.check(wider) == (0, 0):
+                yield by_3(f"{name} by 3, k is {k}", "pr"[k % 2], wider)
+        yield by_3(f"held chain by 3, k is {k}", "p", samples.held_chain(k=k))
+    for at, (name, job) in enumerate(samples.wider_jobs().items()):
+        yield by_3(f"wider {name} by 3", "pr"[at % 2], job[1])
+    for k in samples.WRONG_K:
+        yield by_3(f"wrong k {k} by 3", "r", CHAIN.changed(k=k))
+    for at, (name, (_, _, _, job)) in enumerate(samples.unread_jobs().items()):
+        yield by_3(f"unread {name} by 3", "pr"[at % 2], opened(job))
+    for name, job in samples.foresights().items():
+        for file, mark in itertools.product(range(job.files), (PINNED, UNREAD)):
+            marks = [mark if i == file else old for i, old in enumerate(job.marks)]
+            changed = job.changed(marks=marks)
+            if planner.check(changed) == (0, 0) and marks != list(job.marks):
+                word = "pinned" if mark == PINNED else "unread"
+                yield by_3(f"{name} with {file} {word} by 3", "pr"[file % 2], changed)
+
+
+def tied(rng):
+    """Files of few recipes and of few sizes, so that many moves tie."""
+    return samples.random_job(
+        rng,
+        files=rng.randint(6, 20),
+        recipes=rng.randint(4, 16),
+        longest=rng.choice([3, 4, 6]),
+        top_size=rng.choice([1, 1, 2]),
+        pinned=rng.choice([0, 0.1, 0.2]),
+        den=2,
+    )
+
+
+def random_by_3():
+    for name, count, seed, made in (
+        ("tied", 40, 4, tied),
+        ("random", 40, 5, plain),
+        ("unread random", 25, 6, with_unread),
+        ("wider random", 25, 7, with_wider),
+    ):
+        for at, one in enumerate(random_jobs(name, count, seed, made)):
+            yield by_3(f"{name} {at} by 3", "ppr"[at % 3], one.job)
+
+
+def ends_by_3():
+    """Gains of plus and minus p, up to the most recipes."""
+    for side in (A, B):
+        for recipes in (2, 16):
+            for kind in "pr":
+                said = f"bundle of {recipes}, {'AB'[side]}, by 3, {kind}"
+                yield by_3(said, kind, bundle(recipes, side))
+        yield by_3(f"bundle of 1024, {'AB'[side]}, by 3", "p", bundle(1024, side))
+        for rays in (1, 7):
+            yield by_3(f"star of {rays}, {'AB'[side]}, by 3", "p", star(rays, side))
+        yield by_3(f"star of 1000, {'AB'[side]}, by 3", "s", star(1000, side))
+
+
+def largest_by_3():
+    """1,024 files, 1,024 recipes, 4,096 pins, in full and in short."""
+    jobs = largest_jobs()
+    for name, job in jobs.items():
+        yield by_3(f"{name} by 3", "s", job)
+        yield by_3(f"{name} by 3, short scratch", "s", job, scratch=-1)
+    for name in ("large", "rising"):
+        yield by_3(f"{name} by 3, whole", "p", jobs[name], **all_longer(2))
+    yield by_3("one recipe of 1024 by 3", "s", one_recipe(1024))
+    yield by_3("1024 files by 3", "s", wide(1024))
+    yield by_3("1025 files by 3", "p", wide(1025))
+    yield by_3("row of 255 by 3, whole", "p", row(255))
+
+
+def run_after_run_by_3():
+    """A run by 3 from the sides that a run by each has left, and by each from those of 3."""
+    rng = random.Random(SEED + 12)
+    jobs = {**samples.foresights(), "mill": mill().changed(num=53, den=100)}
+    for at in range(12):
+        jobs[f"random {at}"] = opened(tied(rng))
+    for name, job in jobs.items():
+        if planner.check(job) != (0, 0):
+            continue
+        kind = "s" if name == "mill" else "r"
+        for first in (1, 2, 3):
+            after = job.changed(sides=planner.run(job, edition=first).last.sides)
+            yield by_3(f"{name}, run by {first} and then by 3", kind, after)
+        for then in BOTH:
+            yield call(f"{name}, run by 3 and then by {then}", kind, then, after)
+
+
+def older_by_3():
+    """ "All older planned cases by edition 3." """
+    for name, job in planned().items():
+        yield by_3(f"{name}, edition 3, s", "s", job)
+
+
+def foresight():
+    """The cases of order 12, which stand behind all others."""
+    yield from worked_by_3()
+    yield from one_recipe_by_3()
+    yield from lent_lists_by_3()
+    yield from faults_by_3()
+    yield from marks_and_k_by_3()
+    yield from random_by_3()
+    yield from ends_by_3()
+    yield from largest_by_3()
+    yield from run_after_run_by_3()
+    yield from older_by_3()
+
+
 # ---- The cases
 
 
@@ -424,6 +643,7 @@ def cases():
         *largest(),
         *run_after_run(),
         *older(),
+        *(foresight() if 3 in planner.EDITIONS else ()),
     ]
     found += list(again(found))
     names = [case.name for case in found]
@@ -597,10 +817,138 @@ def see_passes():
     assert seen == WANTED, seen ^ WANTED
 
 
+# ---- The same of order 12
+
+PLACES = ("level 1", "level 2", "level 3", "distance", "number")
+# The classes of a binding number that the three levels tell apart.
+OWN_CLASSES, OTHER_CLASSES = (1, 2, 3), (0, 1, 2)
+
+
+def ranks_of(job, sides, locked, vectors, legal=True):
+    """The free files whose move is legal, or is not, with their ranks, the best first."""
+    size_a = planner.size_of_a(job, sides)
+    ranks = []
+    for file in range(job.files):
+        after = planner.size_after(job, sides, size_a, file)
+        if not locked[file] and planner.balanced(job, after) == legal:
+            off = abs(job.den * after - job.num * job.total)
+            ranks.append((*(-one for one in vectors[file]), off, file))
+    return sorted(ranks)
+
+
+def choice_seen(ranks, others):
+    """Which rule decides between the best and the next, and what was not legal."""
+    best = ranks[0]
+    if others and others[0][:3] < best[:3]:
+        yield ("a greater vector is not legal",)
+    if len(ranks) == 1:
+        yield ("one legal move alone",)
+        return
+    place = next(at for at in range(5) if best[at] != ranks[1][at])
+    yield ("decided at", PLACES[place])
+    if PLACES[place] in ("level 2", "level 3"):
+        # A level here is minus what it is in the vector.
+        yield (PLACES[place], "gained by the best" if best[place] < 0 else "lost by the next")
+
+
+def locks_seen(job, sides, locked, recipe):
+    """On which sides of a recipe there are locked files, and of what kind."""
+    for side in (A, B):
+        there = [i for i in job.readable_recipes[recipe] if sides[i] == side and locked[i]]
+        marks = {job.marks[i] for i in there}
+        if marks:
+            yield "both" if len(marks) == 2 else "pinned" if PINNED in marks else "moved"
+        else:
+            yield "none"
+
+
+def recipes_seen(job, sides, locked, numbers):
+    """The pairs of binding numbers of the recipes of free files, as the levels tell them
+    apart, and the locks behind them."""
+    for file in range(job.files):
+        if locked[file]:
+            continue
+        if not job.file_recipes[file]:
+            yield ("a free file on no recipe",)
+        for j in job.file_recipes[file]:
+            own, other = (numbers[j][side] for side in (sides[file], 1 - sides[file]))
+            own = own if own in OWN_CLASSES else "many"
+            yield ("numbers", own, other if other in OTHER_CLASSES else "many")
+            kinds = list(locks_seen(job, sides, locked, j))
+            own_lock, other_lock = kinds[sides[file]], kinds[1 - sides[file]]
+            yield ("locks", own_lock, other_lock)
+
+
+def vectors_seen(job):
+    """All that a pass by edition 3 shows."""
+    sides = list(job.sides)
+    locked = [mark != FREE for mark in job.marks]
+    while True:
+        found = planner.full_foresight(job, sides, locked)
+        yield from recipes_seen(job, sides, locked, found.numbers)
+        ranks = ranks_of(job, sides, locked, found.vectors)
+        others = ranks_of(job, sides, locked, found.vectors, legal=False)
+        if not ranks:
+            yield ("stopped", "no legal move was left" if others else "no file was free")
+            return
+        yield from choice_seen(ranks, others)
+        file = ranks[0][-1]
+        if planner.choose(job, sides, locked, planner.all_gains(job, sides)) != file:
+            yield ("another move than by edition 1",)
+        if found.vectors[file][0] < 0:
+            yield ("a gain below 0",)
+        locked[file] = True
+        sides[file] = 1 - sides[file]
+
+
+LOCKS = ("none", "pinned", "moved", "both")
+WANTED_BY_3 = {
+    *(("decided at", place) for place in PLACES),
+    *(("level 2", how) for how in ("gained by the best", "lost by the next")),
+    *(("level 3", how) for how in ("gained by the best", "lost by the next")),
+    ("one legal move alone",),
+    ("a greater vector is not legal",),
+    ("a free file on no recipe",),
+    ("another move than by edition 1",),
+    ("a gain below 0",),
+    ("stopped", "no legal move was left"),
+    ("stopped", "no file was free"),
+    *(
+        ("numbers", own, other)
+        for own in (*OWN_CLASSES, "many")
+        for other in (*OTHER_CLASSES, "many")
+        # A recipe of one file is refused.
+        if (own, other) != (1, 0)
+    ),
+    *(("locks", own, other) for own in LOCKS for other in LOCKS),
+}
+
+
+def see_vectors():
+    """Each rule of order 12 decides somewhere, in a pass that is shown in full."""
+    seen = set()
+    for case in cases():
+        if case.kind == "p" and case.edition == 3 and answer(case)[0] == 0:
+            seen |= set(vectors_seen(case.job)) if case.job.files <= 60 else set()
+    assert seen == WANTED_BY_3, seen ^ WANTED_BY_3
+
+
+def see_zeros():
+    """By edition 3 no scan is counted or listed, and what was lent beyond stays."""
+    for case in cases():
+        number, _, figures, _, lent = answer(case)
+        if case.edition != 3 or number:
+            continue
+        files, recipes = case.job.files, case.job.recipes
+        assert figures[5:7] == (0, 0), case.name
+        for listed, named in zip((lent.moves[3], *lent.scans), (files, *[4 * recipes] * 2)):
+            assert listed == [0] * named + [FILLED] * (len(listed) - named), case.name
+
+
 def see_lengths():
     """Of each edition, pass and run, each list is one short, exact and longer; the gain
     list is refused unless it is exact, and no other list for being longer."""
-    for edition, kind in itertools.product(EDITIONS, "pr"):
+    for edition, kind in itertools.product(planner.EDITIONS, "pr"):
         seen = set()
         for case in cases():
             if (case.edition, case.kind) != (edition, kind):
@@ -618,14 +966,14 @@ def see_lengths():
 
 
 def see_refusals():
-    """32 stands before every other number, and each other number is met by edition 2."""
+    """32 stands before every other number, and each other number is met by each edition."""
     hidden, met = {}, set()
     for case in cases():
         number, place, figures, sides, lent = answer(case)
         if number:
             assert not any(figures) and tuple(sides) == case.job.sides, case.name
             assert lent == lent_of(case), case.name
-        if case.edition in EDITIONS:
+        if case.edition in planner.EDITIONS:
             met.add((case.edition, number))
             assert number != planner.NO_EDITION, case.name
         else:
@@ -633,18 +981,23 @@ def see_refusals():
             fits = lent_of(case).fits(case.job, 2)
             hidden.setdefault(case.edition, set()).add(planner.check(case.job, fits)[0])
     numbers_for_no = set(range(11))
-    for edition in EDITIONS:
+    for edition in planner.EDITIONS:
         assert {number for by, number in met if by == edition} == numbers_for_no, edition
-    for edition in OTHER_EDITIONS:
+    for edition in other_editions():
         assert hidden[edition] >= numbers_for_no, (edition, hidden[edition])
 
 
 def see_marks():
-    """By edition 2: pinned and unread files, recipes with fewer than two readable ones,
-    and each k."""
+    """By each edition after the first: pinned and unread files, recipes with fewer than two
+    readable ones, and each k."""
+    for edition in planner.EDITIONS[1:]:
+        see_marks_by(edition)
+
+
+def see_marks_by(edition):
     seen = set()
     for case in cases():
-        if case.edition != 2 or answer(case)[0]:
+        if case.edition != edition or answer(case)[0]:
             continue
         job = case.job
         seen |= {("mark", mark) for mark in job.marks} | {("k", job.k)}
@@ -655,10 +1008,10 @@ def see_marks():
 
 
 def see_older():
-    """ "Both editions on every older planned case." """
+    """ "Both editions on every older planned case", and edition 3."""
     called = {(case.name, case.edition): case for case in cases()}
     for name in planned():
-        for edition in EDITIONS:
+        for edition in planner.EDITIONS:
             assert answer(called[f"{name}, edition {edition}, s", edition])[0] == 0, name
 
 
@@ -688,6 +1041,9 @@ def check():
     wrong = keep(made(), [])
     for see in (see_passes, see_lengths, see_refusals, see_marks, see_older, see_again):
         see()
+    if 3 in planner.EDITIONS:
+        see_vectors()
+        see_zeros()
     done = [case for case in cases() if answer(case)[0] == 0]
     print(f"{len(cases())} cases, {len(done)} of them planned, leave nothing out")
     return wrong
@@ -717,7 +1073,7 @@ PROGRAMS = {
     "trace": written(planner.trace_program),
     "resettle": rewritten,
 }
-OTHER_TEXTS = ("", "0", "3", "01", "+1", " 2", "2 ", "12", "65537", "two")
+OTHER_TEXTS = ("", "0", "3", "4", "01", "+1", " 2", "2 ", "12", "65537", "two")
 OTHER_WORDS = ([], ["1", "2"], *([text] for text in OTHER_TEXTS))
 
 
@@ -733,7 +1089,7 @@ def stored_jobs():
 
 def compare(name, program):
     """Runs the program on each job by each edition; how many outputs differ, each named."""
-    by_each = itertools.product(stored_jobs(), EDITIONS)
+    by_each = itertools.product(stored_jobs(), planner.EDITIONS)
     calls = [(job, [str(edition)], data) for (job, data), edition in by_each]
     chain = planner.write_job(CHAIN)
     calls += [("the chain", words, data) for words in OTHER_WORDS for data in (chain, b"")]
@@ -749,6 +1105,9 @@ def compare(name, program):
 
 def main(words):
     """What the script exits with."""
+    if words[:1] == ["--with-3"]:
+        planner.EDITIONS = (1, 2, 3)
+        words = words[1:]
     if words == ["--list"]:
         return listed()
     if words == ["--check"]:

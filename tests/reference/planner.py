@@ -4,7 +4,8 @@ It is slow and simple on purpose. The gain of every file of a recipe that a move
 touches is counted anew from the split, so no step here rests on the scans that
 it lists: the scans are worked out beside the gains and never used to change one.
 Only the buckets of edition 2 follow them, since order 9 says by them which file
-enters when.
+enters when. Edition 3 lists no scans; its binding numbers and vectors are counted
+anew in the same way as the gains.
 
 The documents' words are the names. Sentences of theirs are quoted where a line
 follows them.
@@ -24,7 +25,8 @@ MOST_K = 4
 A, B = 0, 1
 FREE, PINNED, UNREAD = 0, 1, 2
 
-# "Edition 2 of the choice, beside edition 1."
+# "Edition 2 of the choice, beside edition 1." Order 12 adds edition 3 and makes this
+# (1, 2, 3): until then a call by 3 is refused, and one_pass and all_passes know it.
 EDITIONS = (1, 2)
 # "An edition other than 1, 2 and those that a later order adds."
 NO_EDITION = 32
@@ -267,7 +269,7 @@ def measure(job):
 
 def scratch_numbers(job, edition=1):
     """ "Scratch of at least P + 4C + 4N + 16 numbers", and "for edition 2 P + 4C + 8N +
-    16"."""
+    16"; for edition 3 it "is as in edition 1"."""
     for_recipes = 8 if edition == 2 else 4
     return len(job.pins) + 4 * job.files + for_recipes * job.recipes + 16
 
@@ -480,14 +482,121 @@ def choose_front(job, sides, buckets, gains):
     return min(ranks)[3] if ranks else None
 
 
-def choose_by(edition, job, sides, locked, buckets, gains):
+# ---- The choice of edition 3
+
+# "Three levels."
+LEVELS = (1, 2, 3)
+# Above every count, and equal to none.
+UNLIMITED = float("inf")
+
+
+def binding_number(job, sides, locked, recipe, side):
+    """ "The count of its free files there, or unlimited if a locked file of it is
+    there."
+
+    Locked is pinned, or moved in this pass. "Unread files, and recipes with fewer
+    than two readable ones, count in no level": the first are in no list of readable
+    files, and of the second that list is empty.
+    """
+    there = [file for file in job.readable_recipes[recipe] if sides[file] == side]
+    if any(locked[file] for file in there):
+        return UNLIMITED
+    return len(there)
+
+
+def binding_numbers(job, sides, locked, recipe):
+    """Those of A and of B."""
+    return [binding_number(job, sides, locked, recipe, side) for side in (A, B)]
+
+
+def counts_for(i, own, other):
+    """What a recipe of these two binding numbers is for level i of a free file: 1, -1 or 0.
+
+    The level "counts its recipes whose own-side number is i and other-side number
+    above 0, less those whose own-side number is above 0 and other-side number is
+    i - 1".
+    """
+    more = own == i and other > 0
+    less = own > 0 and other == i - 1
+    return int(more) - int(less)
+
+
+def counts_for_all(in_a, in_b):
+    """The same for each level, of a file in A and of one in B."""
+    return [
+        tuple(counts_for(i, *numbers) for i in LEVELS)
+        for numbers in ((in_a, in_b), (in_b, in_a))
+    ]
+
+
+def vector_of(job, sides, counted, file):
+    """ "The gain vector is three signed numbers." A file on no recipe has three zeros."""
+    own = [counted[j][sides[file]] for j in job.file_recipes[file]]
+    return tuple(map(sum, zip(*own))) if own else (0,) * len(LEVELS)
+
+
+@dataclass
+class Foresight:
+    """What edition 3 looks at: the two binding numbers of each recipe, what it counts for
+    by them, and the vector of each file, of which only those of free files are used."""
+
+    numbers: list
+    counted: list
+    vectors: list
+
+
+def full_foresight(job, sides, locked):
+    """All of it, counted from the split and the locks alone."""
+    numbers = [binding_numbers(job, sides, locked, j) for j in range(job.recipes)]
+    counted = [counts_for_all(*pair) for pair in numbers]
+    vectors = [vector_of(job, sides, counted, file) for file in range(job.files)]
+    return Foresight(numbers, counted, vectors)
+
+
+def look_anew(job, sides, locked, foresight, moved):
+    """The same once a file is locked and has moved: its recipes, and every file of them,
+    are counted anew. In all others nothing has changed."""
+    for j in job.file_recipes[moved]:
+        foresight.numbers[j] = binding_numbers(job, sides, locked, j)
+        foresight.counted[j] = counts_for_all(*foresight.numbers[j])
+    touched = {i for j in job.file_recipes[moved] for i in job.readable_recipes[j]}
+    for file in touched:
+        foresight.vectors[file] = vector_of(job, sides, foresight.counted, file)
+
+
+def choose_by_vector(job, sides, locked, vectors):
+    """The file to move, or None when no legal move exists.
+
+    Vectors are "compared from level 1 on; of all legal moves take the greatest,
+    then balance, then the lowest number". Balance is the least distance, as in
+    edition 1.
+    """
+    size_a = size_of_a(job, sides)
+    best = best_vector = best_distance = None
+    for file in range(job.files):
+        # One of a lesser vector than another legal one is not chosen.
+        if locked[file] or (best is not None and vectors[file] < best_vector):
+            continue
+        after = size_after(job, sides, size_a, file)
+        if not balanced(job, after):
+            continue
+        distance = abs(job.den * after - job.num * job.total)
+        # Of equals the lowest number was there first.
+        if best is None or vectors[file] > best_vector or distance < best_distance:
+            best, best_vector, best_distance = file, vectors[file], distance
+    return best
+
+
+def choose_by(edition, job, sides, locked, buckets, foresight, gains):
     """ "Demand 2 reads with each edition's own choice and stop." """
+    if edition == 3:
+        return choose_by_vector(job, sides, locked, foresight.vectors)
     if edition == 2:
         return choose_front(job, sides, buckets, gains)
     return choose(job, sides, locked, gains)
 
 
-# ---- A pass by either
+# ---- A pass by each
 
 
 def best_prefix(cuts):
@@ -531,7 +640,12 @@ def padded(entries, length):
 def end_gains(job, sides, move_files, move_gains):
     """ "What stood after the last move tried: a moved file keeps the gain it had
     when chosen, a pinned file holds 0"; an unread one "holds 0 in the gain list"."""
-    gains = all_gains(job, sides)
+    return listed_gains(job, all_gains(job, sides), move_files, move_gains)
+
+
+def listed_gains(job, stood, move_files, move_gains):
+    """The gain list, by what stood after the last move."""
+    gains = list(stood)
     for file in range(job.files):
         if job.marks[file] != FREE:
             gains[file] = 0
@@ -553,25 +667,36 @@ def one_pass(job, start, edition=1):
     sides = list(start)
     locked = [mark != FREE for mark in job.marks]
     buckets = full_buckets(job, sides, locked) if edition == 2 else None
+    foresight = full_foresight(job, sides, locked) if edition == 3 else None
     counts, gains = side_counts(job, sides), all_gains(job, sides)
     cuts = [cut_of(counts)]
     move_files, move_gains, move_scans, scans = [], [], [], []
     while True:
-        file = choose_by(edition, job, sides, locked, buckets, gains)
+        file = choose_by(edition, job, sides, locked, buckets, foresight, gains)
         if file is None:
             break
         locked[file] = True
-        own_scans = scans_of_move(job, sides, locked, file)
+        # By edition 3 "scan and visit counts, the scan lists and the fourth move list
+        # are zeros".
+        own_scans = [] if foresight else scans_of_move(job, sides, locked, file)
         if buckets:
             leave(buckets, sides, file)
             follow_scans(job, sides, locked, buckets, file, own_scans)
         scans += own_scans
         sides[file] = 1 - sides[file]
         move_files.append(file)
-        move_gains.append(gains[file])
+        # "Gains listed are level 1."
+        move_gains.append(foresight.vectors[file][0] if foresight else gains[file])
         move_scans.append(len(scans))
         count_anew(job, sides, counts, gains, file)
+        if foresight:
+            look_anew(job, sides, locked, foresight, file)
         cuts.append(cut_of(counts))
+    if foresight:
+        first_levels = [vector[0] for vector in foresight.vectors]
+        last_gains = listed_gains(job, first_levels, move_files, move_gains)
+    else:
+        last_gains = end_gains(job, sides, move_files, move_gains)
     kept = best_prefix(cuts)
     left = sides_after(start, move_files[:kept])
     return PassAnswer(
@@ -585,7 +710,7 @@ def one_pass(job, start, edition=1):
         visits=sum(len(job.whole_recipes[j]) for j, _ in scans),
         unread=job.unread,
         sides=left,
-        gains=end_gains(job, sides, move_files, move_gains),
+        gains=last_gains,
         move_files=padded(move_files, job.files),
         move_gains=padded(move_gains, job.files),
         move_cuts=padded(cuts[1:], job.files),

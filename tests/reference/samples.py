@@ -1,7 +1,7 @@
 """Jobs for tests: those that the documents give, those at the edges of the window,
 those with unread files, those with a wider window, those to be compared, those whose
-window reaches an empty vault or just not, those whose fronts are worked out by hand, and
-random ones."""
+window reaches an empty vault or just not, those whose fronts or vectors are worked out by
+hand, and random ones."""
 
 from math import gcd
 
@@ -1046,6 +1046,45 @@ def early():
     return all_free([[0, 1], [0, 2], [1, 3]], [A, B, B, A]).changed(
         sizes=[2, 3, 3, 1], marks=[FREE, PINNED, PINNED, FREE], num=3, den=7
     )
+
+
+# ---- Order 12: passes by edition 3 that are worked out by hand
+
+
+def beside_two(recipes, sides, weights, k=1):
+    """Free files of size 1 on these sides, and behind them two pinned ones of these
+    sizes, one in A and one in B."""
+    job = all_free(recipes, [*sides, A, B])
+    marks = [FREE] * len(sides) + [PINNED] * 2
+    return job.changed(sizes=[1] * len(sides) + weights, marks=marks, k=k)
+
+
+def foresights():
+    """By name; test_planner.py has the vectors and the moves of each."""
+    locks = beside_two([[0, 5, 4], [1, 5, 6], [2, 3, 6]], [A] * 4 + [B], [4, 4], 2)
+    alike = beside_two([[0, 1, 2, 4]], [A] * 3, [3, 5])
+    return {
+        # Files 0 and 1 have gain 1; behind it 1 leaves one file alone, and 0 two. It is in
+        # the manner of source 004's first figure, of which its words do not give all.
+        "second": beside_two([[0, 6], [1, 6], [0, 2, 3, 6], [1, 4, 6]], [A] * 5, [5, 5], 3),
+        # Gain 1 and level 2 alike; file 1 is in a recipe with two more.
+        "third": beside_two([[0, 5], [1, 5], [1, 2, 3, 5]], [A] * 4, [5, 5], 3),
+        # Source 004's second figure: file 3 has 1, 0, and file 0 has 0, 2.
+        "two_in_the_bush": beside_two([[0, 1, 5], [0, 2, 5], [3, 5]], [A] * 4, [4, 4], 2),
+        # All vectors alike: then the distance decides, and then the number.
+        "alike": alike.changed(sizes=[1, 3, 3, 3, 5]),
+        # A locked file on a file's own side, on both sides, and on the other side.
+        "locks": locks,
+        # The same beside unread files, with which two recipes have one file to read.
+        "locks_unread": with_files(locks, (9, A, UNREAD), (9, B, UNREAD)).changed(
+            **bounds_and_pins(
+                [[0, 5, 4, 7], [1, 8, 5, 6], [2, 7, 8, 3, 6], [3, 7], [8, 7, 2]]
+            )
+        ),
+        # File 1 is on no recipe: 0, -1, 0 and 0, 0, -1 of file 0 are less than its zeros.
+        "lost_at_2": beside_two([[0, 3, 2]], [A, A, B], [4, 4]),
+        "lost_at_3": beside_two([[0, 4, 2, 3]], [A, A, B, B], [4, 3]),
+    }
 
 
 # ---- Random jobs

@@ -4,6 +4,7 @@ The last class plants the errors that document 01 names and asks that the same
 tests see them, so that none of them passes for want of looking.
 """
 
+import dataclasses
 import functools
 import itertools
 import pathlib
@@ -2472,20 +2473,23 @@ def see_fronts(job, start):
     assert not latest.offers(), "a legal front was left"
 
 
-def by_edition_2(see):
-    """What every pass has to meet, asked of a pass by edition 2."""
+def by_edition(edition):
+    """What every pass has to meet, asked of a pass by this edition."""
 
-    def seen(job, start):
-        by_2 = functools.partial(planner.one_pass, edition=2)
-        with mock.patch.object(planner, "one_pass", by_2):
-            see(job, start)
+    def asked(see):
+        def seen(job, start):
+            by_it = functools.partial(planner.one_pass, edition=edition)
+            with mock.patch.object(planner, "one_pass", by_it):
+                see(job, start)
 
-    return seen
+        return seen
+
+    return asked
 
 
 SEEN_BY_2 = (
     see_fronts,
-    *map(by_edition_2, (see_replay, see_four_scans, see_best_prefix, see_lists)),
+    *map(by_edition(2), (see_replay, see_four_scans, see_best_prefix, see_lists)),
 )
 
 
@@ -2689,6 +2693,10 @@ class Fronts(unittest.TestCase):
             self.assertEqual(moves_of(whole), [files[i] for i in moves_of(part)])
 
 
+# The first that there is not.
+NEXT_EDITION = planner.EDITIONS[-1] + 1
+
+
 class Editions(unittest.TestCase):
     """What is handed to a pass and a run, and what is not."""
 
@@ -2732,7 +2740,7 @@ class Editions(unittest.TestCase):
                 self.assertEqual(told[0], number)
 
     def test_32_stands_before_all_other_checks(self):
-        for edition in (0, 3, 4, 255, 256, 257, 258, 65535):
+        for edition in (0, NEXT_EDITION, 4, 255, 256, 257, 258, 259, 65535):
             for fields in ({}, *JOB_FAULTS.values(), {"den": 4}):
                 job = samples.chain().changed(**fields)
                 self.assertEqual(
@@ -2775,7 +2783,8 @@ class Editions(unittest.TestCase):
         new, said = planner.resettle_program(["2"], data)
         sides = planner.run(job, edition=2).last.sides
         self.assertEqual((new, said), (planner.write_job(job.changed(sides=sides)), ""))
-        others = (["0"], ["3"], [""], ["01"], ["+1"], ["2 "], ["two"], ["1", "2"])
+        others = (["0"], [""], ["01"], ["+1"], ["2 "], ["two"], ["1", "2"])
+        others = (*others, [str(NEXT_EDITION)])
         for words in others:
             for given in (data, b""):
                 refused = "refused 32 0\n"
@@ -2885,6 +2894,588 @@ class SettledYes(unittest.TestCase):
             self.assertEqual(after[-5:-2], ["passes 1", "settled yes", "kept 0"])
             self.assertEqual(after[-1], before[-1])
             self.assertEqual(planner.resettle(new, edition)[0], new)
+
+
+# ---- Order 12: foresight in ties
+
+
+# What a recipe adds to the three levels of a free file, worked out by hand, by its own-side
+# number and then its other-side number; MANY is 4 and more, or unlimited, and 3 on the
+# other side, which no level asks for.
+MANY = "many"
+ADDED = {
+    1: {0: (-1, 0, 0), 1: (1, -1, 0), 2: (1, 0, -1), MANY: (1, 0, 0)},
+    2: {0: (-1, 0, 0), 1: (0, 0, 0), 2: (0, 1, -1), MANY: (0, 1, 0)},
+    3: {0: (-1, 0, 0), 1: (0, -1, 1), 2: (0, 0, 0), MANY: (0, 0, 1)},
+    MANY: {0: (-1, 0, 0), 1: (0, -1, 0), 2: (0, 0, -1), MANY: (0, 0, 0)},
+}
+
+
+class Segments:
+    """Edition 3 in a second way, by source 004's four sets: the free and the locked files
+    of each vault. All is counted anew from them at each question, pin by pin, and vectors
+    are added up from the table above."""
+
+    def __init__(self, job, start):
+        self.job, self.sides = job, list(start)
+        self.free = {i for i in range(job.files) if job.marks[i] == FREE}
+        self.locked = {i for i in range(job.files) if job.marks[i] == PINNED}
+
+    def pins(self, recipe):
+        return self.job.pins[self.job.bounds[recipe] : self.job.bounds[recipe + 1]]
+
+    def incidence(self, recipe, files, side):
+        """How many of the recipe's files are of this set and on this side."""
+        return sum(pin in files and self.sides[pin] == side for pin in self.pins(recipe))
+
+    def binding(self, recipe, side):
+        """None is unlimited."""
+        if self.incidence(recipe, self.locked, side):
+            return None
+        return self.incidence(recipe, self.free, side)
+
+    def counts(self, recipe, file):
+        """Whether the recipe is one of the file's that counts."""
+        readable = [pin for pin in self.pins(recipe) if pin in self.free | self.locked]
+        return file in readable and len(readable) >= 2
+
+    def vector(self, file):
+        side, total = self.sides[file], [0, 0, 0]
+        for recipe in range(self.job.recipes):
+            if self.counts(recipe, file):
+                own, other = self.binding(recipe, side), self.binding(recipe, 1 - side)
+                own = own if own in (1, 2, 3) else MANY
+                other = other if other in (0, 1, 2) else MANY
+                total = [a + b for a, b in zip(total, ADDED[own][other])]
+        return tuple(total)
+
+    def vectors(self):
+        return {file: self.vector(file) for file in sorted(self.free)}
+
+    def bindings(self):
+        sides = itertools.product(range(self.job.recipes), (A, B))
+        return [self.binding(recipe, side) for recipe, side in sides]
+
+    def offers(self):
+        """Every legal file with its rank."""
+        found = {}
+        for file in sorted(self.free):
+            after = planner.sides_after(self.sides, [file])
+            if in_window(self.job, after):
+                first, second, third = self.vector(file)
+                off = abs(off_goal(self.job, after)[0])
+                found[file] = (-first, -second, -third, off, file)
+        return found
+
+    def move(self, file):
+        self.free.remove(file)
+        self.locked.add(file)
+        self.sides[file] = 1 - self.sides[file]
+
+
+def see_vectors(job, start):
+    """Each move by edition 3 has the greatest vector of all legal moves, then the least
+    distance, then the lowest number; the pass stops where there is none; what is listed of
+    it is level 1, and no scan is."""
+    answer = planner.one_pass(job, start, 3)
+    segments = Segments(job, start)
+    for k, file in enumerate(moves_of(answer)):
+        offers = segments.offers()
+        assert file in offers, "a move that is not legal"
+        assert file == min(offers, key=offers.get), "a better move was there"
+        assert answer.move_gains[k] == -offers[file][0], "a gain is not level 1"
+        segments.move(file)
+        gained = sum(answer.move_gains[: k + 1])
+        assert answer.move_cuts[k] == planner.cut(job, segments.sides), "a cut is wrong"
+        assert answer.cut_before - gained == answer.move_cuts[k], "no sum"
+    assert not segments.offers(), "a legal move was left"
+    for file, vector in segments.vectors().items():
+        assert answer.gains[file] == vector[0], "the gain list is not level 1"
+    zeros = (answer.move_scans, answer.scan_recipes, answer.scan_kinds)
+    assert not any(map(any, zeros)), "a scan is listed"
+    assert (answer.scans, answer.visits) == (0, 0), "a scan is counted"
+
+
+SEEN_BY_3 = (see_vectors, *map(by_edition(3), (see_best_prefix, see_lists)))
+
+
+def foreseen(job, start):
+    """What planner.py looks at before the first move of the pass by edition 3 and after
+    each: the sides, the locks, the binding numbers and the vectors."""
+    answer = planner.one_pass(job, start, 3)
+    sides, locked = list(start), [mark != FREE for mark in job.marks]
+    foresight = planner.full_foresight(job, sides, locked)
+    yield sides, locked, foresight
+    for file in moves_of(answer):
+        locked[file] = True
+        sides[file] = 1 - sides[file]
+        planner.look_anew(job, sides, locked, foresight, file)
+        yield sides, locked, foresight
+
+
+def vector_rows(job, start):
+    """The vectors of the free files, in both ways, before the first move and after each."""
+    moves = moves_of(planner.one_pass(job, start, 3))
+    segments, rows = Segments(job, start), []
+    for k, (_, locked, foresight) in enumerate(foreseen(job, start)):
+        if k:
+            segments.move(moves[k - 1])
+        free = [file for file in range(job.files) if not locked[file]]
+        rows.append({file: foresight.vectors[file] for file in free})
+        assert rows[-1] == segments.vectors(), "the two ways differ"
+    return rows
+
+
+def knowing_3():
+    """Order 12 has landed: edition 3 is one that there is."""
+    return mock.patch.object(planner, "EDITIONS", (1, 2, 3))
+
+
+class Foresight(unittest.TestCase):
+    """Edition 3, worked out by hand."""
+
+    def see(self, name, moves, gains, cuts, vectors, job=None):
+        """A pass: its moves with gain and cut, and the vectors of the free files at the
+        start and after every move; and the same with the vaults changed for one another."""
+        job = job or samples.foresights()[name]
+        for one in (job, samples.turned(job)):
+            self.assertEqual(planner.check(one), (0, 0))
+            answer = planner.one_pass(one, one.sides, 3)
+            self.assertEqual(moves_of(answer), moves)
+            self.assertEqual(answer.move_gains[: len(moves)], gains)
+            self.assertEqual(answer.move_cuts[: len(moves)], cuts)
+            self.assertEqual(vector_rows(one, one.sides), vectors)
+            for see in SEEN_BY_3:
+                see(one, one.sides)
+        return planner.one_pass(job, job.sides, 3)
+
+    def first_by_1(self, name):
+        job = samples.foresights()[name]
+        return planner.one_pass(job, job.sides).move_files[0]
+
+    def added(self, own_free, own_locked, other_free, other_locked, side=A):
+        """What one recipe with so many files adds to the levels of its first."""
+        counts = (own_free, own_locked, other_free, other_locked)
+        sides = [side] * (own_free + own_locked) + [1 - side] * (other_free + other_locked)
+        marks = [mark for mark, n in zip([FREE, PINNED] * 2, counts) for _ in range(n)]
+        job = samples.all_free([range(len(sides))], sides).changed(marks=marks)
+        locked = [mark != FREE for mark in marks]
+        found = planner.full_foresight(job, job.sides, locked).vectors[0]
+        self.assertEqual(Segments(job, job.sides).vector(0), found)
+        return found
+
+    def test_one_recipe(self):
+        """Every row and column of the table, with files enough for it; and a locked file
+        beside any number of free ones."""
+        numbers = {1: (1, 0), 2: (2, 0), 3: (3, 0), MANY: (4, 0), "far": (9, 0)}
+        numbers |= {"a lock": (1, 1), "two": (1, 2), "more": (3, 1), "most": (5, 2)}
+        others = {0: (0, 0), 1: (1, 0), 2: (2, 0), MANY: (3, 0), "far": (8, 0)}
+        others |= {"a lock": (0, 1), "two": (0, 2), "beside 1": (1, 1), "beside 2": (2, 1)}
+        for (own, of_own), (other, of_other) in itertools.product(
+            numbers.items(), others.items()
+        ):
+            if of_own + of_other == (1, 0, 0, 0):
+                continue
+            told = ADDED[own if own in ADDED else MANY][other if other in (0, 1, 2) else MANY]
+            for side in (A, B):
+                self.assertEqual(self.added(*of_own, *of_other, side), told)
+
+    def test_source_004_on_one_net(self):
+        """Section II: numbers 1 and above 0, "above 0" and 0, 2 and above 0, "above 0" and
+        1. Each other number is one that adds nothing else."""
+        many = 5
+        self.assertEqual(self.added(1, 0, many, 0), (1, 0, 0))
+        self.assertEqual(self.added(many, 0, 0, 0), (-1, 0, 0))
+        self.assertEqual(self.added(2, 0, many, 0), (0, 1, 0))
+        self.assertEqual(self.added(many, 0, 1, 0), (0, -1, 0))
+        # By the same words at the third level.
+        self.assertEqual(self.added(3, 0, many, 0), (0, 0, 1))
+        self.assertEqual(self.added(many, 0, 2, 0), (0, 0, -1))
+        # "N is said to be locked with respect to a partition": it is cut for good.
+        self.assertEqual(self.added(1, 1, 1, 1), (0, 0, 0))
+
+    def test_one_readable_file(self):
+        """In no level, whatever its unread files are; and one that is on no recipe."""
+        for sides in itertools.product((A, B), repeat=3):
+            job = samples.all_free([[0, 1], [2, 0, 1]], sides)
+            job = job.changed(marks=[FREE, UNREAD, UNREAD])
+            foresight = planner.full_foresight(job, sides, [False, True, True])
+            self.assertEqual(foresight.vectors[0], (0, 0, 0))
+            self.assertEqual(foresight.numbers, [[0, 0], [0, 0]])
+            self.assertEqual(Segments(job, sides).vector(0), (0, 0, 0))
+
+    def test_a_tie_broken_at_level_2(self):
+        answer = self.see(
+            "second",
+            moves=[1, 0, 4, 2, 3],
+            gains=[1, 1, 1, 0, 1],
+            cuts=[3, 2, 1, 1, 0],
+            vectors=[
+                {0: (1, 0, 1), 1: (1, 1, 0), 2: (0, 0, 1), 3: (0, 0, 1), 4: (0, 1, 0)},
+                # File 4 is alone now. Of 0 and 4 level 3 decides.
+                {0: (1, 0, 1), 2: (0, 0, 1), 3: (0, 0, 1), 4: (1, 0, 0)},
+                {2: (0, 1, 0), 3: (0, 1, 0), 4: (1, 0, 0)},
+                {2: (0, 1, 0), 3: (0, 1, 0)},
+                {3: (1, 0, 0)},
+                {},
+            ],
+        )
+        self.assertEqual((answer.cut_before, answer.cut_after, answer.kept), (4, 0, 5))
+        self.assertEqual((answer.size_a, answer.gains), (5, [1, 1, 0, 1, 1, 0, 0]))
+        self.assertEqual(self.first_by_1("second"), 0)
+
+    def test_a_tie_broken_at_level_3(self):
+        self.see(
+            "third",
+            moves=[1, 0, 2, 3],
+            gains=[1, 1, 0, 1],
+            cuts=[2, 1, 1, 0],
+            vectors=[
+                {0: (1, 0, 0), 1: (1, 0, 1), 2: (0, 0, 1), 3: (0, 0, 1)},
+                {0: (1, 0, 0), 2: (0, 1, 0), 3: (0, 1, 0)},
+                {2: (0, 1, 0), 3: (0, 1, 0)},
+                {3: (1, 0, 0)},
+                {},
+            ],
+        )
+        self.assertEqual(self.first_by_1("third"), 0)
+
+    def test_a_tie_broken_at_none(self):
+        """2·|A| is 5 above 15: without file 1, or 2, it is 1 below, and without 0 it is 3
+        above. Then file 2 would take it to 7 below, and last to 9."""
+        answer = self.see(
+            "alike",
+            moves=[1, 0],
+            gains=[0, 0],
+            cuts=[1, 1],
+            vectors=[
+                {0: (0, 0, 1), 1: (0, 0, 1), 2: (0, 0, 1)},
+                {0: (0, 1, 0), 2: (0, 1, 0)},
+                {2: (1, 0, 0)},
+            ],
+        )
+        self.assertEqual((answer.kept, answer.gains), (0, [0, 0, 1, 0, 0]))
+
+    def test_a_bird_in_the_hand(self):
+        """Source 004, section VII: 1, 0 is "ordered" above 0, 2."""
+        self.see(
+            "two_in_the_bush",
+            moves=[3, 0, 1, 2],
+            gains=[1, 0, 1, 1],
+            cuts=[2, 2, 1, 0],
+            vectors=[
+                {0: (0, 2, 0), 1: (0, 1, 0), 2: (0, 1, 0), 3: (1, 0, 0)},
+                {0: (0, 2, 0), 1: (0, 1, 0), 2: (0, 1, 0)},
+                {1: (1, 0, 0), 2: (1, 0, 0)},
+                {2: (1, 0, 0)},
+                {},
+            ],
+        )
+
+    LOCKS = dict(
+        moves=[2, 3, 4, 1, 0],
+        gains=[0, 1, 1, 0, -1],
+        cuts=[3, 2, 1, 1, 2],
+        vectors=[
+            # File 4 is not legal.
+            {0: (0, -1, 0), 1: (0, 0, 0), 2: (0, 1, 0), 3: (0, 1, 0), 4: (1, 0, 0)},
+            # Of 3 and 4 the distance decides.
+            {0: (0, -1, 0), 1: (0, 0, 0), 3: (1, 0, 0), 4: (1, 0, 0)},
+            {0: (0, -1, 0), 1: (0, 0, 0), 4: (1, 0, 0)},
+            {0: (-1, 0, 0), 1: (0, 0, 0)},
+            {0: (-1, 0, 0)},
+            {},
+        ],
+    )
+
+    def test_locked_files_on_one_side_and_on_both(self):
+        answer = self.see("locks", **self.LOCKS)
+        self.assertEqual((answer.kept, answer.size_a), (3, 7))
+        self.assertEqual(answer.sides, [A, A, B, B, A, A, B])
+        self.assertEqual(answer.gains, [-1, 0, 0, 1, 1, 0, 0])
+
+    def test_unread_files(self):
+        answer = self.see("locks_unread", **self.LOCKS)
+        self.assertEqual((answer.unread, answer.size_a), ((2, 5), 7))
+        self.assertEqual(answer.sides, [A, A, B, B, A, A, B, A, B])
+        self.assertEqual(answer.gains, [-1, 0, 0, 1, 1, 0, 0, 0, 0])
+
+    def test_a_file_on_no_recipe(self):
+        """It goes before one that loses at level 2; so 2 can follow it, and the cut is 0.
+        By edition 1 file 0 goes, and nothing is gained."""
+        answer = self.see(
+            "lost_at_2",
+            moves=[1, 2, 0],
+            gains=[0, 1, -1],
+            cuts=[1, 0, 1],
+            vectors=[
+                {0: (0, -1, 0), 1: (0, 0, 0), 2: (1, 0, 0)},
+                {0: (0, -1, 0), 2: (1, 0, 0)},
+                {0: (-1, 0, 0)},
+                {},
+            ],
+        )
+        self.assertEqual((answer.cut_before, answer.cut_after), (1, 0))
+        self.assertEqual(self.first_by_1("lost_at_2"), 0)
+        self.assertEqual(planner.run(samples.foresights()["lost_at_2"]).cut_after, 1)
+
+    def test_a_loss_at_level_3(self):
+        answer = self.see(
+            "lost_at_3",
+            moves=[1, 2, 0, 3],
+            gains=[0] * 4,
+            cuts=[1] * 4,
+            vectors=[
+                {0: (0, 0, -1), 1: (0, 0, 0), 2: (0, 1, 0), 3: (0, 1, 0)},
+                {0: (0, 0, -1), 2: (0, 1, 0), 3: (0, 1, 0)},
+                # File 2 has moved, and locks the recipe to A.
+                {0: (0, -1, 0), 3: (1, 0, 0)},
+                # File 0 has moved, and locks it to both.
+                {3: (0, 0, 0)},
+                {},
+            ],
+        )
+        self.assertEqual((answer.kept, self.first_by_1("lost_at_3")), (0, 0))
+
+    def test_the_chain(self):
+        """Both ends of a recipe are free: what is gained at level 1 is lost at level 2."""
+        job = samples.chain()
+        self.see(
+            "chain",
+            moves=[1, 2, 0, 3],
+            gains=[2, 0, -1, -1],
+            cuts=[1, 1, 2, 3],
+            vectors=[
+                {0: (1, -1, 0), 1: (2, -2, 0), 2: (2, -2, 0), 3: (1, -1, 0)},
+                {0: (-1, 0, 0), 2: (0, -1, 0), 3: (1, -1, 0)},
+                {0: (-1, 0, 0), 3: (-1, 0, 0)},
+                {3: (-1, 0, 0)},
+                {},
+            ],
+            job=job,
+        )
+        self.see(
+            "chain",
+            moves=[2, 1, 3, 0],
+            gains=[0, 0, -1, 1],
+            cuts=[1, 1, 2, 1],
+            vectors=[
+                {0: (-1, 0, 0), 1: (-2, 0, 0), 2: (0, -1, 0), 3: (1, -1, 0)},
+                {0: (-1, 0, 0), 1: (0, 0, 0), 3: (-1, 0, 0)},
+                {0: (1, 0, 0), 3: (-1, 0, 0)},
+                {0: (1, 0, 0)},
+                {},
+            ],
+            job=job.changed(sides=[A, A, A, B]),
+        )
+
+    def test_every_pass(self):
+        for jobs in (small_jobs(), unread_jobs(), wider_jobs()):
+            for job in jobs:
+                for see in SEEN_BY_3:
+                    see(job, job.sides)
+
+    def test_level_1_of_a_free_file_is_its_gain(self):
+        """By document 01, and by source 004's theorem 1: what the cut loses. No level is
+        further from 0 than the file has recipes."""
+        for job in small_jobs() + unread_jobs():
+            for sides, locked, foresight in foreseen(job, job.sides):
+                gains = planner.all_gains(job, sides)
+                now = planner.cut(job, sides)
+                for file in range(job.files):
+                    if locked[file]:
+                        continue
+                    vector = foresight.vectors[file]
+                    self.assertEqual(vector[0], gains[file])
+                    after = planner.sides_after(sides, [file])
+                    self.assertEqual(vector[0], now - planner.cut(job, after))
+                    most = len(job.file_recipes[file])
+                    self.assertTrue(all(-most <= one <= most for one in vector))
+
+    def test_the_two_ways_have_the_same_vectors(self):
+        for job in small_jobs()[:100] + unread_jobs()[:100] + wider_jobs()[:50]:
+            vector_rows(job, job.sides)
+
+    def test_what_is_kept_is_what_would_be_counted(self):
+        """Nothing changes but in the recipes of the moved file."""
+        for job in small_jobs()[:100] + unread_jobs()[:100]:
+            for sides, locked, foresight in foreseen(job, job.sides):
+                self.assertEqual(foresight, planner.full_foresight(job, sides, locked))
+
+    def test_a_binding_number_that_grows_is_unlimited(self):
+        """Source 004, lemma 4; and then it stays so."""
+        for job in small_jobs()[:100] + unread_jobs()[:50]:
+            segments = Segments(job, job.sides)
+            before = segments.bindings()
+            for file in moves_of(planner.one_pass(job, job.sides, 3)):
+                segments.move(file)
+                after = segments.bindings()
+                for old, new in zip(before, after):
+                    self.assertTrue(new is None or (old is not None and new <= old))
+                before = after
+
+    def test_the_vaults_changed_for_one_another(self):
+        for job in small_jobs() + wider_jobs():
+            turned = samples.turned(job)
+            one, other = (planner.one_pass(j, j.sides, 3) for j in (job, turned))
+            self.assertEqual(moves_of(one), moves_of(other))
+            self.assertEqual((one.move_cuts, one.gains), (other.move_cuts, other.gains))
+
+    def test_without_unread_files(self):
+        """The same moves, gains and cuts as of the job without them."""
+        for job in unread_jobs():
+            rest, files, _ = taken_out(job)
+            whole = planner.one_pass(job, job.sides, 3)
+            part = planner.one_pass(rest, rest.sides, 3)
+            self.assertEqual(moves_of(whole), [files[i] for i in moves_of(part)])
+            for name in ("move_gains", "move_cuts"):
+                listed = getattr(whole, name)[: whole.tried]
+                self.assertEqual(listed, getattr(part, name)[: part.tried])
+
+    def test_where_nothing_ties_it_is_edition_1(self):
+        """The first move on which the two part is one of a tie in gain."""
+        parted = 0
+        for job in small_jobs() + wider_jobs():
+            one, three = (planner.one_pass(job, job.sides, edition) for edition in (1, 3))
+            pairs = zip(moves_of(one), moves_of(three))
+            at = next((k for k, (a, b) in enumerate(pairs) if a != b), None)
+            if at is None:
+                self.assertEqual(one.move_files, three.move_files)
+                continue
+            parted += 1
+            self.assertEqual(one.move_gains[: at + 1], three.move_gains[: at + 1])
+        self.assertGreater(parted, 50)
+
+
+@functools.cache
+def runs_by_3():
+    """Runs without a cap, of jobs of every kind."""
+    jobs = [job.changed(cap=0) for job in small_jobs() + unread_jobs() + wider_jobs()]
+    with knowing_3():
+        return [(job, planner.run(job, edition=3)) for job in jobs]
+
+
+class SettledBy3(unittest.TestCase):
+    """Order 10's statements, of edition 3."""
+
+    def test_no_legal_move_lessens_the_cut(self):
+        for job, answer in runs_by_3():
+            self.assertTrue(answer.settled)
+            locked = [mark != FREE for mark in job.marks]
+            legal = legal_moves(job, answer.last.sides, locked)
+            self.assertTrue(all(rank[0] >= 0 for rank in legal.values()))
+
+    def test_a_second_run_makes_one_pass_and_keeps_nothing(self):
+        for job, answer in runs_by_3():
+            after = job.changed(sides=answer.last.sides)
+            with knowing_3():
+                again = planner.run(after, edition=3)
+            self.assertEqual((again.passes, again.kept, again.settled), (1, 0, True))
+            self.assertEqual(again.last.sides, answer.last.sides)
+            self.assertEqual(again.cut_before, again.cut_after)
+
+    def test_passes_are_at_most_the_starting_cut_and_one(self):
+        for _, answer in runs_by_3():
+            self.assertLessEqual(answer.passes, answer.cut_before + 1)
+
+    def test_a_run_is_its_passes(self):
+        for job in small_jobs() + wider_jobs():
+            with knowing_3():
+                answer = planner.run(job, edition=3)
+            sides, cuts = job.sides, [planner.cut(job, job.sides)]
+            for _ in range(answer.passes):
+                one = planner.one_pass(job, sides, 3)
+                sides = one.sides
+                cuts.append(one.cut_after)
+            self.assertEqual((answer.last, answer.cut_after), (one, cuts[-1]))
+            self.assertTrue(all(b > a for b, a in zip(cuts, cuts[1:-1])))
+            self.assertEqual(answer.settled, cuts[-1] == cuts[-2])
+            self.assertEqual((answer.scans, answer.visits), (0, 0))
+
+
+class CallsBy3(unittest.TestCase):
+    """What is handed to a pass and a run by edition 3, once it is one that there is."""
+
+    def lent(self, job, step=0, scratch=0):
+        return planner.Lent(
+            gains=[7] * job.files,
+            moves=[[7] * (job.files + step) for _ in range(4)],
+            scans=[[7] * (4 * job.recipes + step) for _ in range(2)],
+            scratch=[7] * (planner.scratch_numbers(job, 1) + step + scratch),
+        )
+
+    def calls(self, job, edition, lent):
+        both = planner.pass_call, planner.run_call
+        with knowing_3():
+            return [called(job, edition, lent) for called in both]
+
+    def test_scratch_as_in_edition_1(self):
+        job = samples.worked()
+        for edition in (1, 3):
+            self.assertEqual(planner.scratch_numbers(job, edition), 11 + 32 + 16 + 16)
+        for number, _, _, _, after in self.calls(job, 3, self.lent(job)):
+            self.assertEqual((number, any(after.scratch)), (0, False))
+        lent = self.lent(job, scratch=-1)
+        for number, place, figures, sides, after in self.calls(job, 3, lent):
+            self.assertEqual((number, place, any(figures)), (3, 0, False))
+            self.assertEqual((sides, after), (list(job.sides), lent))
+
+    def test_zeros_and_what_stays(self):
+        job = samples.worked()
+        for number, _, figures, _, after in self.calls(job, 3, self.lent(job, 5)):
+            self.assertEqual((number, figures[5:7]), (0, (0, 0)))
+            self.assertEqual(after.moves[3], [0] * 8 + [7] * 5)
+            for one in after.scans:
+                self.assertEqual(one, [0] * 16 + [7] * 5)
+            self.assertEqual(after.scratch, [0] * 75 + [7] * 5)
+
+    def test_each_list_too_short(self):
+        job, right = samples.worked(), self.lent(samples.worked())
+        wrong = [dataclasses.replace(right, gains=[7] * n) for n in (7, 9)]
+        for at in range(4):
+            moves = [one[at == k :] for k, one in enumerate(right.moves)]
+            wrong.append(dataclasses.replace(right, moves=moves))
+        for at in range(2):
+            scans = [one[at == k :] for k, one in enumerate(right.scans)]
+            wrong.append(dataclasses.replace(right, scans=scans))
+        for lent in wrong:
+            for number, place, figures, sides, after in self.calls(job, 3, lent):
+                self.assertEqual((number, place, any(figures)), (3, 0, False))
+                self.assertEqual((sides, after), (list(job.sides), lent))
+
+    def test_refusals_behind_32_are_those_of_edition_1(self):
+        with knowing_3():
+            for job in any_starts():
+                self.assertEqual(planner.edition_refusal(3, job, True), planner.check(job))
+                self.assertEqual(planner.edition_refusal(4, job, True), (32, 0))
+
+    def test_other_editions(self):
+        for edition in (0, 4, 5, 255, 256, 257, 258, 259, 515, 32771, 65535):
+            job = samples.chain()
+            lent = self.lent(job)
+            for number, place, figures, sides, after in self.calls(job, edition, lent):
+                self.assertEqual((number, place, any(figures)), (32, 0, False))
+                self.assertEqual((sides, after), (list(job.sides), lent))
+
+    def test_the_programs(self):
+        data = planner.write_job(samples.foresights()["second"])
+        with knowing_3():
+            self.assertEqual(
+                planner.edition_program(["3"], data),
+                "done\ncut 4 0\nsize 5 10\npasses 2\nsettled yes\nkept 5\nvisits 0\n"
+                "sides BBBBBAB\n",
+            )
+            self.assertEqual(
+                planner.trace_program(["3"], data),
+                "done\nmove 1 1 3\nmove 0 1 2\nmove 4 1 1\nmove 2 0 1\nmove 3 1 0\n"
+                "gains 1 1 0 1 1 0 0\ncut 4 0\nsize 5 10\ntried 5\nkept 5\nscans 0\n"
+                "visits 0\nsides BBBBBAB\n",
+            )
+            new, said = planner.resettle_program(["3"], data)
+            self.assertEqual(planner.edition_program(["4"], data), "refused 32 0\n")
+        sides = [B] * 5 + [A, B]
+        job = samples.foresights()["second"].changed(sides=sides)
+        self.assertEqual((new, said), (planner.write_job(job), ""))
 
 
 class Mill(unittest.TestCase):
@@ -3487,6 +4078,151 @@ class CanFail(unittest.TestCase):
                 planner.enter(buckets, sides, other, planner.leave(buckets, sides, other) + step)
 
         self.assertTrue(self.fronts_seen("follow_scans", once))
+
+    def vectors_seen(self, name, wrong, jobs=None):
+        return self.seen(see_vectors, name, wrong, jobs)
+
+    def numbers_with(self, counted):
+        """binding_number by another count of the files there, free and locked ones."""
+
+        def number(job, sides, locked, recipe, side):
+            there = [i for i in job.readable_recipes[recipe] if sides[i] == side]
+            free = [i for i in there if not locked[i]]
+            pinned = [i for i in there if job.marks[i] == PINNED]
+            return counted(len(free), len(there) - len(free), len(pinned))
+
+        return number
+
+    def test_binding_numbers(self):
+        """The right one; a locked file counted as free, or not at all; unlimited taken for
+        0, or for one file; pinned files alone that lock, and moved ones alone."""
+        unlimited = planner.UNLIMITED
+        right = self.numbers_with(lambda f, l, p: unlimited if l else f)
+        self.assertFalse(self.vectors_seen("binding_number", right))
+        for wrong in (
+            lambda f, l, p: f + l,
+            lambda f, l, p: f,
+            lambda f, l, p: 0 if l else f,
+            lambda f, l, p: 1 if l else f,
+            lambda f, l, p: unlimited if p else f + l,
+            lambda f, l, p: unlimited if p else f,
+            lambda f, l, p: unlimited if l > p else f + p,
+        ):
+            self.assertTrue(self.vectors_seen("binding_number", self.numbers_with(wrong)))
+
+    def levels_with(self, more, less):
+        """counts_for by other tests of the own-side and the other-side number."""
+        return lambda i, own, other: more(i, own, other) - less(i, own, other)
+
+    def test_levels(self):
+        """The right ones; nothing added, or nothing taken off; other-side number i, or i - 1
+        or less; own-side number i - 1, or up to i; no look at whether the recipe is cut."""
+
+        def more(i, own, other):
+            return own == i and other > 0
+
+        def less(i, own, other):
+            return own > 0 and other == i - 1
+
+        right = self.levels_with(more, less)
+        self.assertFalse(self.vectors_seen("counts_for", right))
+        for wrong in (
+            (lambda i, own, other: i == 1 and more(i, own, other), less),
+            (more, lambda i, own, other: i == 1 and less(i, own, other)),
+            (more, lambda i, own, other: other == (0, 2, 3)[i - 1]),
+            (more, lambda i, own, other: other <= i - 1),
+            (lambda i, own, other: own == (1, 1, 2)[i - 1] and other > 0, less),
+            (lambda i, own, other: own <= i and other > 0, less),
+            (lambda i, own, other: own == i, less),
+        ):
+            self.assertTrue(self.vectors_seen("counts_for", self.levels_with(*wrong)))
+
+    def chosen_with(self, rank):
+        """choose_by_vector by another rank of the vector, the distance and the number."""
+
+        def chosen(job, sides, locked, vectors):
+            ranks = {}
+            for file in range(job.files):
+                after = planner.sides_after(sides, [file])
+                if not locked[file] and in_window(job, after):
+                    least = tuple(-one for one in vectors[file])
+                    off = abs(off_goal(job, after)[0])
+                    ranks[file] = rank(least, off, file)
+            return min(ranks, key=ranks.get) if ranks else None
+
+        return chosen
+
+    def test_choices_by_vector(self):
+        """The right one; compared from the last level; without the third, and without the
+        second; the distance before level 2, and before level 3; no distance; the highest
+        number; and the sum of the levels."""
+        right = self.chosen_with(lambda v, off, i: (v, off, i))
+        self.assertFalse(self.vectors_seen("choose_by_vector", right))
+        for wrong in (
+            lambda v, off, i: (v[::-1], off, i),
+            lambda v, off, i: (v[:2], off, i),
+            lambda v, off, i: (v[0], v[2], off, i),
+            lambda v, off, i: (v[0], off, v[1:], i),
+            lambda v, off, i: (v[:2], off, v[2], i),
+            lambda v, off, i: (v, i),
+            lambda v, off, i: (v, off, -i),
+            lambda v, off, i: (sum(v), off, i),
+        ):
+            self.assertTrue(self.vectors_seen("choose_by_vector", self.chosen_with(wrong)))
+
+    def test_vectors_that_are_not_looked_at_anew(self):
+        """Not at all; the numbers alone; and as if the moved file were free still."""
+
+        def none(job, sides, locked, foresight, moved):
+            pass
+
+        def numbers_alone(job, sides, locked, foresight, moved):
+            for j in job.file_recipes[moved]:
+                numbers = planner.binding_numbers(job, sides, locked, j)
+                foresight.numbers[j] = numbers
+                foresight.counted[j] = planner.counts_for_all(*numbers)
+
+        def before_the_lock(job, sides, locked, foresight, moved):
+            still = [lock and i != moved for i, lock in enumerate(locked)]
+            right(job, sides, still, foresight, moved)
+
+        right = planner.look_anew
+        for wrong in (none, numbers_alone, before_the_lock):
+            self.assertTrue(self.vectors_seen("look_anew", wrong))
+
+    def test_unread_files_in_a_level(self):
+        """Counted as locked files; a recipe of one readable file; counted as free files."""
+
+        def whole(job):
+            return job.whole_recipes
+
+        def readable(job):
+            return [readable_part(job, files) for files in job.whole_recipes]
+
+        self.assertTrue(self.unread_seen(see_vectors, "readable_recipes", whole))
+        self.assertTrue(self.unread_seen(see_vectors, "readable_recipes", readable))
+
+        def as_free(job, sides, locked, recipe, side):
+            files = job.whole_recipes[recipe] if job.readable_recipes[recipe] else []
+            there = [i for i in files if sides[i] == side]
+            if any(locked[i] and job.marks[i] != UNREAD for i in there):
+                return planner.UNLIMITED
+            return len(there)
+
+        self.assertTrue(self.vectors_seen("binding_number", as_free, unread_jobs()))
+
+    def test_gains_that_are_not_level_1(self):
+        right = planner.listed_gains
+
+        def not_kept(job, stood, move_files, move_gains):
+            return list(stood)
+
+        def of_the_end(job, stood, move_files, move_gains):
+            return right(job, stood, [], [])
+
+        asked = by_edition(3)(see_lists)
+        for wrong in (not_kept, of_the_end):
+            self.assertTrue(self.seen(asked, "listed_gains", wrong))
 
     def test_gain_list_of_the_end(self):
         def not_kept(job, sides, move_files, move_gains):

@@ -23,7 +23,7 @@ use Rattle.rules.proofs.Verdicts.{chain-stop, chain-same, passes-both}
 use Rattle.rules.proofs.SoundJob.{few-of, counts-pass}
 
 -- blocks grow with what they hold
-blocks-grow : (a b : ℕ) → a ≤ b → (blocksFor 126 a ≤ blocksFor 126 b) × (blocksFor 253 a ≤ blocksFor 253 b)
+pub blocks-grow : (a b : ℕ) → a ≤ b → (blocksFor 126 a ≤ blocksFor 126 b) × (blocksFor 253 a ≤ blocksFor 253 b)
 blocks-grow a b h = (omega arith, omega arith)
 
 module _ (most : Limits) (k : ℕ) (input : List ℕ) (more : mostBytes most < k) (long : k < length input) where

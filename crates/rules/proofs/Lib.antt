@@ -55,3 +55,8 @@ pub mod Comparing
 pub mod FrontsWorked
 pub mod NoneLessens
 pub mod SettledYes
+pub mod MoreFiles
+pub mod Orders
+pub mod Levels
+pub mod LevelsProved
+pub mod LevelsWorked

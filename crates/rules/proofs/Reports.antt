@@ -152,7 +152,7 @@ trace-sizes : (job : Job) (f : Figures) (sides : List ℕ) (l : Listing) → tra
 unfolding trace passLines sizeLine sizeOn sidesLine files
 trace-sizes job f sides l = refl
 
-trace-refused : (job : Job) (f : Figures) (sides : List ℕ) (l : Listing) → f .verdict .number ≢ 0 → trace job f sides l ≡ refusal (f .verdict)
+pub trace-refused : (job : Job) (f : Figures) (sides : List ℕ) (l : Listing) → f .verdict .number ≢ 0 → trace job f sides l ≡ refusal (f .verdict)
 unfolding trace
 trace-refused job f sides l h = tells-refused (f .verdict) (passLines job f sides l) h
 

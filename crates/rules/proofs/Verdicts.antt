@@ -3,6 +3,7 @@ use mathlib.Core.Path.{_≡_, refl, sym, ap, ap₂, _∙_}
 use mathlib.Core.Logic.{_≢_}
 use Prim.Native.Nat.{ℕ, suc, _≤_, _<_}
 use mathlib.Core.Bool.{Bool, true, false, not, cond, _&&_, _||_}
+use native.Mathlib.Decide.{ℕ-discrete}
 use native.Mathlib.Omega.{arith}
 use lib.Dec.{ltb, eqb}
 use lib.ListN.{length}
@@ -88,6 +89,26 @@ never-chain k v w a b = go (eqb (v .number) 0) refl
     go : (t : Bool) → eqb (v .number) 0 ≡ t → cond t w v .number ≢ k
     go true e = b (eqb-true (v .number) 0 e)
     go false e = a
+
+-- nor does its first check give such a number, or what follows one that lets through
+pub first-not : (k : ℕ) (v w : Verdict) → k ≢ 0 → (v orElse w) .number ≢ k → v .number ≢ k
+first-not k v w z n e = n (sym (ap (λ (x : Verdict). x .number) (chain-stop w refl (λ q. z (sym e ∙ q)))) ∙ e)
+
+pub then-not : (k : ℕ) (v w : Verdict) → v .number ≡ 0 → (v orElse w) .number ≢ k → w .number ≢ k
+then-not k v w z n e = n (sym (ap (λ (x : Verdict). x .number) (chain-go {a = v} refl z refl)) ∙ e)
+
+-- a number that a chain gives is given by what follows where its first check does not give it, and the other way round
+pub goes-on : (k : ℕ) (v w : Verdict) → v .number ≢ k → (v orElse w) .number ≡ k → (v .number ≡ 0) × (w .number ≡ k)
+goes-on k v w n e = elim (ℕ-discrete (v .number) 0) [
+  | yes z ↦ (z, ap (λ (x : Verdict). x .number) (chain-go {a = v} refl z refl) ∙ e)
+  | no q ↦ absurd (n (ap (λ (x : Verdict). x .number) (chain-stop w refl q) ∙ e))
+]
+
+pub ends-there : (k : ℕ) (v w : Verdict) → w .number ≢ k → (v orElse w) .number ≡ k → v .number ≡ k
+ends-there k v w n e = elim (ℕ-discrete (v .number) 0) [
+  | yes z ↦ absurd (n (ap (λ (x : Verdict). x .number) (chain-go {a = v} refl z refl) ∙ e))
+  | no q ↦ ap (λ (x : Verdict). x .number) (chain-stop w refl q) ∙ e
+]
 
 -- a number with a place
 pub at-lowest : (k : ℕ) (test : ℕ → Bool) (n : ℕ) → AtLowest (suc k) test n

@@ -23,3 +23,7 @@ pub mod Comparing
 pub mod FrontsHold
 pub mod FrontsWorked
 pub mod SettledYes
+pub mod MoreFiles
+pub mod Levels
+pub mod LevelsHold
+pub mod LevelsWorked
