@@ -8,7 +8,7 @@ use native.Mathlib.Omega.{arith}
 use lib.ListN.{length, get_or}
 use lib.Dec.{eqb}
 use borrow.Author.Tests.{eqb-false, not-true}
-use Rattle.rules.specs.Fronts.{without, toFront}
+use Rattle.rules.specs.Fronts.{without, to_front}
 use Rattle.buckets.specs.Links.{joined, entered, left}
 use Rattle.buckets.specs.StandFor.{◌∈◌, in_slot, Follows, Joined, Linked}
 use Rattle.buckets.proofs.Stores.{joined_length, joined-else, joins, stays}
@@ -93,5 +93,5 @@ module _ {files slots : ℕ} {slot : ℕ → ℕ} {order z : List ℕ} (l : Link
     out : Linked files slots slot' (without order f) (left back f z)
     out = elsewhere leaves slot' (λ g m. same g (gone f g order m))
 
-    pub reenters : Linked files slots slot' (toFront order f) (entered back (files + slot' f) f (left back f z))
+    pub reenters : Linked files slots slot' (to_front order f) (entered back (files + slot' f) f (left back f z))
     reenters = enters out f (λ m. gone f f order m refl) hf hs'

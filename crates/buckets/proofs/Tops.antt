@@ -11,8 +11,8 @@ use lib.Seq.{get_or-set_same, get_or-set_other}
 use lib.Dec.{eqb}
 use borrow.Author.Tests.{eqb-true}
 use Rattle.buckets.specs.declared.slots.Shape.{Shape}
-use Rattle.buckets.specs.Slots.{slots, vaultAt, backAt, topAt}
-use Rattle.buckets.specs.Links.{highestIn}
+use Rattle.buckets.specs.Slots.{slots, vault_at, back_at, top_at}
+use Rattle.buckets.specs.Links.{highest_in}
 use Rattle.buckets.specs.Entries.{raised}
 use Rattle.buckets.specs.StandFor.{Linked}
 use Rattle.buckets.proofs.Linking.{place-below, file-below}
@@ -20,14 +20,14 @@ use Rattle.buckets.proofs.Linking.{place-below, file-below}
 -- ---- their places
 
 module _ (shape : Shape) where
-  pub top-past : (u : ℕ) → backAt shape + shape.files < topAt shape u
+  pub top-past : (u : ℕ) → back_at shape + shape.files < top_at shape u
   top-past u = go (eqb u 0)
     where
-      go : (t : Bool) → backAt shape + shape.files < 2 * shape.files + slots shape.most + cond t 1 2
+      go : (t : Bool) → back_at shape + shape.files < 2 * shape.files + slots shape.most + cond t 1 2
       go true = omega arith
       go false = omega arith
 
-  pub top-most : (u : ℕ) → topAt shape u ≤ topAt shape 1
+  pub top-most : (u : ℕ) → top_at shape u ≤ top_at shape 1
   top-most u = go (eqb u 0)
     where
       go : (t : Bool) → 2 * shape.files + slots shape.most + cond t 1 2 ≤ 2 * shape.files + slots shape.most + 2
@@ -35,7 +35,7 @@ module _ (shape : Shape) where
       go false = omega arith
 
   -- vaults with one top are one
-  pub same-vault : (u v : ℕ) → topAt shape u ≡ topAt shape v → vaultAt shape.most u ≡ vaultAt shape.most v
+  pub same-vault : (u v : ℕ) → top_at shape u ≡ top_at shape v → vault_at shape.most u ≡ vault_at shape.most v
   same-vault u v = go (eqb u 0) (eqb v 0)
     where
       go : (a b : Bool) → 2 * shape.files + slots shape.most + cond a 1 2 ≡ 2 * shape.files + slots shape.most + cond b 1 2
@@ -82,22 +82,22 @@ module _ (at top : ℕ) (z : List ℕ) (h : at < length z) where
 -- ---- the walk down the heads
 
 module _ (none from : ℕ) (z : List ℕ) where
-  pub highest-most : (k : ℕ) → highestIn none from z k ≤ k
-  unfolding highestIn
+  pub highest-most : (k : ℕ) → highest_in none from z k ≤ k
+  unfolding highest_in
   highest-most zero = omega arith
   highest-most (suc k) = go (eqb (get_or z (from + k) 0) none) (highest-most k)
     where
-      go : (t : Bool) → highestIn none from z k ≤ k → cond t (highestIn none from z k) (suc k) ≤ suc k
+      go : (t : Bool) → highest_in none from z k ≤ k → cond t (highest_in none from z k) (suc k) ≤ suc k
       go true ih = omega arith
       go false ih = omega arith
 
   -- a head that names a file is not passed
-  pub highest-above : (k i : ℕ) → i < k → get_or z (from + i) 0 ≢ none → i < highestIn none from z k
-  unfolding highestIn
+  pub highest-above : (k i : ℕ) → i < k → get_or z (from + i) 0 ≢ none → i < highest_in none from z k
+  unfolding highest_in
   highest-above zero i l n = absurd (omega arith)
   highest-above (suc k) i l n = go (eqb (get_or z (from + k) 0) none) refl (highest-above k i)
     where
-      go : (t : Bool) → eqb (get_or z (from + k) 0) none ≡ t → (i < k → get_or z (from + i) 0 ≢ none → i < highestIn none from z k) → i < cond t (highestIn none from z k) (suc k)
+      go : (t : Bool) → eqb (get_or z (from + k) 0) none ≡ t → (i < k → get_or z (from + i) 0 ≢ none → i < highest_in none from z k) → i < cond t (highest_in none from z k) (suc k)
       go true e ih = elim (ℕ_discrete i k) [
         | yes q ↦ absurd (n (rw q (eqb-true (get_or z (from + k) 0) none e)))
         | no m ↦ ih (omega arith) n

@@ -6,7 +6,7 @@ use contract.Lifetimes.{Lfts}
 use denote.Triple.Clauses.{AtExit}
 use borrow.Fn.Kinds.{res_t, ended_of}
 use Rattle.rules.proofs.Settling.{Settles, both}
-use Rattle.buckets.specs.Offers.{Chosen, chosenIs}
+use Rattle.buckets.specs.Offers.{Chosen, chosen_is}
 use Rattle.buckets.proofs.fronts.choose_front.Kinds as choose-kinds
 use Rattle.buckets.proofs.fronts.choose_front.Reads as choose
 use Rattle.buckets.proofs.order.enter_all.Kinds as enter-kinds
@@ -27,7 +27,7 @@ to-front-settled κs a x y e f p q = both p q
 
 -- the answer, and the links
 abbrev leaves : (κs : Lfts 4) → (res_t choose-kinds.r κs).Denot → AtExit (ended_of 4 choose-kinds.ps choose-kinds.r) κs → Chosen
-leaves κs x e = chosenIs x e.0.now
+leaves κs x e = chosen_is x e.0.now
 
 pub choose-front-settled : Settles 4 choose-kinds.ps choose-kinds.r Chosen leaves choose.Post
 choose-front-settled κs a x y e f p q = both p q

@@ -9,12 +9,12 @@ use lib.ListN.{length, get_or, set, length-set}
 use lib.Seq.{get_or-set_same, get_or-set_other}
 use lib.IntN.{ℤ, pos}
 use Rattle.rules.specs.Split.{side_of}
-use Rattle.rules.specs.Fronts.{without, toFront}
+use Rattle.rules.specs.Fronts.{without, to_front}
 use Rattle.buckets.specs.declared.slots.Shape.{Shape}
-use Rattle.buckets.specs.Slots.{levels, slots, levelOf, vaultAt, slot_of, slotIn, headAt, backAt, topAt}
+use Rattle.buckets.specs.Slots.{levels, slots, level_of, vault_at, slot_of, slot_in, head_at, back_at, top_at}
 use Rattle.buckets.specs.Links.{entered, left}
 use Rattle.buckets.specs.Entries.{entered_at}
-use Rattle.buckets.specs.Offers.{topIn, frontIn}
+use Rattle.buckets.specs.Offers.{top_in, front_in}
 use Rattle.buckets.specs.StandFor.{◌∈◌, in_slot, first_or, Linked, StandFor}
 use Rattle.buckets.proofs.Stores.{joined_length}
 use Rattle.buckets.proofs.Rows.{those-pass}
@@ -26,9 +26,9 @@ use Rattle.buckets.proofs.Tops.{top-past, top-most, same-vault, set_past, raised
 
 module _ {shape : Shape} {sides : List ℕ} {gains : List ℤ} {order z : List ℕ} (s : StandFor shape sides gains order z) where
   abbrev back : ℕ
-  back = backAt shape
+  back = back_at shape
 
-  past : (u : ℕ) → back + shape.files < topAt shape u
+  past : (u : ℕ) → back + shape.files < top_at shape u
   past u = top-past shape u
 
   -- ---- a file that is not there enters
@@ -41,18 +41,18 @@ module _ {shape : Shape} {sides : List ℕ} {gains : List ℤ} {order z : List �
     gain = get_or gains f (pos 0)
 
     abbrev inside : List ℕ
-    inside = entered back (headAt shape side gain) f z
+    inside = entered back (head_at shape side gain) f z
 
-    in-linked : Linked shape.files (slots shape.most) (slotIn shape.most sides gains) (f ∷ order) inside
+    in-linked : Linked shape.files (slots shape.most) (slot_in shape.most sides gains) (f ∷ order) inside
     in-linked = enters s.linked f fresh hf (slot-within shape.most side gain)
 
-    in_top : (u : ℕ) → get_or inside (topAt shape u) 0 ≡ get_or z (topAt shape u) 0
-    in_top u = entered-else s.linked f fresh hf (slot-within shape.most side gain) (topAt shape u) (past u)
+    in_top : (u : ℕ) → get_or inside (top_at shape u) 0 ≡ get_or z (top_at shape u) 0
+    in_top u = entered-else s.linked f fresh hf (slot-within shape.most side gain) (top_at shape u) (past u)
 
     in-length : length inside ≡ length z
     in-length = simp joined_length
 
-    placed : topAt shape side < length inside
+    placed : top_at shape side < length inside
     placed = omega (arith, in-length, top-most shape side, s.room)
 
     pub stands-entered : StandFor shape sides gains (f ∷ order) (entered_at shape side gain f z)
@@ -60,21 +60,21 @@ module _ {shape : Shape} {sides : List ℕ} {gains : List ℤ} {order z : List �
     stands-entered = record {
       fits = s.fits;
       gained = s.gained;
-      room = rw (length-set inside (topAt shape side) _) (omega (arith, in-length, s.room));
-      linked = set_past (topAt shape side) _ (past side) in-linked;
-      low = λ u. raised-most (topAt shape side) (levelOf shape.most gain + 1) inside placed (topAt shape u) (levels shape.most)
+      room = rw (length-set inside (top_at shape side) _) (omega (arith, in-length, s.room));
+      linked = set_past (top_at shape side) _ (past side) in-linked;
+      low = λ u. raised-most (top_at shape side) (level_of shape.most gain + 1) inside placed (top_at shape u) (levels shape.most)
           (rw (in_top u) (s.low u)) (omega (arith, level-most shape.most gain));
       under = λ g m. elim m [
-        | inl e ↦ rw e (omega (arith, raised-own (topAt shape side) (levelOf shape.most gain + 1) inside placed))
-        | inr k ↦ omega (arith, s.under g k, in_top (side_of sides g), raised-least (topAt shape side) (levelOf shape.most gain + 1) inside placed (topAt shape (side_of sides g)))
+        | inl e ↦ rw e (omega (arith, raised-own (top_at shape side) (level_of shape.most gain + 1) inside placed))
+        | inr k ↦ omega (arith, s.under g k, in_top (side_of sides g), raised-least (top_at shape side) (level_of shape.most gain + 1) inside placed (top_at shape (side_of sides g)))
       ];
     }
 
   -- ---- a file leaves
 
   module _ (f : ℕ) (held : f ∈ order) where
-    out-top : (u : ℕ) → get_or (left back f z) (topAt shape u) 0 ≡ get_or z (topAt shape u) 0
-    out-top u = left-else s.linked f held (topAt shape u) (past u)
+    out-top : (u : ℕ) → get_or (left back f z) (top_at shape u) 0 ≡ get_or z (top_at shape u) 0
+    out-top u = left-else s.linked f held (top_at shape u) (past u)
 
     pub stands-left : StandFor shape sides gains (without order f) (left back f z)
     stands-left = record {
@@ -90,13 +90,13 @@ module _ {shape : Shape} {sides : List ℕ} {gains : List ℤ} {order z : List �
 
   module _ (u : ℕ) where
     abbrev at : ℕ
-    at = topAt shape u
+    at = top_at shape u
 
     abbrev from : ℕ
-    from = shape.files + vaultAt shape.most u
+    from = shape.files + vault_at shape.most u
 
     abbrev top : ℕ
-    top = topIn shape u z
+    top = top_in shape u z
 
     room_at : at < length z
     room_at = omega (arith, top-most shape u, s.room)
@@ -104,10 +104,10 @@ module _ {shape : Shape} {sides : List ℕ} {gains : List ℤ} {order z : List �
     top_least : top ≤ get_or z at 0
     top_least = highest-most shape.files from z (get_or z at 0)
 
-    names-file : (g : ℕ) → g ∈ order → get_or z (shape.files + slotIn shape.most sides gains g) 0 ≢ shape.files
+    names-file : (g : ℕ) → g ∈ order → get_or z (shape.files + slot_in shape.most sides gains g) 0 ≢ shape.files
     unfolding ◌∈◌
     names-file g m e =
-        let slot = slotIn shape.most sides gains in
+        let slot = slot_in shape.most sides gains in
         let b = first (in_slot slot (slot g) order) (λ h k. (in-bucket s.linked (slot g) h k).0) (own-bucket s.linked g m) in
         omega (arith, names-front s.linked (slot g) (s.linked.known g m).1)
       where
@@ -121,23 +121,23 @@ module _ {shape : Shape} {sides : List ℕ} {gains : List ℤ} {order z : List �
       gained = s.gained;
       room = rw (length-set z at top) s.room;
       linked = set_past at top (past u) s.linked;
-      low = λ v. elim (ℕ_discrete (topAt shape v) at) [
+      low = λ v. elim (ℕ_discrete (top_at shape v) at) [
         | yes e ↦ rw (e, get_or-set_same z at top 0 room_at) (omega (arith, top_least, s.low u))
-        | no n ↦ rw (get_or-set_other z at (topAt shape v) top 0 n) (s.low v)
+        | no n ↦ rw (get_or-set_other z at (top_at shape v) top 0 n) (s.low v)
       ];
-      under = λ g m. elim (ℕ_discrete (topAt shape (side_of sides g)) at) [
+      under = λ g m. elim (ℕ_discrete (top_at shape (side_of sides g)) at) [
         | yes e ↦
-            let level = levelOf shape.most (get_or gains g (pos 0)) in
+            let level = level_of shape.most (get_or gains g (pos 0)) in
             let q = same-vault shape (side_of sides g) u e in
-            let p : shape.files + slotIn shape.most sides gains g ≡ from + level = omega arith in
+            let p : shape.files + slot_in shape.most sides gains g ≡ from + level = omega arith in
             rw (e, get_or-set_same z at top 0 room_at)
             (highest-above shape.files from z (get_or z at 0) level (rw e at (s.under g m)) (rw p at (names-file g m)))
-        | no n ↦ rw (get_or-set_other z at (topAt shape (side_of sides g)) top 0 n) (s.under g m)
+        | no n ↦ rw (get_or-set_other z at (top_at shape (side_of sides g)) top 0 n) (s.under g m)
       ];
     }
 
-    pub stands-found : StandFor shape sides gains order (frontIn shape u z).links
-    unfolding frontIn
+    pub stands-found : StandFor shape sides gains order (front_in shape u z).links
+    unfolding front_in
     stands-found = stands-lowered
 
   -- ---- only the sides and gains of the files that are there count
@@ -148,7 +148,7 @@ module _ {shape : Shape} {sides : List ℕ} {gains : List ℤ} {order z : List �
     fits = s.fits;
     gained = long;
     room = s.room;
-    linked = elsewhere s.linked (slotIn shape.most sides' gains') (λ g m. ap₂ (slot_of shape.most) (a g m) (b g m));
+    linked = elsewhere s.linked (slot_in shape.most sides' gains') (λ g m. ap₂ (slot_of shape.most) (a g m) (b g m));
     low = s.low;
     under = λ g m. rw (a g m, b g m) (s.under g m);
   }
@@ -165,7 +165,7 @@ module _ {shape : Shape} {sides : List ℕ} {gains : List ℤ} {order z : List �
 -- ---- a file's gain changes: it leaves, and enters anew
 
 pub stands-front : {shape : Shape} {sides : List ℕ} {gains : List ℤ} {order z : List ℕ} → StandFor shape sides gains order z
-    → (f : ℕ) → f ∈ order → (gain : ℤ) → StandFor shape sides (set gains f gain) (toFront order f) (entered_at shape (side_of sides f) gain f (left (backAt shape) f z))
+    → (f : ℕ) → f ∈ order → (gain : ℤ) → StandFor shape sides (set gains f gain) (to_front order f) (entered_at shape (side_of sides f) gain f (left (back_at shape) f z))
 stands-front {shape} {sides} {gains} {order} {z} s f held gain =
     let hf = (s.linked.known f held).0 in
     let away : ¬ (f ∈ without order f) = λ m. gone f f order m refl in

@@ -19,6 +19,6 @@ abbrev pub left : ℕ → ℕ → List ℕ → List ℕ
 left back f z = joined back (get_or z (back + f) 0) (get_or z f 0) z
 
 -- of the heads at from, .., from + k − 1, one more than the highest that names a file; 0 where none does
-unfoldable pub highestIn : ℕ → ℕ → List ℕ → ℕ → ℕ
-highestIn none from z zero = zero
-highestIn none from z (suc k) = cond (eqb (get_or z (from + k) 0) none) (highestIn none from z k) (suc k)
+unfoldable pub highest_in : ℕ → ℕ → List ℕ → ℕ → ℕ
+highest_in none from z zero = zero
+highest_in none from z (suc k) = cond (eqb (get_or z (from + k) 0) none) (highest_in none from z k) (suc k)

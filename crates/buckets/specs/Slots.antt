@@ -10,38 +10,38 @@ levels p = 2 * p + 1
 abbrev pub slots : ℕ → ℕ
 slots p = 4 * p + 2
 
-abbrev pub cutOff : ℕ → ℤ → ℕ
-cutOff top (pos n) = min n top
-cutOff top (negsuc n) = 0
+abbrev pub cut_off : ℕ → ℤ → ℕ
+cut_off top (pos n) = min n top
+cut_off top (negsuc n) = 0
 
 -- p more than the gain; beyond the least and the most it is their level, so that every gain has a slot
-abbrev pub levelOf : ℕ → ℤ → ℕ
-levelOf p gain = cutOff (2 * p) (gain +ℤ pos p)
+abbrev pub level_of : ℕ → ℤ → ℕ
+level_of p gain = cut_off (2 * p) (gain +ℤ pos p)
 
 -- the first slot of a vault
-abbrev pub vaultAt : ℕ → ℕ → ℕ
-vaultAt p side = cond (eqb side 0) 0 (levels p)
+abbrev pub vault_at : ℕ → ℕ → ℕ
+vault_at p side = cond (eqb side 0) 0 (levels p)
 
 abbrev pub slot_of : ℕ → ℕ → ℤ → ℕ
-slot_of p side gain = vaultAt p side + levelOf p gain
+slot_of p side gain = vault_at p side + level_of p gain
 
-abbrev pub slotIn : ℕ → List ℕ → List ℤ → ℕ → ℕ
-slotIn p sides gains f = slot_of p (side_of sides f) (get_or gains f (pos 0))
+abbrev pub slot_in : ℕ → List ℕ → List ℤ → ℕ → ℕ
+slot_in p sides gains f = slot_of p (side_of sides f) (get_or gains f (pos 0))
 
 -- ---- places: the nexts come first, then the heads, the previouses with that of none, and the tops
 
-abbrev pub headAt : Shape → ℕ → ℤ → ℕ
-headAt shape side gain = shape.files + slot_of shape.most side gain
+abbrev pub head_at : Shape → ℕ → ℤ → ℕ
+head_at shape side gain = shape.files + slot_of shape.most side gain
 
-abbrev pub backAt : Shape → ℕ
-backAt shape = shape.files + slots shape.most
+abbrev pub back_at : Shape → ℕ
+back_at shape = shape.files + slots shape.most
 
-abbrev pub topAt : Shape → ℕ → ℕ
-topAt shape side = 2 * shape.files + slots shape.most + cond (eqb side 0) 1 2
+abbrev pub top_at : Shape → ℕ → ℕ
+top_at shape side = 2 * shape.files + slots shape.most + cond (eqb side 0) 1 2
 
 -- the place of each next and head fits in a number of the list
-abbrev pub fitsIn : Shape → Bool
-fitsIn shape = ltb (backAt shape) 65536
+abbrev pub fits_in : Shape → Bool
+fits_in shape = ltb (back_at shape) 65536
 
 abbrev pub Fits : Shape → Type 0
-Fits shape = backAt shape < 65536
+Fits shape = back_at shape < 65536

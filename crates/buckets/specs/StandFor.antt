@@ -3,7 +3,7 @@ use Rattle.std.specs.Prelude.{◌≡◌, ◌⊎◌, ◌≢◌, ℕ, ◌+◌, ◌
 use Rattle.rules.specs.Lists.{those}
 use Rattle.rules.specs.Split.{side_of}
 use Rattle.buckets.specs.declared.slots.Shape.{Shape}
-use Rattle.buckets.specs.Slots.{levels, slots, levelOf, slotIn, topAt, Fits}
+use Rattle.buckets.specs.Slots.{levels, slots, level_of, slot_in, top_at, Fits}
 
 infix 4 ◌∈◌
 unfoldable pub ◌∈◌ : ℕ → List ℕ → Type 0
@@ -39,7 +39,7 @@ pub record Linked (files slots : ℕ) (slot : ℕ → ℕ) (order z : List ℕ) 
 pub record StandFor (shape : Shape) (sides : List ℕ) (gains : List ℤ) (order z : List ℕ) : Type 0 where
   pub fits : Fits shape
   pub gained : shape.files ≤ length gains
-  pub room : topAt shape 1 < length z
-  pub linked : Linked shape.files (slots shape.most) (slotIn shape.most sides gains) order z
-  pub low : (u : ℕ) → get_or z (topAt shape u) 0 ≤ levels shape.most
-  pub under : (f : ℕ) → f ∈ order → levelOf shape.most (get_or gains f (pos 0)) < get_or z (topAt shape (side_of sides f)) 0
+  pub room : top_at shape 1 < length z
+  pub linked : Linked shape.files (slots shape.most) (slot_in shape.most sides gains) order z
+  pub low : (u : ℕ) → get_or z (top_at shape u) 0 ≤ levels shape.most
+  pub under : (f : ℕ) → f ∈ order → level_of shape.most (get_or gains f (pos 0)) < get_or z (top_at shape (side_of sides f)) 0

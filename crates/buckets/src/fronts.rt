@@ -1,7 +1,7 @@
 // Edition 2 of the choice: only the front file of each vault's highest nonempty bucket is considered.
 ghost use Rattle.std.specs.Prelude.{◌≡◌};
 ghost use Rattle.buckets.specs.Slots.{Fits};
-ghost use Rattle.buckets.specs.Offers.{frontAt, frontIs, frontIn, noBest, offerOf, first_of, chosenIs, chosenFront};
+ghost use Rattle.buckets.specs.Offers.{front_at, front_is, front_in, no_best, offer_of, first_of, chosen_is, chosen_front};
 
 use super::links::{highest, put};
 use super::order::gain_at;
@@ -11,7 +11,7 @@ use job::entry_at;
 
 // The file that the head just below the top names; none where the top is 0.
 fn front_at(links: &[u16], none: u16, from: u16, top: u16) -> u16
-    ensures { result ≡ frontAt none from links.now top }
+    ensures { result ≡ front_at none from links.now top }
 {
     if top == 0 {
         return none;
@@ -22,7 +22,7 @@ fn front_at(links: &[u16], none: u16, from: u16, top: u16) -> u16
 // The front file of a vault's highest nonempty bucket, to which its top is lowered; the number of files where it has none.
 fn find_front(links: &mut [u16], shape: Shape, side: u16) -> u16
     requires { Fits shape }
-    ensures { frontIs result links.new ≡ frontIn shape side links.old }
+    ensures { front_is result links.new ≡ front_in shape side links.old }
 {
     let from = vault_at(shape, side);
     let at = top_at(shape, side);
@@ -42,7 +42,7 @@ fn offer(
     files: u16,
     file: u16,
 ) -> Best
-    ensures { result ≡ offerOf window size sizes.now sides.now gains.now files file }
+    ensures { result ≡ offer_of window size sizes.now sides.now gains.now files file }
 {
     let at = file as usize;
     let dist = dist_after(window, size, entry_at(sides, at), entry_at(sizes, at));
@@ -57,7 +57,7 @@ fn offer(
 }
 
 fn no_best(files: u16) -> Best
-    ensures { result ≡ noBest files }
+    ensures { result ≡ no_best files }
 {
     Best {
         file: files as usize,
@@ -88,7 +88,7 @@ pub fn choose_front(
     sides: &[u16],
     gains: &[i32],
 ) -> Best
-    ensures { chosenIs result links.new ≡ chosenFront shape window size sizes.now sides.now gains.now links.old }
+    ensures { chosen_is result links.new ≡ chosen_front shape window size sizes.now sides.now gains.now links.old }
 {
     let files = shape.files;
     if !fits(shape) {

@@ -2,7 +2,7 @@
 // A previous is the place of the next or head that names its file.
 // So no call asks which bucket a file is in, nor whether it is the first or the last there, and what is not there is neither read nor written.
 ghost use Rattle.std.specs.Prelude.{◌≡◌, ◌<◌, max, get_or, set};
-ghost use Rattle.buckets.specs.Links.{joined, emptied, entered, left, highestIn};
+ghost use Rattle.buckets.specs.Links.{joined, emptied, entered, left, highest_in};
 
 use job::entry_at;
 
@@ -73,7 +73,7 @@ pub(crate) fn raise(links: &mut [u16], at: usize, top: u16)
 
 // One more than the highest of the heads from here on that names a file, of those below the top; 0 where none does.
 pub(crate) fn highest(links: &[u16], none: u16, from: u16, top: u16) -> u16
-    ensures { result ≡ highestIn none from links.now top }
+    ensures { result ≡ highest_in none from links.now top }
 {
     let mut k = top;
     while 0 < k {

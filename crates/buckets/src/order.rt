@@ -1,7 +1,7 @@
 // The free files in the order in which they entered, the latest first: the links stand for it, and it is nowhere stored.
 ghost use Rattle.std.specs.Prelude.{◌≡◌, get_or, pos};
 ghost use Rattle.buckets.specs.Slots.{Fits};
-ghost use Rattle.buckets.specs.Entries.{cleared, entered_at, enteredIf, enteredAll, takenOut, broughtFront};
+ghost use Rattle.buckets.specs.Entries.{cleared, entered_at, entered_if, entered_all, taken_out, brought_front};
 
 use super::links::{empty, enter, leave, put, raise};
 use super::slots::{Shape, above, back_at, fits, head_at, top_at};
@@ -39,7 +39,7 @@ fn enter_at(links: &mut [u16], shape: Shape, side: u16, gain: i32, file: u16)
 // The file enters its bucket if it is free.
 fn enter_free(links: &mut [u16], shape: Shape, mark: u16, side: u16, gain: i32, file: u16)
     requires { Fits shape }
-    ensures { links.new ≡ enteredIf mark shape side gain file links.old }
+    ensures { links.new ≡ entered_if mark shape side gain file links.old }
 {
     if mark != 0 {
         return;
@@ -49,7 +49,7 @@ fn enter_free(links: &mut [u16], shape: Shape, mark: u16, side: u16, gain: i32, 
 
 // No file is in any bucket, then the free files enter in rising number, each at the front.
 pub fn enter_all(links: &mut [u16], shape: Shape, marks: &[u16], sides: &[u16], gains: &[i32])
-    ensures { links.new ≡ enteredAll shape marks.now sides.now gains.now links.old }
+    ensures { links.new ≡ entered_all shape marks.now sides.now gains.now links.old }
 {
     if !fits(shape) {
         return;
@@ -72,7 +72,7 @@ pub fn enter_all(links: &mut [u16], shape: Shape, marks: &[u16], sides: &[u16], 
 
 // The file leaves its bucket.
 pub fn take_out(links: &mut [u16], shape: Shape, file: u16)
-    ensures { links.new ≡ takenOut shape file links.old }
+    ensures { links.new ≡ taken_out shape file links.old }
 {
     if !fits(shape) {
         return;
@@ -82,7 +82,7 @@ pub fn take_out(links: &mut [u16], shape: Shape, file: u16)
 
 // The file leaves its bucket, and enters the front of the one of this side and gain.
 pub fn to_front(links: &mut [u16], shape: Shape, side: u16, gain: i32, file: u16)
-    ensures { links.new ≡ broughtFront shape side gain file links.old }
+    ensures { links.new ≡ brought_front shape side gain file links.old }
 {
     if !fits(shape) {
         return;

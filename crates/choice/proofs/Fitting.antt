@@ -7,7 +7,7 @@ use mathlib.Core.Bool.{Bool, true, false, cond, ◌&&◌}
 use lib.Dec.{leb, eqb}
 use borrow.Author.Tests.{leb-true, le-leb, eqb-true, eq-eqb}
 use Rattle.rules.proofs.Tests.{and_yes}
-use Rattle.choice.specs.Choosing.{sizeBy, fitFiles}
+use Rattle.choice.specs.Choosing.{size_by, fit_files}
 
 -- ---- den·|A|
 
@@ -21,20 +21,20 @@ either-most : (t : Bool) (size own : ℕ) → cond t (size - own) (size + own) �
 either-most true size own = omega arith
 either-most false size own = omega arith
 
-pub size_fits : (size side own : ℕ) → size < 2 ^ 32 → own < 65536 → sizeBy size side own < 2 ^ 33
+pub size_fits : (size side own : ℕ) → size < 2 ^ 32 → own < 65536 → size_by size side own < 2 ^ 33
 size_fits size side own h k = omega (arith, either-most (eqb side 0) size own)
 
 -- ---- the lists
 
 module _ {n scratch gains : ℕ} where
-  pub fit-lengths : fitFiles n scratch gains ≡ true → (gains ≡ n) × (n ≤ scratch)
+  pub fit-lengths : fit_files n scratch gains ≡ true → (gains ≡ n) × (n ≤ scratch)
   fit-lengths e = let t = and_yes (eqb gains n) (leb n scratch) e in (eqb-true gains n t.0, leb-true n scratch t.1)
 
-  pub lengths-fit : gains ≡ n → n ≤ scratch → fitFiles n scratch gains ≡ true
+  pub lengths-fit : gains ≡ n → n ≤ scratch → fit_files n scratch gains ≡ true
   lengths-fit e h = rw (eq-eqb gains n e) (le-leb n scratch h)
 
-  pub all-lengths : {sides : ℕ} → (eqb sides n && fitFiles n scratch gains) ≡ true → (sides ≡ n) × (gains ≡ n) × (n ≤ scratch)
+  pub all-lengths : {sides : ℕ} → (eqb sides n && fit_files n scratch gains) ≡ true → (sides ≡ n) × (gains ≡ n) × (n ≤ scratch)
   all-lengths {sides} e =
-      let t = and_yes (eqb sides n) (fitFiles n scratch gains) e in
+      let t = and_yes (eqb sides n) (fit_files n scratch gains) e in
       let l = fit-lengths t.1 in
       (eqb-true sides n t.0, l.0, l.1)

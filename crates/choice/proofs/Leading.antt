@@ -12,23 +12,23 @@ use lib.IntN.{ℤ}
 use lib.ListN.{length, get_or, take}
 use lib.Seq.{get_or-take}
 use borrow.Author.Tests.{le-leb, lt-leb, lt-ltb, le-ltb, eq-eqb, ne_eqb}
-use Rattle.rules.specs.Move.{distance, greater, challenge, firstBelow}
+use Rattle.rules.specs.Move.{distance, greater, challenge, first_below}
 use Rattle.rules.proofs.First.{first-ok}
 use Rattle.choice.specs.declared.window.Window.{Window}
-use Rattle.choice.specs.Choosing.{fitFiles, fileOr}
-use Rattle.choice.specs.Heavy.{heavyIn, freeIn, gainIn, leaderIn, greatestIn, greatestFile}
+use Rattle.choice.specs.Choosing.{fit_files, file_or}
+use Rattle.choice.specs.Heavy.{heavy_in, free_in, gain_in, leader_in, greatest_in, greatest_file}
 use Rattle.choice.proofs.Fitting.{lengths-fit}
 
 -- ---- the side to move from, by the tests of the code; d is the distance that it works out
 
 module _ (w : Window) (size d : ℕ) (e : d ≡ distance (w.den * size) w.aim) where
-  pub heavy-none : d ≤ w.span → 2 ≡ heavyIn w size
+  pub heavy-none : d ≤ w.span → 2 ≡ heavy_in w size
   heavy-none h = rw (← e, le-leb d w.span h) refl
 
-  pub heavy-from-A : w.span < d → w.aim < w.den * size → 0 ≡ heavyIn w size
+  pub heavy-from-A : w.span < d → w.aim < w.den * size → 0 ≡ heavy_in w size
   heavy-from-A h l = rw (← e, lt-leb d w.span h, lt-ltb w.aim (w.den * size) l) refl
 
-  pub heavy-from-B : w.span < d → w.den * size ≤ w.aim → 1 ≡ heavyIn w size
+  pub heavy-from-B : w.span < d → w.den * size ≤ w.aim → 1 ≡ heavy_in w size
   heavy-from-B h l = rw (← e, lt-leb d w.span h, le-ltb w.aim (w.den * size) l) refl
 
 -- ---- one file against the leader, by the tests of the code
@@ -56,13 +56,13 @@ module _ (u : ℕ) (sides scratch : List ℕ) (gains : List ℤ) (best f : ℕ) 
   here = eqb (get_or sides f 0) u
 
   abbrev first : Bool
-  first = eqb best (length sides) || greater (gainIn gains) f best
+  first = eqb best (length sides) || greater (gain_in gains) f best
 
   abbrev now : ℕ
-  now = leaderIn u sides (take (length sides) scratch) gains (length sides) best f
+  now = leader_in u sides (take (length sides) scratch) gains (length sides) best f
 
   tests : now ≡ cond ((free && here) && first) f best
-  unfolding leaderIn
+  unfolding leader_in
   tests = rw (get_or-take (length sides) scratch f 0 h) refl
 
   -- it is locked, or on the other side
@@ -73,10 +73,10 @@ module _ (u : ℕ) (sides scratch : List ℕ) (gains : List ℤ) (best f : ℕ) 
   pub leader-first : (not free || not here) ≡ false → best ≡ length sides → f ≡ now
   leader-first e q = goes-ahead f best free here first e (rw (eq-eqb best (length sides) q) refl) ∙ sym tests
 
-  pub leader-goes : (not free || not here) ≡ false → best ≢ length sides → greater (gainIn gains) f best ≡ true → f ≡ now
+  pub leader-goes : (not free || not here) ≡ false → best ≢ length sides → greater (gain_in gains) f best ≡ true → f ≡ now
   leader-goes e n g = goes-ahead f best free here first e (rw (ne_eqb best (length sides) n) g) ∙ sym tests
 
-  pub leader-keeps : best ≢ length sides → greater (gainIn gains) f best ≡ false → best ≡ now
+  pub leader-keeps : best ≢ length sides → greater (gain_in gains) f best ≡ false → best ≡ now
   leader-keeps n g =
       let lost : first ≡ false = rw (ne_eqb best (length sides) n) g in
       falls-behind f best (free && here) ∙ sym (ap (λ (x : Bool). cond ((free && here) && x) f best) lost) ∙ sym tests
@@ -84,53 +84,53 @@ module _ (u : ℕ) (sides scratch : List ℕ) (gains : List ℤ) (best f : ℕ) 
 -- ---- the walk
 
 lead-on : (ok : ℕ → Bool) (goes : ℕ → ℕ → Bool) (n : ℕ) (o : Option ℕ) (f : ℕ) → ((g : ℕ) → o ≡ some g → g < n)
-    → cond (ok f && (eqb (fileOr n o) n || goes f (fileOr n o))) f (fileOr n o) ≡ fileOr n (challenge ok goes o f)
+    → cond (ok f && (eqb (file_or n o) n || goes f (file_or n o))) f (file_or n o) ≡ file_or n (challenge ok goes o f)
 unfolding challenge
 lead-on ok goes n none f h = rw (eq-eqb n n refl) (go (ok f))
   where
-    go : (t : Bool) → cond (t && true) f n ≡ fileOr n (cond t (some f) none)
+    go : (t : Bool) → cond (t && true) f n ≡ file_or n (cond t (some f) none)
     go true = refl
     go false = refl
 lead-on ok goes n (some g) f h = rw (ne_eqb g n (λ e. absurd (omega (arith, h g refl)))) (go (ok f && goes f g))
   where
-    go : (t : Bool) → cond t f g ≡ fileOr n (cond t (some f) (some g))
+    go : (t : Bool) → cond t f g ≡ file_or n (cond t (some f) (some g))
     go true = refl
     go false = refl
 
-or-few : (n : ℕ) (o : Option ℕ) → ((g : ℕ) → o ≡ some g → g < n) → fileOr n o ≤ n
+or-few : (n : ℕ) (o : Option ℕ) → ((g : ℕ) → o ≡ some g → g < n) → file_or n o ≤ n
 or-few n none h = omega arith
 or-few n (some g) h = omega (arith, h g refl)
 
 -- the files below f are passed, and best leads them
 pub record Led (u : ℕ) (sides locks : List ℕ) (gains : List ℤ) (n f best : ℕ) : Type 0 where
   pub few : f ≤ n
-  pub leads : best ≡ fileOr n (greatestIn u sides locks gains f)
+  pub leads : best ≡ file_or n (greatest_in u sides locks gains f)
 
 module _ (u : ℕ) (sides locks : List ℕ) (gains : List ℤ) where
-  greatest-below : (f g : ℕ) → greatestIn u sides locks gains f ≡ some g → g < f
-  unfolding greatestIn
-  greatest-below f g e = (first-ok (freeIn u sides locks) (greater (gainIn gains)) f g e).0
+  greatest-below : (f g : ℕ) → greatest_in u sides locks gains f ≡ some g → g < f
+  unfolding greatest_in
+  greatest-below f g e = (first-ok (free_in u sides locks) (greater (gain_in gains)) f g e).0
 
 module _ {u : ℕ} {sides locks : List ℕ} {gains : List ℤ} {n : ℕ} where
   pub led-none : Led u sides locks gains n 0 n
-  unfolding greatestIn firstBelow
+  unfolding greatest_in first_below
   led-none = record { few = omega arith; leads = refl }
 
   module _ {f best : ℕ} (l : Led u sides locks gains n f best) where
     pub led-few : best ≤ n
-    led-few = rw l.leads (or-few n (greatestIn u sides locks gains f) (λ g e. omega (arith, greatest-below u sides locks gains f g e, l.few)))
+    led-few = rw l.leads (or-few n (greatest_in u sides locks gains f) (λ g e. omega (arith, greatest-below u sides locks gains f g e, l.few)))
 
-    pub led-more : {best' : ℕ} → f < n → best' ≡ leaderIn u sides locks gains n best f → Led u sides locks gains n (f + 1) best'
-    unfolding leaderIn greatestIn firstBelow
+    pub led-more : {best' : ℕ} → f < n → best' ≡ leader_in u sides locks gains n best f → Led u sides locks gains n (f + 1) best'
+    unfolding leader_in greatest_in first_below
     led-more h e = record {
       few = omega arith;
       leads =
           rw (add-one f)
-          (e ∙ ap (λ (x : ℕ). leaderIn u sides locks gains n x f) l.leads
-          ∙ lead-on (freeIn u sides locks) (greater (gainIn gains)) n (firstBelow (freeIn u sides locks) (greater (gainIn gains)) f) f (λ g q. omega (arith, greatest-below u sides locks gains f g q, l.few)));
+          (e ∙ ap (λ (x : ℕ). leader_in u sides locks gains n x f) l.leads
+          ∙ lead-on (free_in u sides locks) (greater (gain_in gains)) n (first_below (free_in u sides locks) (greater (gain_in gains)) f) f (λ g q. omega (arith, greatest-below u sides locks gains f g q, l.few)));
     }
 
-    pub led-all : n ≤ f → best ≡ fileOr n (greatestIn u sides locks gains n)
+    pub led-all : n ≤ f → best ≡ file_or n (greatest_in u sides locks gains n)
     led-all h =
         let e : f ≡ n = omega (arith, l.few) in
         rw e at l.leads
@@ -139,16 +139,16 @@ module _ {u : ℕ} {sides locks : List ℕ} {gains : List ℤ} {n : ℕ} where
 
 module _ (u : ℕ) (sides scratch : List ℕ) (gains : List ℤ) where
   abbrev fit : Bool
-  fit = fitFiles (length sides) (length scratch) (length gains)
+  fit = fit_files (length sides) (length scratch) (length gains)
 
-  is-greatest : {t : Bool} → fit ≡ t → greatestFile u sides scratch gains
-      ≡ cond t (fileOr (length sides) (greatestIn u sides (take (length sides) scratch) gains (length sides))) (length sides)
-  unfolding greatestFile
-  is-greatest e = ap (λ (t : Bool). cond t (fileOr (length sides) (greatestIn u sides (take (length sides) scratch) gains (length sides))) (length sides)) e
+  is-greatest : {t : Bool} → fit ≡ t → greatest_file u sides scratch gains
+      ≡ cond t (file_or (length sides) (greatest_in u sides (take (length sides) scratch) gains (length sides))) (length sides)
+  unfolding greatest_file
+  is-greatest e = ap (λ (t : Bool). cond t (file_or (length sides) (greatest_in u sides (take (length sides) scratch) gains (length sides))) (length sides)) e
 
-  pub greatest-unfit : fit ≡ false → length sides ≡ greatestFile u sides scratch gains
+  pub greatest-unfit : fit ≡ false → length sides ≡ greatest_file u sides scratch gains
   greatest-unfit e = sym (is-greatest e)
 
   pub greatest-fit : length gains ≡ length sides → length sides ≤ length scratch
-      → greatestFile u sides scratch gains ≡ fileOr (length sides) (greatestIn u sides (take (length sides) scratch) gains (length sides))
+      → greatest_file u sides scratch gains ≡ file_or (length sides) (greatest_in u sides (take (length sides) scratch) gains (length sides))
   greatest-fit g h = is-greatest (lengths-fit g h)

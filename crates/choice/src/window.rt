@@ -1,7 +1,7 @@
 // What every choice goes by: the balance window, |A| after a move, its distance, and whether the lists fit.
 ghost use Rattle.std.specs.Prelude.{◌≡◌};
 ghost use Rattle.rules.specs.Move.{distance};
-ghost use Rattle.choice.specs.Choosing.{sizeBy, distBy, fitFiles};
+ghost use Rattle.choice.specs.Choosing.{size_by, dist_by, fit_files};
 
 // The balance window: den, and typeof.num.W and den times the tolerance, within which den·|A| must stay.
 #[derive(Drop)]
@@ -13,7 +13,7 @@ pub struct Window {
 
 // |A| after the move of a file of this size from this side; 0 where A does not hold the file.
 pub fn size_after(size: u32, side: u16, own: u16) -> u64
-    ensures { result ≡ sizeBy size side own }
+    ensures { result ≡ size_by size side own }
 {
     let held = size as u64;
     let moved = own as u64;
@@ -37,7 +37,7 @@ pub(crate) fn apart(x: u64, y: u64) -> u64
 
 // The distance after the move of a file of this size from this side.
 pub fn dist_after(window: Window, size: u32, side: u16, own: u16) -> u64
-    ensures { result ≡ distBy window size side own }
+    ensures { result ≡ dist_by window size side own }
 {
     apart(
         (window.den as u64) * size_after(size, side, own),
@@ -47,7 +47,7 @@ pub fn dist_after(window: Window, size: u32, side: u16, own: u16) -> u64
 
 // Whether lists of these lengths have a gain for each file, and a lock for each at the start of the scratch.
 pub(crate) fn fit_files(files: usize, scratch: usize, gains: usize) -> bool
-    ensures { result ≡ fitFiles files scratch gains }
+    ensures { result ≡ fit_files files scratch gains }
 {
     (gains == files) & (files <= scratch)
 }

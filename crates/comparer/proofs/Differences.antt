@@ -10,11 +10,11 @@ use Rattle.rules.specs.declared.Header.{Header}
 use Rattle.rules.specs.Lists.{in_turn}
 use Rattle.rules.specs.Job.{Limits, view_of}
 use Rattle.rules.specs.Stored.{Room}
-use Rattle.rules.specs.Writing.{headerFor}
-use Rattle.rules.specs.Compare.{difference, headDifferences, fileDifferences, same, recipeDifferences, differences}
-use Rattle.rules.proofs.InTurn.{inTurn-same}
-use Rattle.job.specs.Parts.{ofFiles, ofRecipes}
-use Rattle.comparer.specs.Finding.{Noted, jobIn, Exact}
+use Rattle.rules.specs.Writing.{header_for}
+use Rattle.rules.specs.Compare.{difference, head_differences, file_differences, same, recipe_differences, differences}
+use Rattle.rules.proofs.InTurn.{in_turn-same}
+use Rattle.job.specs.Parts.{of_files, of_recipes}
+use Rattle.comparer.specs.Finding.{Noted, job_in, Exact}
 
 -- ---- a recipe
 
@@ -33,8 +33,8 @@ view-few bounds pins j =
 pub recipe-noted : (bounds pins bounds' pins' a b : List ℕ) (j : ℕ) (alike : Bool) {n m : ℕ} {x y : List ℕ}
     → a ≡ view_of bounds pins j → b ≡ view_of bounds' pins' j → alike ≡ same a b
     → Noted n x (cond alike [] (difference 11 j (length a) (length b) ∷ [])) m y
-    → Noted n x (recipeDifferences (ofRecipes bounds pins) (ofRecipes bounds' pins') j) m y
-unfolding recipeDifferences
+    → Noted n x (recipe_differences (of_recipes bounds pins) (of_recipes bounds' pins') j) m y
+unfolding recipe_differences
 recipe-noted bounds pins bounds' pins' a b j alike p q e w = rw (← p, ← q, ← e) w
 
 -- ---- two jobs
@@ -43,22 +43,22 @@ module _ (most : Limits) (h g : Header) (r s : Room) (p : Exact most h r) (q : E
   recipes-are : {n m : ℕ} → m ≡ n + 1 → m - 1 ≡ n
   recipes-are e = omega arith
 
-  header-same : headDifferences h g ≡ headDifferences (headerFor (jobIn h r)) (headerFor (jobIn g s))
-  unfolding headDifferences
+  header-same : head_differences h g ≡ head_differences (header_for (job_in h r)) (header_for (job_in g s))
+  unfolding head_differences
   header-same = rw (p.files, q.files, recipes-are p.recipes, recipes-are q.recipes, p.pins, q.pins) refl
 
-  files-same : in_turn (fileDifferences (ofFiles r.sizes r.sides r.marks) (ofFiles s.sizes s.sides s.marks)) (max h.files g.files)
-      ≡ in_turn (fileDifferences (jobIn h r) (jobIn g s)) (max (length r.sizes) (length s.sizes))
-  files-same = rw (p.files, q.files) (inTurn-same _ _ _ (λ f _. unfold fileDifferences in refl))
+  files-same : in_turn (file_differences (of_files r.sizes r.sides r.marks) (of_files s.sizes s.sides s.marks)) (max h.files g.files)
+      ≡ in_turn (file_differences (job_in h r) (job_in g s)) (max (length r.sizes) (length s.sizes))
+  files-same = rw (p.files, q.files) (in_turn-same _ _ _ (λ f _. unfold file_differences in refl))
 
-  recipes-same : in_turn (recipeDifferences (ofRecipes r.bounds r.pins) (ofRecipes s.bounds s.pins)) (max h.recipes g.recipes)
-      ≡ in_turn (recipeDifferences (jobIn h r) (jobIn g s)) (max (length r.bounds - 1) (length s.bounds - 1))
-  recipes-same = rw (recipes-are p.recipes, recipes-are q.recipes) (inTurn-same _ _ _ (λ j _. unfold recipeDifferences in refl))
+  recipes-same : in_turn (recipe_differences (of_recipes r.bounds r.pins) (of_recipes s.bounds s.pins)) (max h.recipes g.recipes)
+      ≡ in_turn (recipe_differences (job_in h r) (job_in g s)) (max (length r.bounds - 1) (length s.bounds - 1))
+  recipes-same = rw (recipes-are p.recipes, recipes-are q.recipes) (in_turn-same _ _ _ (λ j _. unfold recipe_differences in refl))
 
   pub differences-are :
-      headDifferences h g
-      ++ in_turn (fileDifferences (ofFiles r.sizes r.sides r.marks) (ofFiles s.sizes s.sides s.marks)) (max h.files g.files)
-      ++ in_turn (recipeDifferences (ofRecipes r.bounds r.pins) (ofRecipes s.bounds s.pins)) (max h.recipes g.recipes)
-      ≡ differences (jobIn h r) (jobIn g s)
+      head_differences h g
+      ++ in_turn (file_differences (of_files r.sizes r.sides r.marks) (of_files s.sizes s.sides s.marks)) (max h.files g.files)
+      ++ in_turn (recipe_differences (of_recipes r.bounds r.pins) (of_recipes s.bounds s.pins)) (max h.recipes g.recipes)
+      ≡ differences (job_in h r) (job_in g s)
   unfolding differences
   differences-are = ap₂ ◌++◌ (ap₂ ◌++◌ header-same files-same) recipes-same

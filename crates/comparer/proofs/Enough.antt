@@ -13,9 +13,9 @@ use Rattle.comparer.proofs.Unique.{Promised}
 use Rattle.comparer.proofs.jobs.note_jobs.⟦crate·MOST-DIFFERENCES⟧-asked.Lts as differences
 
 -- as the code has it
-abbrev pub mostRecords : ℕ
-mostRecords = differences.answer tt tt
+abbrev pub most_records : ℕ
+most_records = differences.answer tt tt
 
-pub never-short : (old new : List ℕ) (room after : List Difference) (a : Compared) → Promised old new room a after → mostRecords ≤ length room → a.verdict.number ≢ 30
+pub never-short : (old new : List ℕ) (room after : List Difference) (a : Compared) → Promised old new room a after → most_records ≤ length room → a.verdict.number ≢ 30
 never-short old new room after a p h z =
     (compare-holds most old new room).enough h (sym (ap (λ (x : Comparing). x.answer.verdict.number) p) ∙ z)

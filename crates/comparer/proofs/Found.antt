@@ -13,34 +13,34 @@ use Rattle.rules.specs.declared.Header.{Header}
 use Rattle.rules.specs.declared.Difference.{Difference}
 use Rattle.rules.specs.declared.Compared.{Compared}
 use Rattle.rules.specs.Lists.{up_to, onto}
-use Rattle.rules.specs.Job.{Job, Limits, fileCount, recipeCount, pinCount}
-use Rattle.rules.specs.Check.{done, checkContents}
-use Rattle.rules.specs.Stored.{Room, job_of, layoutVerdict, readVerdict}
-use Rattle.rules.specs.Report.{allRoom}
-use Rattle.rules.specs.Compare.{differences, readFor, compared, comparingOf, comparing}
+use Rattle.rules.specs.Job.{Job, Limits, file_count, recipe_count, pin_count}
+use Rattle.rules.specs.Check.{done, check_contents}
+use Rattle.rules.specs.Stored.{Room, job_of, layout_verdict, read_verdict}
+use Rattle.rules.specs.Report.{all_room}
+use Rattle.rules.specs.Compare.{differences, read_for, compared, comparing_of, comparing}
 use Rattle.rules.proofs.Verdicts.{zero_of, Plain, plain-chain}
 use Rattle.rules.proofs.Refusals.{read-chain}
 use Rattle.rules.proofs.Proved.{plain-contents}
 use Rattle.rules.proofs.Reading.{read-holds}
 use Rattle.rules.proofs.Comparing.{compare-holds}
-use Rattle.stored.specs.Room.{roomOf, takingUp, lists_of}
-use Rattle.stored.specs.Steps.{jobTaken, Held}
+use Rattle.stored.specs.Room.{room_of, taking_up, lists_of}
+use Rattle.stored.specs.Steps.{job_taken, Held}
 use Rattle.stored.specs.declared.TakenUp.{TakenUp}
 use Rattle.stored.proofs.JobTaken.{verdict-read, number_read, job_read}
-use Rattle.report.specs.Comparison.{recordsIn}
+use Rattle.report.specs.Comparison.{records_in}
 use Rattle.comparer.specs.Finding.{Noted, Exact, answer_of, Found, Fits}
 
 -- ---- a job that was read
 
 -- reading that lets through has place 0 too
-plain-read : (most : Limits) (bytes : List ℕ) → Plain (readFor most bytes)
+plain-read : (most : Limits) (bytes : List ℕ) → Plain (read_for most bytes)
 plain-read most bytes z =
-    let e = read-chain most bytes (allRoom most) in
-    e ∙ plain-chain (layoutVerdict most bytes (allRoom most)) (checkContents (job_of bytes)) (plain-contents (job_of bytes)) (zero_of e z)
+    let e = read-chain most bytes (all_room most) in
+    e ∙ plain-chain (layout_verdict most bytes (all_room most)) (check_contents (job_of bytes)) (plain-contents (job_of bytes)) (zero_of e z)
 
 -- its entries alone
-abbrev pub entriesOf : Header → Room → Room
-entriesOf h r = roomOf (take h.files r.sizes) (take h.files r.sides) (take h.files r.marks) (take (h.recipes + 1) r.bounds) (take h.pins r.pins)
+abbrev pub entries_of : Header → Room → Room
+entries_of h r = room_of (take h.files r.sizes) (take h.files r.sides) (take h.files r.marks) (take (h.recipes + 1) r.bounds) (take h.pins r.pins)
 
 -- ---- the answer and what it holds
 
@@ -50,24 +50,24 @@ found-refused old new a numbers n = record { held = λ z. absurd (n z); records 
 
 found-noted : (old new : Job) (v : Verdict) (count : ℕ) (before after : List ℕ) → Noted 0 before (differences old new) count after → 4 * count ≤ length after
     → Found old new (compared 0 v count) after
-unfolding recordsIn up_to
+unfolding records_in up_to
 found-noted old new v count before after w room = record { held = λ _. room; records = λ _. w.noted }
 
 module _ (most : Limits) (old new : List ℕ) where
-  of-first : (readFor most old).number ≢ 0 → answer_of most old new ≡ compared 1 (readFor most old) 0
-  of-first n = rw (ne_eqb (readFor most old).number 0 n) refl
+  of-first : (read_for most old).number ≢ 0 → answer_of most old new ≡ compared 1 (read_for most old) 0
+  of-first n = rw (ne_eqb (read_for most old).number 0 n) refl
 
-  of-second : (readFor most old).number ≡ 0 → (readFor most new).number ≢ 0 → answer_of most old new ≡ compared 2 (readFor most new) 0
-  of-second z n = rw (eq-eqb (readFor most old).number 0 z, ne_eqb (readFor most new).number 0 n) refl
+  of-second : (read_for most old).number ≡ 0 → (read_for most new).number ≢ 0 → answer_of most old new ≡ compared 2 (read_for most new) 0
+  of-second z n = rw (eq-eqb (read_for most old).number 0 z, ne_eqb (read_for most new).number 0 n) refl
 
-  of-both : (readFor most old).number ≡ 0 → (readFor most new).number ≡ 0 → answer_of most old new ≡ compared 0 done (length (differences (job_of old) (job_of new)))
-  of-both z w = rw (eq-eqb (readFor most old).number 0 z, eq-eqb (readFor most new).number 0 w) refl
+  of-both : (read_for most old).number ≡ 0 → (read_for most new).number ≡ 0 → answer_of most old new ≡ compared 0 done (length (differences (job_of old) (job_of new)))
+  of-both z w = rw (eq-eqb (read_for most old).number 0 z, eq-eqb (read_for most new).number 0 w) refl
 
 -- ---- a job that was taken up, its entries alone
 
 module _ (most : Limits) (t : TakenUp) (w : Held most t) where
   abbrev entries : Room
-  entries = entriesOf t.read.header (lists_of t)
+  entries = entries_of t.read.header (lists_of t)
 
   -- they are as many as the header says
   pub counts-taken : (t.read.header.files ≡ length entries.sizes) × (t.read.header.files ≡ length entries.sides) × (t.read.header.files ≡ length entries.marks)
@@ -85,19 +85,19 @@ module _ (most : Limits) (t : TakenUp) (w : Held most t) where
   pub exact-taken : Exact most t.read.header entries
   exact-taken =
       let k = counts-taken in
-      record { files = sym k.0; recipes = sym k.3; pins = sym k.4; fewFiles = w.fewFiles; fewRecipes = w.fewRecipes; fewPins = w.fewPins }
+      record { files = sym k.0; recipes = sym k.3; pins = sym k.4; few_files = w.few_files; few_recipes = w.few_recipes; few_pins = w.few_pins }
 
 -- ---- the two stored jobs
 
-module _ (most : Limits) (old new : List ℕ) (t : TakenUp) (e : t.read ≡ (takingUp most old).answer) (f : lists_of t ≡ (takingUp most old).room) where
+module _ (most : Limits) (old new : List ℕ) (t : TakenUp) (e : t.read ≡ (taking_up most old).answer) (f : lists_of t ≡ (taking_up most old).room) where
   pub first-refused : t.read.verdict.number ≢ 0 → (a : Compared) (numbers : List ℕ) → a ≡ compared 1 t.read.verdict 0 → (a ≡ answer_of most old new) × Found (job_of old) (job_of new) a numbers
   first-refused n a numbers q = (
     q ∙ ap (λ (v : Verdict). compared 1 v 0) (verdict-read most old t e f) ∙ sym (of-first most old new (λ z. n (number_read most old t e f ∙ z))),
     found-refused (job_of old) (job_of new) a numbers (λ z. n (sym (ap (λ (x : Compared). x.verdict.number) q) ∙ z)),
   )
 
-  module _ (z : t.read.verdict.number ≡ 0) (u : TakenUp) (g : u.read ≡ (takingUp most new).answer) (h : lists_of u ≡ (takingUp most new).room) where
-    first-through : (readFor most old).number ≡ 0
+  module _ (z : t.read.verdict.number ≡ 0) (u : TakenUp) (g : u.read ≡ (taking_up most new).answer) (h : lists_of u ≡ (taking_up most new).room) where
+    first-through : (read_for most old).number ≡ 0
     first-through = sym (number_read most old t e f) ∙ z
 
     pub second-refused : u.read.verdict.number ≢ 0 → (a : Compared) (numbers : List ℕ) → a ≡ compared 2 u.read.verdict 0 → (a ≡ answer_of most old new) × Found (job_of old) (job_of new) a numbers
@@ -106,11 +106,11 @@ module _ (most : Limits) (old new : List ℕ) (t : TakenUp) (e : t.read ≡ (tak
       found-refused (job_of old) (job_of new) a numbers (λ w. n (sym (ap (λ (x : Compared). x.verdict.number) q) ∙ w)),
     )
 
-    pub both_read : u.read.verdict.number ≡ 0 → (count : ℕ) (before after : List ℕ) → Noted 0 before (differences (jobTaken t) (jobTaken u)) count after → 4 * count ≤ length after
+    pub both_read : u.read.verdict.number ≡ 0 → (count : ℕ) (before after : List ℕ) → Noted 0 before (differences (job_taken t) (job_taken u)) count after → 4 * count ≤ length after
         → (compared 0 u.read.verdict count ≡ answer_of most old new) × Found (job_of old) (job_of new) (compared 0 u.read.verdict count) after
     both_read y count before after w room =
-        let second-through : (readFor most new).number ≡ 0 = sym (number_read most new u g h) ∙ y in
-        let same : differences (jobTaken t) (jobTaken u) ≡ differences (job_of old) (job_of new) = ap₂ differences (job_read most old t e f z) (job_read most new u g h y) in
+        let second-through : (read_for most new).number ≡ 0 = sym (number_read most new u g h) ∙ y in
+        let same : differences (job_taken t) (job_taken u) ≡ differences (job_of old) (job_of new) = ap₂ differences (job_read most old t e f z) (job_read most new u g h y) in
         let noted : Noted 0 before (differences (job_of old) (job_of new)) count after = subst (λ (ds : List Difference). Noted 0 before ds count after) same w in
         let v : u.read.verdict ≡ done = verdict-read most new u g h ∙ plain-read most new second-through in
         let k : count ≡ length (differences (job_of old) (job_of new)) = omega (arith, noted.many) in (
@@ -121,8 +121,8 @@ module _ (most : Limits) (old new : List ℕ) (t : TakenUp) (e : t.read ≡ (tak
 -- ---- what that makes of a lent list
 
 -- with nothing to store the list stays
-onto-none : (numbers : List ℕ) (room : List Difference) → onto (recordsIn 0 numbers) room ≡ room
-unfolding recordsIn up_to onto
+onto-none : (numbers : List ℕ) (room : List Difference) → onto (records_in 0 numbers) room ≡ room
+unfolding records_in up_to onto
 onto-none numbers room = refl
 
 module _ (most : Limits) (old new : List ℕ) (n : ℕ) (a : Compared) (numbers : List ℕ) (e : a ≡ answer_of most old new) (w : Found (job_of old) (job_of new) a numbers) where
@@ -130,24 +130,24 @@ module _ (most : Limits) (old new : List ℕ) (n : ℕ) (a : Compared) (numbers 
   found = differences (job_of old) (job_of new)
 
   pub fits_refused : a.verdict.number ≢ 0 → Fits most old new n a 0 numbers
-  fits_refused m = record { short = omega arith; held = omega arith; makes = λ room _. ap (comparingOf a) (onto-none numbers room) ∙ refusal room }
+  fits_refused m = record { short = omega arith; held = omega arith; makes = λ room _. ap (comparing_of a) (onto-none numbers room) ∙ refusal room }
     where
-      refusal : (room : List Difference) → comparingOf a room ≡ comparing most old new room
-      refusal room = elim (ℕ_discrete (readFor most old).number 0) [
-        | no p ↦ ap (λ (x : Compared). comparingOf x room) (e ∙ of-first most old new p) ∙ sym ((compare-holds most old new room).first p)
-        | yes ok ↦ elim (ℕ_discrete (readFor most new).number 0) [
+      refusal : (room : List Difference) → comparing_of a room ≡ comparing most old new room
+      refusal room = elim (ℕ_discrete (read_for most old).number 0) [
+        | no p ↦ ap (λ (x : Compared). comparing_of x room) (e ∙ of-first most old new p) ∙ sym ((compare-holds most old new room).first p)
+        | yes ok ↦ elim (ℕ_discrete (read_for most new).number 0) [
           | no p ↦
-              ap (λ (x : Compared). comparingOf x room) (e ∙ of-second most old new ok p)
+              ap (λ (x : Compared). comparing_of x room) (e ∙ of-second most old new ok p)
               ∙ sym ((compare-holds most old new room).second ok p)
           | yes fine ↦ absurd (m (ap (λ (x : Compared). x.verdict.number) (e ∙ of-both most old new ok fine)))
         ]
       ]
 
   module _ (z : a.verdict.number ≡ 0) where
-    both : ((readFor most old).number ≡ 0) × ((readFor most new).number ≡ 0)
-    both = elim (ℕ_discrete (readFor most old).number 0) [
+    both : ((read_for most old).number ≡ 0) × ((read_for most new).number ≡ 0)
+    both = elim (ℕ_discrete (read_for most old).number 0) [
       | no p ↦ absurd (p (sym (ap (λ (x : Compared). x.verdict.number) (e ∙ of-first most old new p)) ∙ z))
-      | yes ok ↦ elim (ℕ_discrete (readFor most new).number 0) [
+      | yes ok ↦ elim (ℕ_discrete (read_for most new).number 0) [
         | no p ↦ absurd (p (sym (ap (λ (x : Compared). x.verdict.number) (e ∙ of-second most old new ok p)) ∙ z))
         | yes fine ↦ (ok, fine)
       ]
@@ -164,7 +164,7 @@ module _ (most : Limits) (old new : List ℕ) (n : ℕ) (a : Compared) (numbers 
       short = omega arith;
       held = omega arith;
       makes = λ room l.
-          (λ i. comparingOf (compared 0 (record { number = 30; place = 0 }) (many i)) (onto-none numbers room i))
+          (λ i. comparing_of (compared 0 (record { number = 30; place = 0 }) (many i)) (onto-none numbers room i))
           ∙ sym ((compare-holds most old new room).short both.0 both.1 (omega (arith, many)));
     }
 
@@ -172,5 +172,5 @@ module _ (most : Limits) (old new : List ℕ) (n : ℕ) (a : Compared) (numbers 
     fits-made h = record {
       short = h;
       held = w.held z;
-      makes = λ room l. (λ i. comparingOf (answered i) (onto (w.records z i) room)) ∙ sym ((compare-holds most old new room).made both.0 both.1 (omega (arith, many)));
+      makes = λ room l. (λ i. comparing_of (answered i) (onto (w.records z i) room)) ∙ sym ((compare-holds most old new room).made both.0 both.1 (omega (arith, many)));
     }

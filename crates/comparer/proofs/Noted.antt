@@ -7,17 +7,17 @@ use lib.ListN.{length, length-append}
 use Rattle.rules.specs.declared.Difference.{Difference}
 use Rattle.rules.specs.Lists.{in_turn}
 use Rattle.rules.proofs.InTurn.{turn_more}
-use Rattle.report.specs.Comparison.{recordsIn}
+use Rattle.report.specs.Comparison.{records_in}
 use Rattle.comparer.specs.Finding.{Noted, RoomFor}
-use Rattle.comparer.proofs.Records.{records-more, withRecord, record-stay, record-made}
+use Rattle.comparer.proofs.Records.{records-more, with_record, record-stay, record-made}
 
 pub nothing-noted : (n : ℕ) (numbers : List ℕ) → Noted n numbers [] n numbers
-nothing-noted n numbers = record { many = omega arith; noted = sym (append-nil (recordsIn n numbers)) }
+nothing-noted n numbers = record { many = omega arith; noted = sym (append-nil (records_in n numbers)) }
 
-pub one-noted : (n : ℕ) (numbers : List ℕ) (d : Difference) → RoomFor 1 n numbers → Noted n numbers (d ∷ []) (n + 1) (withRecord n d numbers)
+pub one-noted : (n : ℕ) (numbers : List ℕ) (d : Difference) → RoomFor 1 n numbers → Noted n numbers (d ∷ []) (n + 1) (with_record n d numbers)
 one-noted n numbers d room = record {
   many = refl;
-  noted = records-more n (withRecord n d numbers) ∙ (λ k. record-stay n d numbers k ++ (record-made n d numbers room k ∷ []));
+  noted = records-more n (with_record n d numbers) ∙ (λ k. record-stay n d numbers k ++ (record-made n d numbers room k ∷ []));
 }
 
 -- the same records by another name
@@ -28,7 +28,7 @@ noted-as e a = rw e at a
 pub noted-then : {n m k : ℕ} {x y z : List ℕ} {ds es : List Difference} → Noted n x ds m y → Noted m y es k z → Noted n x (ds ++ es) k z
 noted-then {n} {m} {k} {x} {y} {z} {ds} {es} a b = record {
   many = omega (arith, length-append ds es, a.many, b.many);
-  noted = b.noted ∙ ap (λ (rs : List Difference). rs ++ es) a.noted ∙ append_assoc (recordsIn n x) ds es;
+  noted = b.noted ∙ ap (λ (rs : List Difference). rs ++ es) a.noted ∙ append_assoc (records_in n x) ds es;
 }
 
 -- no turn of a loop yet, and one turn more

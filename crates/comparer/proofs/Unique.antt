@@ -6,7 +6,7 @@ use mathlib.Core.List.{List}
 use Rattle.rules.specs.declared.Difference.{Difference}
 use Rattle.rules.specs.declared.Compared.{Compared}
 use Rattle.rules.specs.Report.{Printing, printed}
-use Rattle.rules.specs.Compare.{comparingOf, comparing}
+use Rattle.rules.specs.Compare.{comparing_of, comparing}
 use Rattle.rules.proofs.Settling.{Settles, both}
 use Rattle.layout.proofs.WholeInput.{most}
 use Rattle.comparer.proofs.tell.Kinds as tell-kinds
@@ -14,9 +14,9 @@ use Rattle.comparer.proofs.tell.Reads as tell
 
 -- the answer, and the list afterwards, of these stored jobs and this list
 abbrev pub Promised : List ℕ → List ℕ → List Difference → Compared → List Difference → Type 0
-Promised old new room a after = comparingOf a after ≡ comparing most old new room
+Promised old new room a after = comparing_of a after ≡ comparing most old new room
 
-pub compare-settled : (old new : List ℕ) (room x y : List Difference) (a b : Compared) → Promised old new room a x → Promised old new room b y → comparingOf a x ≡ comparingOf b y
+pub compare-settled : (old new : List ℕ) (room x y : List Difference) (a b : Compared) → Promised old new room a x → Promised old new room b y → comparing_of a x ≡ comparing_of b y
 compare-settled old new room x y a b p q = both p q
 
 pub tell-settled : Settles 3 tell-kinds.ps tell-kinds.r Printing (λ κs x e. printed x e.1.1.0.now) tell.Post

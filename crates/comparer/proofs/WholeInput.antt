@@ -5,7 +5,7 @@ use Prim.Native.Nat.{ℕ}
 use lib.ListN.{take}
 use Rattle.rules.specs.Compare.{compares}
 use Rattle.rules.proofs.Comparing.{compare-holds}
-use Rattle.layout.proofs.WholeInput.{most, inputBytes, input-whole}
+use Rattle.layout.proofs.WholeInput.{most, input_bytes, input-whole}
 
-pub compare-whole : (old new : List ℕ) → compares most (take inputBytes old) (take inputBytes new) ≡ compares most old new
-compare-whole old new = (compare-holds most old new []).longer inputBytes input-whole
+pub compare-whole : (old new : List ℕ) → compares most (take input_bytes old) (take input_bytes new) ≡ compares most old new
+compare-whole old new = (compare-holds most old new []).longer input_bytes input-whole

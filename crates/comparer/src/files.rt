@@ -1,8 +1,8 @@
 // 8 to 10: the differences of two jobs' files.
 ghost use Rattle.std.specs.Prelude.{◌+◌, ◌*◌, ◌≤◌, ◌<◌};
-ghost use Rattle.job.specs.Parts.{ofFiles};
+ghost use Rattle.job.specs.Parts.{of_files};
 ghost use Rattle.rules.specs.Lists.{in_turn};
-ghost use Rattle.rules.specs.Compare.{fileDifferences};
+ghost use Rattle.rules.specs.Compare.{file_differences};
 ghost use Rattle.comparer.specs.Finding.{Noted, RoomFor};
 
 use crate::noting::note_figure;
@@ -22,7 +22,7 @@ fn note_file(
 ) -> usize
     requires f_bound { f < 65536 }
     requires room_for { RoomFor 3 count numbers.old }
-    ensures noted { Noted count numbers.old (fileDifferences (ofFiles sizes.now sides.now marks.now) (ofFiles new_sizes.now new_sides.now new_marks.now) f) result numbers.new }
+    ensures noted { Noted count numbers.old (file_differences (of_files sizes.now sides.now marks.now) (of_files new_sizes.now new_sides.now new_marks.now) f) result numbers.new }
     ensures upper_bound { result ≤ count + 3 }
 {
     let file = f as u16;
@@ -48,7 +48,7 @@ pub(crate) fn note_files(
 ) -> usize
     requires n_bound { n ≤ 65536 }
     requires room_for { RoomFor (3 * n) count numbers.old }
-    ensures noted { Noted count numbers.old (in_turn (fileDifferences (ofFiles sizes.now sides.now marks.now) (ofFiles new_sizes.now new_sides.now new_marks.now)) n) result numbers.new }
+    ensures noted { Noted count numbers.old (in_turn (file_differences (of_files sizes.now sides.now marks.now) (of_files new_sizes.now new_sides.now new_marks.now)) n) result numbers.new }
     ensures upper_bound { result ≤ count + 3 * n }
 {
     let mut next = count;

@@ -1,9 +1,9 @@
 // The differences of two jobs, each in lists that hold just its entries.
 ghost use Rattle.std.specs.Prelude.{◌≡◌, ◌≤◌, max, length};
-ghost use Rattle.rules.specs.Job.{limitsOf};
+ghost use Rattle.rules.specs.Job.{limits_of};
 ghost use Rattle.rules.specs.Compare.{differences};
-ghost use Rattle.stored.specs.Room.{roomOf};
-ghost use Rattle.comparer.specs.Finding.{Noted, jobIn, Exact};
+ghost use Rattle.stored.specs.Room.{room_of};
+ghost use Rattle.comparer.specs.Finding.{Noted, job_in, Exact};
 
 use crate::files::note_files;
 use crate::noting::note_header;
@@ -36,10 +36,10 @@ pub(crate) fn note_jobs(
     new_pins: &[u16],
     numbers: &mut [u16],
 ) -> usize
-    requires* fact { do ⌜ Exact (limitsOf (← ⟦Job::MOST_FILES⟧) (← ⟦Job::MOST_RECIPES⟧) (← ⟦Job::MOST_PINS⟧) (← ⟦Job::MOST_DEN⟧)) h (roomOf sizes.now sides.now marks.now bounds.now pins.now) ⌝ }
-    requires* fact_2 { do ⌜ Exact (limitsOf (← ⟦Job::MOST_FILES⟧) (← ⟦Job::MOST_RECIPES⟧) (← ⟦Job::MOST_PINS⟧) (← ⟦Job::MOST_DEN⟧)) new (roomOf new_sizes.now new_sides.now new_marks.now new_bounds.now new_pins.now) ⌝ }
+    requires* fact { do ⌜ Exact (limits_of (← ⟦Job::MOST_FILES⟧) (← ⟦Job::MOST_RECIPES⟧) (← ⟦Job::MOST_PINS⟧) (← ⟦Job::MOST_DEN⟧)) h (room_of sizes.now sides.now marks.now bounds.now pins.now) ⌝ }
+    requires* fact_2 { do ⌜ Exact (limits_of (← ⟦Job::MOST_FILES⟧) (← ⟦Job::MOST_RECIPES⟧) (← ⟦Job::MOST_PINS⟧) (← ⟦Job::MOST_DEN⟧)) new (room_of new_sizes.now new_sides.now new_marks.now new_bounds.now new_pins.now) ⌝ }
     requires* do_in_bounds { do ⌜ (← ⟦crate::NUMBERS⟧) ≤ length numbers.old ⌝ }
-    ensures noted { Noted 0 numbers.old (differences (jobIn h (roomOf sizes.now sides.now marks.now bounds.now pins.now)) (jobIn new (roomOf new_sizes.now new_sides.now new_marks.now new_bounds.now new_pins.now))) result numbers.new }
+    ensures noted { Noted 0 numbers.old (differences (job_in h (room_of sizes.now sides.now marks.now bounds.now pins.now)) (job_in new (room_of new_sizes.now new_sides.now new_marks.now new_bounds.now new_pins.now))) result numbers.new }
     ensures* result_bound { do ⌜ result ≤ (← (⟦crate::MOST_DIFFERENCES⟧).entry) ⌝ }
 {
     let mut count = note_header(numbers, h, new);

@@ -5,14 +5,14 @@ mod noting;
 mod recipes;
 
 ghost use Rattle.std.specs.Prelude.{◌≡◌, ◌+◌, ◌*◌, ◌≤◌, length};
-ghost use Rattle.rules.specs.Job.{limitsOf};
+ghost use Rattle.rules.specs.Job.{limits_of};
 ghost use Rattle.rules.specs.Lists.{onto};
-ghost use Rattle.rules.specs.Report.{«printed», intoRoom};
+ghost use Rattle.rules.specs.Report.{«printed», into_room};
 ghost use Rattle.rules.specs.Stored.{job_of};
-ghost use Rattle.rules.specs.Compare.{differences, compared, comparingOf, comparing, compares};
-ghost use Rattle.report.specs.Comparison.{recordAt, recordsIn};
+ghost use Rattle.rules.specs.Compare.{differences, compared, comparing_of, comparing, compares};
+ghost use Rattle.report.specs.Comparison.{record_at, records_in};
 ghost use Rattle.report.specs.Lending.{Answered, Lendable};
-ghost use Rattle.stored.specs.Steps.{jobTaken, Held};
+ghost use Rattle.stored.specs.Steps.{job_taken, Held};
 ghost use Rattle.comparer.specs.Finding.{Noted, answer_of, Found, Fits};
 
 use job::Job;
@@ -55,10 +55,10 @@ fn refused(job: usize, verdict: Verdict) -> Compared
 
 // The differences of two jobs that were taken up, put into the numbers, and how many they are.
 fn note_taken(old: TakenUp, new: TakenUp, numbers: &mut [u16]) -> usize
-    requires* fact { do ⌜ Held (limitsOf (← ⟦Job::MOST_FILES⟧) (← ⟦Job::MOST_RECIPES⟧) (← ⟦Job::MOST_PINS⟧) (← ⟦Job::MOST_DEN⟧)) old ⌝ }
-    requires* fact_2 { do ⌜ Held (limitsOf (← ⟦Job::MOST_FILES⟧) (← ⟦Job::MOST_RECIPES⟧) (← ⟦Job::MOST_PINS⟧) (← ⟦Job::MOST_DEN⟧)) new ⌝ }
+    requires* fact { do ⌜ Held (limits_of (← ⟦Job::MOST_FILES⟧) (← ⟦Job::MOST_RECIPES⟧) (← ⟦Job::MOST_PINS⟧) (← ⟦Job::MOST_DEN⟧)) old ⌝ }
+    requires* fact_2 { do ⌜ Held (limits_of (← ⟦Job::MOST_FILES⟧) (← ⟦Job::MOST_RECIPES⟧) (← ⟦Job::MOST_PINS⟧) (← ⟦Job::MOST_DEN⟧)) new ⌝ }
     requires in_bounds { NUMBERS ≤ length numbers.old }
-    ensures noted { Noted 0 numbers.old (differences (jobTaken old) (jobTaken new)) result numbers.new }
+    ensures noted { Noted 0 numbers.old (differences (job_taken old) (job_taken new)) result numbers.new }
     ensures upper_bound { result ≤ MOST_DIFFERENCES }
 {
     let old_read = old.read;
@@ -101,7 +101,7 @@ fn note_taken(old: TakenUp, new: TakenUp, numbers: &mut [u16]) -> usize
 // The differences of two stored jobs, put into the numbers, and how many they are; or a refusal, job 1's first.
 fn find(old: &[u8], new: &[u8], numbers: &mut [u16]) -> Compared
     requires { NUMBERS ≤ length numbers.old }
-    ensures* result_value { do ⌜ result ≡ answer_of (limitsOf (← (⟦Job::MOST_FILES⟧).entry) (← (⟦Job::MOST_RECIPES⟧).entry) (← (⟦Job::MOST_PINS⟧).entry) (← (⟦Job::MOST_DEN⟧).entry)) old.now new.now ⌝ }
+    ensures* result_value { do ⌜ result ≡ answer_of (limits_of (← (⟦Job::MOST_FILES⟧).entry) (← (⟦Job::MOST_RECIPES⟧).entry) (← (⟦Job::MOST_PINS⟧).entry) (← (⟦Job::MOST_DEN⟧).entry)) old.now new.now ⌝ }
     ensures found { Found (job_of old.now) (job_of new.now) result numbers.new }
 {
     let t = stored::take_up(old);
@@ -127,7 +127,7 @@ fn find(old: &[u8], new: &[u8], numbers: &mut [u16]) -> Compared
 // The same for a list of so many records: 30 where it is too short, and how many are to be stored.
 fn find_for<'o, 'n, 'w>(old: &'o [u8], new: &'n [u8], room: usize, numbers: &'w mut [u16]) -> Fitted
     requires* { do ⌜ (← ⟦NUMBERS⟧) ≤ length numbers.old ⌝ }
-    ensures* { do ⌜ Fits (limitsOf (← (⟦Job::MOST_FILES⟧).entry) (← (⟦Job::MOST_RECIPES⟧).entry) (← (⟦Job::MOST_PINS⟧).entry) (← (⟦Job::MOST_DEN⟧).entry)) old.now new.now room result.answer result.stored numbers.new ⌝ }
+    ensures* { do ⌜ Fits (limits_of (← (⟦Job::MOST_FILES⟧).entry) (← (⟦Job::MOST_RECIPES⟧).entry) (← (⟦Job::MOST_PINS⟧).entry) (← (⟦Job::MOST_DEN⟧).entry)) old.now new.now room result.answer result.stored numbers.new ⌝ }
 {
     let found = find(old, new, numbers);
     let v = found.verdict;
@@ -162,7 +162,7 @@ fn find_for<'o, 'n, 'w>(old: &'o [u8], new: &'n [u8], room: usize, numbers: &'w 
 // Record i of the numbers.
 fn record_at<'w>(numbers: &'w [u16], i: usize) -> Difference
     requires { 4 * (i + 1) ≤ length numbers.now }
-    ensures { result ≡ recordAt numbers.now i }
+    ensures { result ≡ record_at numbers.now i }
 {
     let at = 4 * i;
     Difference {
@@ -176,7 +176,7 @@ fn record_at<'w>(numbers: &'w [u16], i: usize) -> Difference
 // The first n records of the numbers, at the start of the list.
 fn store<'l, 'w>(list: &'l mut [Difference], numbers: &'w [u16], n: usize)
     requires { (n ≤ length list.old) × (4 * n ≤ length numbers.now) }
-    ensures { list.new ≡ onto (recordsIn n numbers.now) list.old }
+    ensures { list.new ≡ onto (records_in n numbers.now) list.old }
 {
     let mut i: usize = 0;
     while i < n {
@@ -187,7 +187,7 @@ fn store<'l, 'w>(list: &'l mut [Difference], numbers: &'w [u16], n: usize)
 
 // The differences of two stored jobs, as records at the start of the lent list; the answer and the list are those of the comparing, for every input.
 pub fn compare<'o, 'n, 'l>(old: &'o [u8], new: &'n [u8], list: &'l mut [Difference]) -> Compared
-    ensures* { do ⌜ comparingOf result list.new ≡ comparing (limitsOf (← (⟦Job::MOST_FILES⟧).entry) (← (⟦Job::MOST_RECIPES⟧).entry) (← (⟦Job::MOST_PINS⟧).entry) (← (⟦Job::MOST_DEN⟧).entry)) old.now new.now list.old ⌝ }
+    ensures* { do ⌜ comparing_of result list.new ≡ comparing (limits_of (← (⟦Job::MOST_FILES⟧).entry) (← (⟦Job::MOST_RECIPES⟧).entry) (← (⟦Job::MOST_PINS⟧).entry) (← (⟦Job::MOST_DEN⟧).entry)) old.now new.now list.old ⌝ }
 {
     let mut numbers = [0u16; NUMBERS];
     let fitted = find_for(old, new, list.len(), &mut numbers);
@@ -197,7 +197,7 @@ pub fn compare<'o, 'n, 'l>(old: &'o [u8], new: &'n [u8], list: &'l mut [Differen
 
 // The lines of two stored jobs' differences, or of a refusal: what the program `compare` writes, for every two inputs.
 pub fn tell(old: &[u8], new: &[u8], out: &mut [u8]) -> Printed
-    ensures* out_after { do ⌜ «printed» result out.new ≡ intoRoom (compares (limitsOf (← (⟦Job::MOST_FILES⟧).entry) (← (⟦Job::MOST_RECIPES⟧).entry) (← (⟦Job::MOST_PINS⟧).entry) (← (⟦Job::MOST_DEN⟧).entry)) old.now new.now) out.old ⌝ }
+    ensures* out_after { do ⌜ «printed» result out.new ≡ into_room (compares (limits_of (← (⟦Job::MOST_FILES⟧).entry) (← (⟦Job::MOST_RECIPES⟧).entry) (← (⟦Job::MOST_PINS⟧).entry) (← (⟦Job::MOST_DEN⟧).entry)) old.now new.now) out.old ⌝ }
     ensures answered { Answered TEXT_BYTES result.verdict out.old × Lendable result.bytes out.new }
 {
     let mut numbers = [0u16; NUMBERS];

@@ -1,6 +1,6 @@
 // Records noted one after another, as numbers, four to a record.
 ghost use Rattle.std.specs.Prelude.{cond, [], ◌∷◌, ◌+◌, ◌≤◌};
-ghost use Rattle.rules.specs.Compare.{figure, headDifferences};
+ghost use Rattle.rules.specs.Compare.{figure, head_differences};
 ghost use Rattle.comparer.specs.Finding.{Noted, RoomFor};
 
 use rules::{Difference, Header};
@@ -46,7 +46,7 @@ pub(crate) fn note_figure(
 // 1 to 5 and 7, with number 0.
 pub(crate) fn note_header(numbers: &mut [u16], old: Header, new: Header) -> usize
     requires { RoomFor 6 0 numbers.old }
-    ensures noted { Noted 0 numbers.old (headDifferences old new) result numbers.new }
+    ensures noted { Noted 0 numbers.old (head_differences old new) result numbers.new }
     ensures upper_bound { result ≤ 6 }
 {
     let mut count = note_figure(numbers, 0, 1, 0, old.files, new.files);

@@ -1,8 +1,8 @@
 // 11: the differences of two jobs' recipes.
 ghost use Rattle.std.specs.Prelude.{◌≡◌, ◌+◌, ◌≤◌, length};
-ghost use Rattle.job.specs.Parts.{ofRecipes};
+ghost use Rattle.job.specs.Parts.{of_recipes};
 ghost use Rattle.rules.specs.Lists.{in_turn};
-ghost use Rattle.rules.specs.Compare.{«same», recipeDifferences};
+ghost use Rattle.rules.specs.Compare.{«same», recipe_differences};
 ghost use Rattle.comparer.specs.Finding.{Noted, RoomFor};
 
 use crate::noting::note;
@@ -37,7 +37,7 @@ fn note_recipe(
 ) -> usize
     requires room_for { RoomFor 1 count numbers.old }
     requires pins_len_bound { (length pins.now ≤ 65535) × (length new_pins.now ≤ 65535) }
-    ensures noted { Noted count numbers.old (recipeDifferences (ofRecipes bounds.now pins.now) (ofRecipes new_bounds.now new_pins.now) j) result numbers.new }
+    ensures noted { Noted count numbers.old (recipe_differences (of_recipes bounds.now pins.now) (of_recipes new_bounds.now new_pins.now) j) result numbers.new }
     ensures upper_bound { result ≤ count + 1 }
 {
     let a = job::view(bounds, pins, j as usize);
@@ -64,7 +64,7 @@ pub(crate) fn note_recipes(
     requires n_bound { n ≤ 65536 }
     requires room_for { RoomFor n count numbers.old }
     requires pins_len_bound { (length pins.now ≤ 65535) × (length new_pins.now ≤ 65535) }
-    ensures noted { Noted count numbers.old (in_turn (recipeDifferences (ofRecipes bounds.now pins.now) (ofRecipes new_bounds.now new_pins.now)) n) result numbers.new }
+    ensures noted { Noted count numbers.old (in_turn (recipe_differences (of_recipes bounds.now pins.now) (of_recipes new_bounds.now new_pins.now)) n) result numbers.new }
     ensures upper_bound { result ≤ count + n }
 {
     let mut next = count;

@@ -7,10 +7,10 @@ use Rattle.rules.specs.Writing.{resettles}
 use Rattle.rules.specs.Balance.{balances}
 use Rattle.rules.proofs.CutOff.{longer-same}
 use Rattle.rules.proofs.Balancing.{program-holds}
-use Rattle.layout.proofs.WholeInput.{most, inputBytes, input-whole}
+use Rattle.layout.proofs.WholeInput.{most, input_bytes, input-whole}
 
-pub resettle-whole : (edition : ℕ) (bytes : List ℕ) → resettles edition most (take inputBytes bytes) ≡ resettles edition most bytes
-resettle-whole edition bytes = (longer-same most inputBytes bytes).handed edition input-whole
+pub resettle-whole : (edition : ℕ) (bytes : List ℕ) → resettles edition most (take input_bytes bytes) ≡ resettles edition most bytes
+resettle-whole edition bytes = (longer-same most input_bytes bytes).handed edition input-whole
 
-pub balance-whole : (bytes : List ℕ) → balances most (take inputBytes bytes) ≡ balances most bytes
-balance-whole bytes = (program-holds most bytes).longer inputBytes input-whole
+pub balance-whole : (bytes : List ℕ) → balances most (take input_bytes bytes) ≡ balances most bytes
+balance-whole bytes = (program-holds most bytes).longer input_bytes input-whole

@@ -1,14 +1,14 @@
 // A stored job's bytes in, the stored job with other sides out: those after its run, or those of a balanced start. What is refused is told in a line.
 ghost use Rattle.std.specs.Prelude.{◌≡◌, ◌≢◌, true, [], ◌+◌, ◌*◌, ◌≤◌};
-ghost use Rattle.rules.specs.Job.{limitsOf, lent_of};
-ghost use Rattle.job.specs.Parts.{wholeJob};
-ghost use Rattle.rules.specs.Report.{allLent};
-ghost use Rattle.rules.specs.Stored.{blockCount};
-ghost use Rattle.rules.specs.Writing.{headerFor, checkWritten, resettles, handingOf, handInto};
+ghost use Rattle.rules.specs.Job.{limits_of, lent_of};
+ghost use Rattle.job.specs.Parts.{whole_job};
+ghost use Rattle.rules.specs.Report.{all_lent};
+ghost use Rattle.rules.specs.Stored.{block_count};
+ghost use Rattle.rules.specs.Writing.{header_for, check_written, resettles, handing_of, hand_into};
 ghost use Rattle.rules.specs.Balance.{balances};
 ghost use Rattle.report.specs.Lending.{Answered, BothLendable};
-ghost use Rattle.stored.specs.Steps.{jobTaken, Held};
-ghost use Rattle.hander.specs.Handing.{refusedOut, madeOut, runOut, balancedOut, balancingOut, Made};
+ghost use Rattle.stored.specs.Steps.{job_taken, Held};
+ghost use Rattle.hander.specs.Handing.{refused_out, made_out, run_out, balanced_out, balancing_out, Made};
 
 use job::Job;
 use rules::{BalanceFigures, Handed, Verdict};
@@ -23,7 +23,7 @@ pub const ROOM_BYTES: usize = layout::INPUT_BYTES + LINES_BYTES;
 // What is refused is told alone, for standard error.
 fn hand_refusal(verdict: Verdict, room: &mut [u8]) -> Handed
     requires { verdict.number ≢ 0 }
-    ensures room_after { handingOf result room.new ≡ handInto (refusedOut verdict) room.old }
+    ensures room_after { handing_of result room.new ≡ hand_into (refused_out verdict) room.old }
     ensures answered { Answered LINES_BYTES result.verdict room.old }
 {
     let answer = BalanceFigures {
@@ -56,9 +56,9 @@ fn hand_blocks(
     room: &mut [u8],
     bytes: usize,
 ) -> Handed
-    requires* true_value { do ⌜ (checkWritten (limitsOf (← ⟦Job::MOST_FILES⟧) (← ⟦Job::MOST_RECIPES⟧) (← ⟦Job::MOST_PINS⟧) (← ⟦Job::MOST_DEN⟧)) (wholeJob job sizes.now sides.now marks.now bounds.now pins.now) true).number ≡ 0 ⌝ }
-    requires bytes_value { bytes ≡ 512 * blockCount (headerFor (wholeJob job sizes.now sides.now marks.now bounds.now pins.now)) }
-    ensures room_after { handingOf result room.new ≡ handInto (madeOut (wholeJob job sizes.now sides.now marks.now bounds.now pins.now) []) room.old }
+    requires* true_value { do ⌜ (check_written (limits_of (← ⟦Job::MOST_FILES⟧) (← ⟦Job::MOST_RECIPES⟧) (← ⟦Job::MOST_PINS⟧) (← ⟦Job::MOST_DEN⟧)) (whole_job job sizes.now sides.now marks.now bounds.now pins.now) true).number ≡ 0 ⌝ }
+    requires bytes_value { bytes ≡ 512 * block_count (header_for (whole_job job sizes.now sides.now marks.now bounds.now pins.now)) }
+    ensures room_after { handing_of result room.new ≡ hand_into (made_out (whole_job job sizes.now sides.now marks.now bounds.now pins.now) []) room.old }
     ensures answered { Answered bytes result.verdict room.old }
 {
     if room.len() < bytes {
@@ -100,9 +100,9 @@ fn resettle_run(
     room: &mut [u8],
     bytes: usize,
 ) -> Handed
-    requires* scratch_value { do ⌜ lent_of gains.old tried.old gained.old cuts.old ends.old recipes.old kinds.old scratch.old ≡ allLent (limitsOf (← ⟦Job::MOST_FILES⟧) (← ⟦Job::MOST_RECIPES⟧) (← ⟦Job::MOST_PINS⟧) (← ⟦Job::MOST_DEN⟧)) (wholeJob job sizes.now sides.old marks.now bounds.now pins.now) ⌝ }
-    requires* fact { do ⌜ (bytes ≡ 512 * blockCount (headerFor (wholeJob job sizes.now sides.old marks.now bounds.now pins.now))) × (bytes ≤ (← ⟦layout::INPUT_BYTES⟧)) ⌝ }
-    ensures* room_after { do ⌜ handingOf result room.new ≡ handInto (runOut edition (limitsOf (← (⟦Job::MOST_FILES⟧).entry) (← (⟦Job::MOST_RECIPES⟧).entry) (← (⟦Job::MOST_PINS⟧).entry) (← (⟦Job::MOST_DEN⟧).entry)) (wholeJob job sizes.now sides.old marks.now bounds.now pins.now)) room.old ⌝ }
+    requires* scratch_value { do ⌜ lent_of gains.old tried.old gained.old cuts.old ends.old recipes.old kinds.old scratch.old ≡ all_lent (limits_of (← ⟦Job::MOST_FILES⟧) (← ⟦Job::MOST_RECIPES⟧) (← ⟦Job::MOST_PINS⟧) (← ⟦Job::MOST_DEN⟧)) (whole_job job sizes.now sides.old marks.now bounds.now pins.now) ⌝ }
+    requires* fact { do ⌜ (bytes ≡ 512 * block_count (header_for (whole_job job sizes.now sides.old marks.now bounds.now pins.now))) × (bytes ≤ (← ⟦layout::INPUT_BYTES⟧)) ⌝ }
+    ensures* room_after { do ⌜ handing_of result room.new ≡ hand_into (run_out edition (limits_of (← (⟦Job::MOST_FILES⟧).entry) (← (⟦Job::MOST_RECIPES⟧).entry) (← (⟦Job::MOST_PINS⟧).entry) (← (⟦Job::MOST_DEN⟧).entry)) (whole_job job sizes.now sides.old marks.now bounds.now pins.now)) room.old ⌝ }
     ensures* fact_2 { do ⌜ Answered (← (⟦layout::INPUT_BYTES⟧).entry) result.verdict room.old ⌝ }
 {
     let answer = runs::run(
@@ -119,9 +119,9 @@ fn resettle_run(
 
 // The same of a job that was taken up, with lists of the hander's own.
 fn resettle_job(edition: u16, t: TakenUp, room: &mut [u8], bytes: usize) -> Handed
-    requires* fact { do ⌜ Held (limitsOf (← ⟦Job::MOST_FILES⟧) (← ⟦Job::MOST_RECIPES⟧) (← ⟦Job::MOST_PINS⟧) (← ⟦Job::MOST_DEN⟧)) t ⌝ }
-    requires* fact_2 { do ⌜ (bytes ≡ 512 * blockCount (headerFor (jobTaken t))) × (bytes ≤ (← ⟦layout::INPUT_BYTES⟧)) ⌝ }
-    ensures* room_after { do ⌜ handingOf result room.new ≡ handInto (runOut edition (limitsOf (← (⟦Job::MOST_FILES⟧).entry) (← (⟦Job::MOST_RECIPES⟧).entry) (← (⟦Job::MOST_PINS⟧).entry) (← (⟦Job::MOST_DEN⟧).entry)) (jobTaken t)) room.old ⌝ }
+    requires* fact { do ⌜ Held (limits_of (← ⟦Job::MOST_FILES⟧) (← ⟦Job::MOST_RECIPES⟧) (← ⟦Job::MOST_PINS⟧) (← ⟦Job::MOST_DEN⟧)) t ⌝ }
+    requires* fact_2 { do ⌜ (bytes ≡ 512 * block_count (header_for (job_taken t))) × (bytes ≤ (← ⟦layout::INPUT_BYTES⟧)) ⌝ }
+    ensures* room_after { do ⌜ handing_of result room.new ≡ hand_into (run_out edition (limits_of (← (⟦Job::MOST_FILES⟧).entry) (← (⟦Job::MOST_RECIPES⟧).entry) (← (⟦Job::MOST_PINS⟧).entry) (← (⟦Job::MOST_DEN⟧).entry)) (job_taken t)) room.old ⌝ }
     ensures* fact_3 { do ⌜ Answered (← (⟦layout::INPUT_BYTES⟧).entry) result.verdict room.old ⌝ }
 {
     let read = t.read;
@@ -166,7 +166,7 @@ fn resettle_job(edition: u16, t: TakenUp, room: &mut [u8], bytes: usize) -> Hand
 
 // The stored job with the sides after its run by an edition, or a refusal's line: what the program `resettle` writes to standard output and to standard error, for every input.
 pub fn resettle(edition: u16, input: &[u8], room: &mut [u8]) -> Handed
-    ensures* room_after { do ⌜ handingOf result room.new ≡ handInto (resettles edition (limitsOf (← (⟦Job::MOST_FILES⟧).entry) (← (⟦Job::MOST_RECIPES⟧).entry) (← (⟦Job::MOST_PINS⟧).entry) (← (⟦Job::MOST_DEN⟧).entry)) input.now) room.old ⌝ }
+    ensures* room_after { do ⌜ handing_of result room.new ≡ hand_into (resettles edition (limits_of (← (⟦Job::MOST_FILES⟧).entry) (← (⟦Job::MOST_RECIPES⟧).entry) (← (⟦Job::MOST_PINS⟧).entry) (← (⟦Job::MOST_DEN⟧).entry)) input.now) room.old ⌝ }
     ensures* fact { do ⌜ Answered (← (⟦layout::INPUT_BYTES⟧).entry) result.verdict room.old × BothLendable result.output result.errors room.new ⌝ }
 {
     let t = stored::take_up(input);
@@ -191,8 +191,8 @@ fn hand_made(
     room: &mut [u8],
     bytes: usize,
 ) -> Handed
-    requires* { do ⌜ Made (limitsOf (← ⟦Job::MOST_FILES⟧) (← ⟦Job::MOST_RECIPES⟧) (← ⟦Job::MOST_PINS⟧) (← ⟦Job::MOST_DEN⟧)) answer (wholeJob job sizes.now sides.now marks.now bounds.now pins.now) bytes ⌝ }
-    ensures room_after { handingOf result room.new ≡ handInto (balancedOut answer (wholeJob job sizes.now sides.now marks.now bounds.now pins.now)) room.old }
+    requires* { do ⌜ Made (limits_of (← ⟦Job::MOST_FILES⟧) (← ⟦Job::MOST_RECIPES⟧) (← ⟦Job::MOST_PINS⟧) (← ⟦Job::MOST_DEN⟧)) answer (whole_job job sizes.now sides.now marks.now bounds.now pins.now) bytes ⌝ }
+    ensures room_after { handing_of result room.new ≡ hand_into (balanced_out answer (whole_job job sizes.now sides.now marks.now bounds.now pins.now)) room.old }
     ensures answered { Answered (bytes + LINES_BYTES) result.verdict room.old }
 {
     if room.len() < bytes {
@@ -235,9 +235,9 @@ fn balance_with(
     room: &mut [u8],
     bytes: usize,
 ) -> Handed
-    requires* scratch_value { do ⌜ scratch.old ≡ (allLent (limitsOf (← ⟦Job::MOST_FILES⟧) (← ⟦Job::MOST_RECIPES⟧) (← ⟦Job::MOST_PINS⟧) (← ⟦Job::MOST_DEN⟧)) (wholeJob job sizes.now sides.old marks.now bounds.now pins.now)).scratch ⌝ }
-    requires* fact { do ⌜ (bytes ≡ 512 * blockCount (headerFor (wholeJob job sizes.now sides.old marks.now bounds.now pins.now))) × (bytes ≤ (← ⟦layout::INPUT_BYTES⟧)) ⌝ }
-    ensures* room_after { do ⌜ handingOf result room.new ≡ handInto (balancingOut (limitsOf (← (⟦Job::MOST_FILES⟧).entry) (← (⟦Job::MOST_RECIPES⟧).entry) (← (⟦Job::MOST_PINS⟧).entry) (← (⟦Job::MOST_DEN⟧).entry)) (wholeJob job sizes.now sides.old marks.now bounds.now pins.now)) room.old ⌝ }
+    requires* scratch_value { do ⌜ scratch.old ≡ (all_lent (limits_of (← ⟦Job::MOST_FILES⟧) (← ⟦Job::MOST_RECIPES⟧) (← ⟦Job::MOST_PINS⟧) (← ⟦Job::MOST_DEN⟧)) (whole_job job sizes.now sides.old marks.now bounds.now pins.now)).scratch ⌝ }
+    requires* fact { do ⌜ (bytes ≡ 512 * block_count (header_for (whole_job job sizes.now sides.old marks.now bounds.now pins.now))) × (bytes ≤ (← ⟦layout::INPUT_BYTES⟧)) ⌝ }
+    ensures* room_after { do ⌜ handing_of result room.new ≡ hand_into (balancing_out (limits_of (← (⟦Job::MOST_FILES⟧).entry) (← (⟦Job::MOST_RECIPES⟧).entry) (← (⟦Job::MOST_PINS⟧).entry) (← (⟦Job::MOST_DEN⟧).entry)) (whole_job job sizes.now sides.old marks.now bounds.now pins.now)) room.old ⌝ }
     ensures answered { Answered ROOM_BYTES result.verdict room.old }
 {
     let answer = split::balance(job, sizes, sides, marks, bounds, pins, scratch);
@@ -250,9 +250,9 @@ fn balance_with(
 
 // The same of a job that was taken up, with a scratch of the hander's own.
 fn balance_job(t: TakenUp, room: &mut [u8], bytes: usize) -> Handed
-    requires* fact { do ⌜ Held (limitsOf (← ⟦Job::MOST_FILES⟧) (← ⟦Job::MOST_RECIPES⟧) (← ⟦Job::MOST_PINS⟧) (← ⟦Job::MOST_DEN⟧)) t ⌝ }
-    requires* fact_2 { do ⌜ (bytes ≡ 512 * blockCount (headerFor (jobTaken t))) × (bytes ≤ (← ⟦layout::INPUT_BYTES⟧)) ⌝ }
-    ensures* room_after { do ⌜ handingOf result room.new ≡ handInto (balancingOut (limitsOf (← (⟦Job::MOST_FILES⟧).entry) (← (⟦Job::MOST_RECIPES⟧).entry) (← (⟦Job::MOST_PINS⟧).entry) (← (⟦Job::MOST_DEN⟧).entry)) (jobTaken t)) room.old ⌝ }
+    requires* fact { do ⌜ Held (limits_of (← ⟦Job::MOST_FILES⟧) (← ⟦Job::MOST_RECIPES⟧) (← ⟦Job::MOST_PINS⟧) (← ⟦Job::MOST_DEN⟧)) t ⌝ }
+    requires* fact_2 { do ⌜ (bytes ≡ 512 * block_count (header_for (job_taken t))) × (bytes ≤ (← ⟦layout::INPUT_BYTES⟧)) ⌝ }
+    ensures* room_after { do ⌜ handing_of result room.new ≡ hand_into (balancing_out (limits_of (← (⟦Job::MOST_FILES⟧).entry) (← (⟦Job::MOST_RECIPES⟧).entry) (← (⟦Job::MOST_PINS⟧).entry) (← (⟦Job::MOST_DEN⟧).entry)) (job_taken t)) room.old ⌝ }
     ensures* fact_3 { do ⌜ Answered (← (⟦ROOM_BYTES⟧).entry) result.verdict room.old ⌝ }
 {
     let read = t.read;
@@ -283,7 +283,7 @@ fn balance_job(t: TakenUp, room: &mut [u8], bytes: usize) -> Handed
 // The stored job with a balanced start and the lines that tell of it, or a refusal's line: what the program `balance` writes to standard output and to standard error, for
 // every input.
 pub fn balance(input: &[u8], room: &mut [u8]) -> Handed
-    ensures* room_after { do ⌜ handingOf result room.new ≡ handInto (balances (limitsOf (← (⟦Job::MOST_FILES⟧).entry) (← (⟦Job::MOST_RECIPES⟧).entry) (← (⟦Job::MOST_PINS⟧).entry) (← (⟦Job::MOST_DEN⟧).entry)) input.now) room.old ⌝ }
+    ensures* room_after { do ⌜ handing_of result room.new ≡ hand_into (balances (limits_of (← (⟦Job::MOST_FILES⟧).entry) (← (⟦Job::MOST_RECIPES⟧).entry) (← (⟦Job::MOST_PINS⟧).entry) (← (⟦Job::MOST_DEN⟧).entry)) input.now) room.old ⌝ }
     ensures answered { Answered ROOM_BYTES result.verdict room.old × BothLendable result.output result.errors room.new }
 {
     let t = stored::take_up(input);

@@ -8,12 +8,12 @@ use native.Mathlib.Numerals.{add-one}
 use lib.Dec.{eqb}
 use lib.ListN.{get_or}
 use Rattle.rules.specs.Lists.{bit, total, count, largest, up_to}
-use Rattle.rules.specs.Job.{Job, isRead}
-use Rattle.rules.specs.Split.{side_of, onSide, size_of, isFree, weighs}
-use Rattle.rules.proofs.Count.{bit-most, total-upTo, largest-upTo}
+use Rattle.rules.specs.Job.{Job, is_read}
+use Rattle.rules.specs.Split.{side_of, on_side, size_of, is_free, weighs}
+use Rattle.rules.proofs.Count.{bit-most, total-up_to, largest-up_to}
 use Rattle.rules.proofs.Readable.{not-not}
 use Rattle.job.specs.declared.figures.Totals.{Totals}
-use Rattle.job.specs.Totals.{totalsOf, withFile, Within, Added}
+use Rattle.job.specs.Totals.{totals_of, with_file, Within, Added}
 
 -- a two-byte number times a total
 pub product : {b : ℕ} (x y : ℕ) → x ≤ 65535 → y ≤ b → x * y ≤ 65535 * b
@@ -31,35 +31,35 @@ pub walked_none : (job : Job) (n : ℕ) → Walked job n 0 (record { weight = 0;
 walked_none job n = record {
   stop = omega arith;
   added = record {
-    is = unfold totalsOf total count largest up_to in refl;
+    is = unfold totals_of total count largest up_to in refl;
     within = record { weight = omega arith; largest = omega arith; size = omega arith; least = omega arith; most = omega arith; free = omega arith; unread = omega arith };
   };
 }
 
 module _ {job : Job} {n i : ℕ} {t : Totals} (w : Walked job n i t) where
-  pub walked_more : (r : Totals) → i < n → size_of job i ≤ 65535 → r ≡ withFile t (size_of job i) (side_of job.sides i) (get_or job.marks i 0) → Walked job n (i + 1) r
-  unfolding totalsOf count
+  pub walked_more : (r : Totals) → i < n → size_of job i ≤ 65535 → r ≡ with_file t (size_of job i) (side_of job.sides i) (get_or job.marks i 0) → Walked job n (i + 1) r
+  unfolding totals_of count
   walked_more r h l e =
-      let file : Totals → Totals = λ y. withFile y (size_of job i) (side_of job.sides i) (get_or job.marks i 0) in
-      let in-a : ℕ → ℕ = λ f. bit (onSide job.sides 0 f) * weighs job f in
-      let held-in-a : ℕ → ℕ = λ f. bit (not (isFree job f) && onSide job.sides 0 f) * weighs job f in
-      let free-or-in-a : ℕ → ℕ = λ f. bit (isFree job f || onSide job.sides 0 f) * weighs job f in
-      let if-free : ℕ → ℕ = λ f. bit (isFree job f) * size_of job f in
+      let file : Totals → Totals = λ y. with_file y (size_of job i) (side_of job.sides i) (get_or job.marks i 0) in
+      let in-a : ℕ → ℕ = λ f. bit (on_side job.sides 0 f) * weighs job f in
+      let held-in-a : ℕ → ℕ = λ f. bit (not (is_free job f) && on_side job.sides 0 f) * weighs job f in
+      let free-or-in-a : ℕ → ℕ = λ f. bit (is_free job f || on_side job.sides 0 f) * weighs job f in
+      let if-free : ℕ → ℕ = λ f. bit (is_free job f) * size_of job f in
       let was = w.added.within in
-      let light = bit-most (isRead job i) (size_of job i) in
+      let light = bit-most (is_read job i) (size_of job i) in
       record {
         stop = omega arith;
         added = record {
           is =
               e ∙ ap file w.added.is
-              ∙ same-totals (file (totalsOf job i)) (totalsOf job (suc i))
-              (sym (total-upTo (weighs job) i)) (sym (largest-upTo if-free i)) (sym (total-upTo in-a i))
-              (sym (total-upTo held-in-a i)) (sym (total-upTo free-or-in-a i)) (sym (total-upTo (λ f. bit (isFree job f)) i))
-              (sym (total-upTo (λ f. bit (not (isRead job f))) i ∙ ap (λ (b : Bool). total (λ f. bit (not (isRead job f))) (up_to i) + bit b) (not-not (eqb (get_or job.marks i 0) 2))))
-              ∙ ap (totalsOf job) (sym (add-one i));
+              ∙ same-totals (file (totals_of job i)) (totals_of job (suc i))
+              (sym (total-up_to (weighs job) i)) (sym (largest-up_to if-free i)) (sym (total-up_to in-a i))
+              (sym (total-up_to held-in-a i)) (sym (total-up_to free-or-in-a i)) (sym (total-up_to (λ f. bit (is_free job f)) i))
+              (sym (total-up_to (λ f. bit (not (is_read job f))) i ∙ ap (λ (b : Bool). total (λ f. bit (not (is_read job f))) (up_to i) + bit b) (not-not (eqb (get_or job.marks i 0) 2))))
+              ∙ ap (totals_of job) (sym (add-one i));
           within = record {
             weight = omega (arith, ap (λ (y : Totals). y.weight) e, was.weight, light);
-            largest = rw (ap (λ (y : Totals). y.largest) e) (max-le (omega (arith, was.largest)) (omega (arith, bit-most (isFree job i) (size_of job i))));
+            largest = rw (ap (λ (y : Totals). y.largest) e) (max-le (omega (arith, was.largest)) (omega (arith, bit-most (is_free job i) (size_of job i))));
             size = omega (arith, ap (λ (y : Totals). y.size) e, was.size, bit-most (eqb (side_of job.sides i) 0) (weighs job i), light);
             least = omega (arith, ap (λ (y : Totals). y.least) e, was.least, bit-most (not (eqb (get_or job.marks i 0) 0) && eqb (side_of job.sides i) 0) (weighs job i), light);
             most = omega (arith, ap (λ (y : Totals). y.most) e, was.most, bit-most (eqb (get_or job.marks i 0) 0 || eqb (side_of job.sides i) 0) (weighs job i), light);

@@ -6,25 +6,25 @@ use mathlib.Core.List.{List}
 use lib.Dec.{eqb}
 use lib.ListN.{length, get_or}
 use Rattle.rules.specs.Lists.{bit}
-use Rattle.rules.specs.Job.{isRead}
-use Rattle.rules.specs.Split.{onSide, countOn}
-use Rattle.rules.specs.Move.{lockedOn}
+use Rattle.rules.specs.Job.{is_read}
+use Rattle.rules.specs.Split.{on_side, count_on}
+use Rattle.rules.specs.Move.{locked_on}
 use Rattle.rules.proofs.Count.{bit_le, Summed, summed-none, summed-more, summed-entries}
 use Rattle.rules.proofs.Readable.{count-those}
-use Rattle.job.specs.Parts.{ofMarks}
+use Rattle.job.specs.Parts.{of_marks}
 use Rattle.job.specs.declared.holds.Held.{Held}
-use Rattle.job.specs.Holds.{heldOn, withPin}
+use Rattle.job.specs.Holds.{held_on, with_pin}
 
 module _ (sides marks recipe : List ℕ) (u : ℕ) where
   -- the file is on side u, and locked besides
   abbrev there : ℕ → Bool
-  there x = onSide sides u x
+  there x = on_side sides u x
 
   abbrev stuck : ℕ → Bool
   stuck x = there x && not (eqb (get_or marks x 0) 0)
 
   abbrev read : (ℕ → Bool) → ℕ → Bool
-  read p x = isRead (ofMarks marks) x && p x
+  read p x = is_read (of_marks marks) x && p x
 
   -- the first k files are counted
   pub record Counted (k : ℕ) (h : Held) : Type 0 where
@@ -36,7 +36,7 @@ module _ {sides marks recipe : List ℕ} {u : ℕ} where
   counted_none = record { all = summed-none; locked = summed-none }
 
   pub counted-more : {k : ℕ} {h r : Held} → Counted sides marks recipe u k h → k < length recipe
-      → r ≡ withPin h (get_or marks (get_or recipe k 0) 0) (onSide sides u (get_or recipe k 0)) → Counted sides marks recipe u (k + 1) r
+      → r ≡ with_pin h (get_or marks (get_or recipe k 0) 0) (on_side sides u (get_or recipe k 0)) → Counted sides marks recipe u (k + 1) r
   counted-more {k} {h} {r} c l e =
       let f = get_or recipe k 0 in
       record {
@@ -44,9 +44,9 @@ module _ {sides marks recipe : List ℕ} {u : ℕ} where
         locked = summed-more c.locked r.locked l (ap (λ (y : Held). y.locked) e) (bit_le (read sides marks recipe u (stuck sides marks recipe u) f));
       }
 
-  pub counted-all : {k : ℕ} {h : Held} → Counted sides marks recipe u k h → length recipe ≤ k → h ≡ heldOn sides marks u recipe
-  unfolding countOn lockedOn
+  pub counted-all : {k : ℕ} {h : Held} → Counted sides marks recipe u k h → length recipe ≤ k → h ≡ held_on sides marks u recipe
+  unfolding count_on locked_on
   counted-all c l =
-      let all = summed-entries _ recipe c.all l ∙ sym (count-those (there sides marks recipe u) (isRead (ofMarks marks)) recipe) in
-      let locked = summed-entries _ recipe c.locked l ∙ sym (count-those (stuck sides marks recipe u) (isRead (ofMarks marks)) recipe) in
+      let all = summed-entries _ recipe c.all l ∙ sym (count-those (there sides marks recipe u) (is_read (of_marks marks)) recipe) in
+      let locked = summed-entries _ recipe c.locked l ∙ sym (count-those (stuck sides marks recipe u) (is_read (of_marks marks)) recipe) in
       λ i. record { all = all i; locked = locked i }

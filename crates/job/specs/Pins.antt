@@ -6,15 +6,15 @@ abbrev pub onwards : ℕ → (ℕ → Bool) → ℕ → Bool
 onwards a p k = leb a k && p k
 
 -- one more than the last of the first n positions that holds file f; 0 where none does
-unfoldable pub lastHeld : List ℕ → ℕ → ℕ → ℕ
-lastHeld pins zero f = 0
-lastHeld pins (suc n) f = cond (eqb (get_or pins n 0) f) (suc n) (lastHeld pins n f)
+unfoldable pub last_held : List ℕ → ℕ → ℕ → ℕ
+last_held pins zero f = 0
+last_held pins (suc n) f = cond (eqb (get_or pins n 0) f) (suc n) (last_held pins n f)
 
 -- the pin at position k is C or more, or repeats an earlier pin of its recipe, which begins at a
-abbrev pub badFrom : ℕ → List ℕ → ℕ → ℕ → Bool
-badFrom files pins a k = leb files (get_or pins k 0) || ltb a (lastHeld pins k (get_or pins k 0))
+abbrev pub bad_from : ℕ → List ℕ → ℕ → ℕ → Bool
+bad_from files pins a k = leb files (get_or pins k 0) || ltb a (last_held pins k (get_or pins k 0))
 
 -- the table has for each file where the first n positions hold it last
 pub record Held (files : ℕ) (pins : List ℕ) (n : ℕ) (table : List ℕ) : Type 0 where
   pub room : files ≤ length table
-  pub last : (f : ℕ) → f < files → get_or table f 0 ≡ lastHeld pins n f
+  pub last : (f : ℕ) → f < files → get_or table f 0 ≡ last_held pins n f

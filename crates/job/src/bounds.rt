@@ -2,7 +2,7 @@
 ghost use Rattle.std.specs.Prelude.{◌≡◌, [], ◌-◌, ◌<◌, length};
 ghost use Rattle.rules.specs.Lists.{lowest};
 ghost use Rattle.rules.specs.Check.{short};
-ghost use Rattle.job.specs.Parts.{ofRecipes};
+ghost use Rattle.job.specs.Parts.{of_recipes};
 
 use crate::numbers::wide;
 
@@ -19,7 +19,7 @@ pub fn recipe_count(bounds: &[u16]) -> usize
 // The lowest of the n recipes that has fewer than two pins, or n.
 pub(crate) fn first_short(bounds: &[u16], n: usize) -> usize
     requires { n < length bounds.now }
-    ensures { result ≡ lowest (short (ofRecipes bounds.now [])) n }
+    ensures { result ≡ lowest (short (of_recipes bounds.now [])) n }
 {
     let mut j = 0;
     while j < n {

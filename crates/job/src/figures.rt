@@ -1,9 +1,9 @@
 // The figures of a job: what its files add up to, balance, the cut, and the recipes that hold an unread file.
 ghost use Rattle.std.specs.Prelude.{◌≡◌, ◌*◌, ◌≤◌, ◌<◌, length};
-ghost use Rattle.rules.specs.Job.{readIn, recipes};
-ghost use Rattle.rules.specs.Split.{countOn, isCut, «cut», unreadRecipes};
-ghost use Rattle.job.specs.Parts.{ofFiles, ofMarks, ofMarked};
-ghost use Rattle.job.specs.Totals.{weightOf, withFile, Within, Added, toleranceBy, reaches, mayEmptyBy};
+ghost use Rattle.rules.specs.Job.{read_in, recipes};
+ghost use Rattle.rules.specs.Split.{count_on, is_cut, «cut», unread_recipes};
+ghost use Rattle.job.specs.Parts.{of_files, of_marks, of_marked};
+ghost use Rattle.job.specs.Totals.{weight_of, with_file, Within, Added, tolerance_by, reaches, may_empty_by};
 
 use crate::bounds::recipe_count;
 use crate::holds::tally;
@@ -37,14 +37,14 @@ pub struct Survey {
 
 // What a file weighs: its size, and nothing where it is unread.
 fn weight_of(size: u16, mark: u16) -> u64
-    ensures { (result ≡ weightOf size mark) × (result ≤ size) }
+    ensures { (result ≡ weight_of size mark) × (result ≤ size) }
 {
     when(mark != 2, long(size))
 }
 
 fn with_file(t: Totals, size: u16, side: u16, mark: u16) -> Totals
     requires* { do ⌜ Within t ((← ⟦Job::MOST_FILES⟧) * 65535) ⌝ }
-    ensures { result ≡ withFile t size side mark }
+    ensures { result ≡ with_file t size side mark }
 {
     let s = weight_of(size, mark);
     let free = mark == 0;
@@ -63,7 +63,7 @@ fn with_file(t: Totals, size: u16, side: u16, mark: u16) -> Totals
 pub(crate) fn totals_of(sizes: &[u16], sides: &[u16], marks: &[u16]) -> Totals
     requires* sizes_bound { do ⌜ length sizes.now ≤ (← ⟦Job::MOST_FILES⟧) ⌝ }
     requires sides_len { (length sides.now ≡ length sizes.now) × (length marks.now ≡ length sizes.now) }
-    ensures { Added (ofFiles sizes.now sides.now marks.now) (length sizes.now) result }
+    ensures { Added (of_files sizes.now sides.now marks.now) (length sizes.now) result }
 {
     let mut t = Totals {
         weight: 0,
@@ -85,7 +85,7 @@ pub(crate) fn totals_of(sizes: &[u16], sides: &[u16], marks: &[u16]) -> Totals
 // k times smax.
 pub(crate) fn tolerance(job: Job, t: Totals) -> u64
     requires* { do ⌜ Within t ((← ⟦Job::MOST_FILES⟧) * 65535) ⌝ }
-    ensures* { do ⌜ (result ≡ toleranceBy job t) × (result ≤ 65535 * ((← (⟦Job::MOST_FILES⟧).entry) * 65535)) ⌝ }
+    ensures* { do ⌜ (result ≡ tolerance_by job t) × (result ≤ 65535 * ((← (⟦Job::MOST_FILES⟧).entry) * 65535)) ⌝ }
 {
     long(job.k) * t.largest
 }
@@ -105,7 +105,7 @@ pub(crate) fn is_balanced(job: Job, t: Totals, least: u64, most: u64) -> bool
 // Whether the window would allow a vault of size 0.
 pub(crate) fn may_empty(job: Job, t: Totals) -> bool
     requires* { do ⌜ Within t ((← ⟦Job::MOST_FILES⟧) * 65535) ⌝ }
-    ensures { result ≡ mayEmptyBy job t }
+    ensures { result ≡ may_empty_by job t }
 {
     let den = long(job.den);
     let w = long(job.num) * t.weight;
@@ -115,7 +115,7 @@ pub(crate) fn may_empty(job: Job, t: Totals) -> bool
 
 // How many numbers of the list have u at their place in the table: a recipe's files on a side, a file's recipes with a count. A place beyond the table reads as 0.
 pub fn count_on(list: &[u16], table: &[u16], u: u16) -> usize
-    ensures { result ≡ countOn table.now u list.now }
+    ensures { result ≡ count_on table.now u list.now }
 {
     let mut n = 0;
     let mut k = 0;
@@ -128,14 +128,14 @@ pub fn count_on(list: &[u16], table: &[u16], u: u16) -> usize
 
 // Readable files in both vaults are two at least.
 fn is_cut(sides: &[u16], marks: &[u16], recipe: &[u16]) -> bool
-    ensures { result ≡ isCut sides.now (readIn (ofMarks marks.now) recipe.now) }
+    ensures { result ≡ is_cut sides.now (read_in (of_marks marks.now) recipe.now) }
 {
     let t = tally(recipe, sides, marks);
     (0 < t.a.all) & (0 < t.b.all)
 }
 
 pub(crate) fn cut(sides: &[u16], marks: &[u16], bounds: &[u16], pins: &[u16]) -> usize
-    ensures { result ≡ «cut» sides.now (recipes (ofMarked marks.now bounds.now pins.now)) }
+    ensures { result ≡ «cut» sides.now (recipes (of_marked marks.now bounds.now pins.now)) }
 {
     let n = recipe_count(bounds);
     let mut x = 0;
@@ -149,8 +149,8 @@ pub(crate) fn cut(sides: &[u16], marks: &[u16], bounds: &[u16], pins: &[u16]) ->
 
 // How many recipes hold an unread file: none where there is none, and no recipe is walked.
 pub(crate) fn holding(unread: usize, marks: &[u16], bounds: &[u16], pins: &[u16]) -> usize
-    requires { unread ≡ 0 → unreadRecipes (ofMarked marks.now bounds.now pins.now) ≡ 0 }
-    ensures { result ≡ unreadRecipes (ofMarked marks.now bounds.now pins.now) }
+    requires { unread ≡ 0 → unread_recipes (of_marked marks.now bounds.now pins.now) ≡ 0 }
+    ensures { result ≡ unread_recipes (of_marked marks.now bounds.now pins.now) }
 {
     if unread == 0 {
         return 0;

@@ -1,6 +1,6 @@
 // What each vault holds of a recipe, by one walk over its files.
 ghost use Rattle.std.specs.Prelude.{◌≡◌, ◌<◌, ◌^◌};
-ghost use Rattle.job.specs.Holds.{withPin, tally_of};
+ghost use Rattle.job.specs.Holds.{with_pin, tally_of};
 
 use crate::numbers::{bit, entry_at, wide};
 
@@ -20,7 +20,7 @@ pub struct Vaults {
 // One file more of the recipe, of this mark, in this vault or not.
 fn with_pin(held: Held, mark: u16, there: bool) -> Held
     requires { (held.all < 2 ^ 63) × (held.locked < 2 ^ 63) }
-    ensures { result ≡ withPin held mark there }
+    ensures { result ≡ with_pin held mark there }
 {
     let read = mark != 2;
     Held {

@@ -8,11 +8,11 @@ mod pins;
 mod verdict;
 
 ghost use Rattle.std.specs.Prelude.{◌≡◌, true, ◌*◌};
-ghost use Rattle.rules.specs.Job.{limitsOf, view_of};
-ghost use Rattle.job.specs.Parts.{wholeJob};
-ghost use Rattle.rules.specs.Theorems.{mostBytes};
-ghost use Rattle.rules.specs.Check.{checkJob, «measure»};
-ghost use Rattle.job.specs.Survey.{surveyOf};
+ghost use Rattle.rules.specs.Job.{limits_of, view_of};
+ghost use Rattle.job.specs.Parts.{whole_job};
+ghost use Rattle.rules.specs.Theorems.{most_bytes};
+ghost use Rattle.rules.specs.Check.{check_job, «measure»};
+ghost use Rattle.job.specs.Survey.{survey_of};
 
 pub use bounds::recipe_count;
 pub use figures::{Survey, count_on};
@@ -45,8 +45,8 @@ impl Job {
     // The second promise fixes the limits: document 01's, as order 11 of document 02 raises them. By these the largest stored job has 56 blocks.
     pub fn new(num: u16, den: u16, k: u16) -> Self
         ensures num_value { (result.num ≡ num) × (result.den ≡ den) × (result.k ≡ k) }
-        ensures* limits_of_value { do ⌜ limitsOf (← (⟦Job::MOST_FILES⟧).entry) (← (⟦Job::MOST_RECIPES⟧).entry) (← (⟦Job::MOST_PINS⟧).entry) (← (⟦Job::MOST_DEN⟧).entry) ≡ limitsOf 2048 1024 8192 1000 ⌝ }
-        ensures* limits_of_value_2 { do ⌜ mostBytes (limitsOf (← (⟦Job::MOST_FILES⟧).entry) (← (⟦Job::MOST_RECIPES⟧).entry) (← (⟦Job::MOST_PINS⟧).entry) (← (⟦Job::MOST_DEN⟧).entry)) ≡ 512 * 56 ⌝ }
+        ensures* limits_of_value { do ⌜ limits_of (← (⟦Job::MOST_FILES⟧).entry) (← (⟦Job::MOST_RECIPES⟧).entry) (← (⟦Job::MOST_PINS⟧).entry) (← (⟦Job::MOST_DEN⟧).entry) ≡ limits_of 2048 1024 8192 1000 ⌝ }
+        ensures* limits_of_value_2 { do ⌜ most_bytes (limits_of (← (⟦Job::MOST_FILES⟧).entry) (← (⟦Job::MOST_RECIPES⟧).entry) (← (⟦Job::MOST_PINS⟧).entry) (← (⟦Job::MOST_DEN⟧).entry)) ≡ 512 * 56 ⌝ }
     {
         Self { num, den, k }
     }
@@ -79,7 +79,7 @@ pub fn check(
     bounds: &[u16],
     pins: &[u16],
 ) -> Verdict
-    ensures* { do ⌜ result ≡ checkJob (limitsOf (← (⟦Job::MOST_FILES⟧).entry) (← (⟦Job::MOST_RECIPES⟧).entry) (← (⟦Job::MOST_PINS⟧).entry) (← (⟦Job::MOST_DEN⟧).entry)) (wholeJob job sizes.now sides.now marks.now bounds.now pins.now) ⌝ }
+    ensures* { do ⌜ result ≡ check_job (limits_of (← (⟦Job::MOST_FILES⟧).entry) (← (⟦Job::MOST_RECIPES⟧).entry) (← (⟦Job::MOST_PINS⟧).entry) (← (⟦Job::MOST_DEN⟧).entry)) (whole_job job sizes.now sides.now marks.now bounds.now pins.now) ⌝ }
 {
     let v = check_sound(sizes, sides, marks, bounds, pins, true);
     if v.number != 0 {
@@ -97,7 +97,7 @@ pub fn measure(
     bounds: &[u16],
     pins: &[u16],
 ) -> Measure
-    ensures* { do ⌜ result ≡ «measure» (limitsOf (← (⟦Job::MOST_FILES⟧).entry) (← (⟦Job::MOST_RECIPES⟧).entry) (← (⟦Job::MOST_PINS⟧).entry) (← (⟦Job::MOST_DEN⟧).entry)) (wholeJob job sizes.now sides.now marks.now bounds.now pins.now) ⌝ }
+    ensures* { do ⌜ result ≡ «measure» (limits_of (← (⟦Job::MOST_FILES⟧).entry) (← (⟦Job::MOST_RECIPES⟧).entry) (← (⟦Job::MOST_PINS⟧).entry) (← (⟦Job::MOST_DEN⟧).entry)) (whole_job job sizes.now sides.now marks.now bounds.now pins.now) ⌝ }
 {
     let verdict = check_sound(sizes, sides, marks, bounds, pins, true);
     if verdict.number != 0 {
@@ -130,7 +130,7 @@ pub fn survey(
     lent: bool,
     balancing: bool,
 ) -> Survey
-    ensures* { do ⌜ result ≡ surveyOf balancing (limitsOf (← (⟦Job::MOST_FILES⟧).entry) (← (⟦Job::MOST_RECIPES⟧).entry) (← (⟦Job::MOST_PINS⟧).entry) (← (⟦Job::MOST_DEN⟧).entry)) (wholeJob job sizes.now sides.now marks.now bounds.now pins.now) lent ⌝ }
+    ensures* { do ⌜ result ≡ survey_of balancing (limits_of (← (⟦Job::MOST_FILES⟧).entry) (← (⟦Job::MOST_RECIPES⟧).entry) (← (⟦Job::MOST_PINS⟧).entry) (← (⟦Job::MOST_DEN⟧).entry)) (whole_job job sizes.now sides.now marks.now bounds.now pins.now) lent ⌝ }
 {
     let v = check_sound(sizes, sides, marks, bounds, pins, lent);
     if v.number != 0 {

@@ -1,9 +1,9 @@
 // The pins: files, and no file twice in a recipe.
 ghost use Rattle.std.specs.Prelude.{◌≡◌, ◌||◌, ◌≤◌, length, get_or, leb, ltb};
 ghost use Rattle.rules.specs.Lists.{lowest};
-ghost use Rattle.rules.specs.Check.{badPin, checkBounds};
-ghost use Rattle.job.specs.Parts.{ofRecipes, ofPins};
-ghost use Rattle.job.specs.Pins.{onwards, badFrom, Held};
+ghost use Rattle.rules.specs.Check.{bad_pin, check_bounds};
+ghost use Rattle.job.specs.Parts.{of_recipes, of_pins};
+ghost use Rattle.job.specs.Pins.{onwards, bad_from, Held};
 
 use crate::Job;
 use crate::bounds::recipe_count;
@@ -23,7 +23,7 @@ fn is_bad_pin(files: usize, held: &[usize], a: usize, f: usize) -> bool
 // The lowest bad pin of the recipe from a up to e, or e. `held` has for each file one more than the last position that holds it, 0 where none does.
 fn first_bad_in(files: usize, pins: &[u16], held: &mut [usize], a: usize, e: usize) -> usize
     requires { (a ≤ e) × (e ≤ length pins.now) × Held files pins.now a held.old }
-    ensures { (result ≡ lowest (onwards a (badFrom files pins.now a)) e) × Held files pins.now result held.new × (length held.new ≡ length held.old) }
+    ensures { (result ≡ lowest (onwards a (bad_from files pins.now a)) e) × Held files pins.now result held.new × (length held.new ≡ length held.old) }
 {
     let mut k = a;
     while k < e {
@@ -39,8 +39,8 @@ fn first_bad_in(files: usize, pins: &[u16], held: &mut [usize], a: usize, e: usi
 
 // The lowest bad pin, or P.
 pub(crate) fn first_bad_pin(sizes: &[u16], bounds: &[u16], pins: &[u16]) -> usize
-    requires* { do ⌜ (length sizes.now ≤ (← ⟦Job::MOST_FILES⟧)) × ((checkBounds (ofRecipes bounds.now pins.now)).number ≡ 0) ⌝ }
-    ensures { result ≡ lowest (badPin (ofPins sizes.now bounds.now pins.now)) (length pins.now) }
+    requires* { do ⌜ (length sizes.now ≤ (← ⟦Job::MOST_FILES⟧)) × ((check_bounds (of_recipes bounds.now pins.now)).number ≡ 0) ⌝ }
+    ensures { result ≡ lowest (bad_pin (of_pins sizes.now bounds.now pins.now)) (length pins.now) }
 {
     let n = recipe_count(bounds);
     let mut held = [0usize; Job::MOST_FILES];

@@ -1,8 +1,8 @@
 // Numbers for no: each check by what it looks at, and the chains of them.
 ghost use Rattle.std.specs.Prelude.{◌≡◌, ◌*◌, ◌≤◌, ◌<◌, length};
-ghost use Rattle.rules.specs.Job.{limitsOf};
-ghost use Rattle.rules.specs.Check.{refuseIf, ◌orElse◌, badK, checkCounts, checkLists, checkBounds, checkPins, checkFiles, checkRatio, checkLengths, checkContents, checkSound};
-ghost use Rattle.job.specs.Parts.{ofFiles, ofRecipes, ofPins, ofLists, ofFigures};
+ghost use Rattle.rules.specs.Job.{limits_of};
+ghost use Rattle.rules.specs.Check.{refuse_if, ◌or_else◌, bad_k, check_counts, check_lists, check_bounds, check_pins, check_files, check_ratio, check_lengths, check_contents, check_sound};
+ghost use Rattle.job.specs.Parts.{of_files, of_recipes, of_pins, of_lists, of_figures};
 ghost use Rattle.job.specs.Totals.{Within, GivesStart, GivesRest};
 
 use crate::Job;
@@ -15,7 +15,7 @@ use rules::Verdict;
 
 // Refused with this number and place, if the test passes; else done.
 pub fn refuse_if(test: bool, number: usize, place: usize) -> Verdict
-    ensures { result ≡ refuseIf test number place }
+    ensures { result ≡ refuse_if test number place }
 {
     if test {
         return Verdict { number, place };
@@ -38,7 +38,7 @@ pub fn or_else(v: Verdict, w: Verdict) -> Verdict
 
 // 1 and 2, asked of a stored job's header too.
 pub fn check_counts(files: usize, recipes: usize, pins: usize) -> Verdict
-    ensures* { do ⌜ result ≡ checkCounts (limitsOf (← (⟦Job::MOST_FILES⟧).entry) (← (⟦Job::MOST_RECIPES⟧).entry) (← (⟦Job::MOST_PINS⟧).entry) (← (⟦Job::MOST_DEN⟧).entry)) files recipes pins ⌝ }
+    ensures* { do ⌜ result ≡ check_counts (limits_of (← (⟦Job::MOST_FILES⟧).entry) (← (⟦Job::MOST_RECIPES⟧).entry) (← (⟦Job::MOST_PINS⟧).entry) (← (⟦Job::MOST_DEN⟧).entry)) files recipes pins ⌝ }
 {
     let none = refuse_if((files == 0) | (recipes == 0), 1, 0);
     let over = refuse_if(
@@ -51,7 +51,7 @@ pub fn check_counts(files: usize, recipes: usize, pins: usize) -> Verdict
 
 // 3.
 fn check_lists(sizes: &[u16], sides: &[u16], marks: &[u16], lent: bool) -> Verdict
-    ensures { result ≡ checkLists (ofFiles sizes.now sides.now marks.now) lent }
+    ensures { result ≡ check_lists (of_files sizes.now sides.now marks.now) lent }
 {
     refuse_if(
         !((sides.len() == sizes.len()) & (marks.len() == sizes.len()) & lent),
@@ -63,7 +63,7 @@ fn check_lists(sizes: &[u16], sides: &[u16], marks: &[u16], lent: bool) -> Verdi
 // 4.
 fn check_bounds(bounds: &[u16], pins: &[u16]) -> Verdict
     requires { 1 < length bounds.now }
-    ensures { result ≡ checkBounds (ofRecipes bounds.now pins.now) }
+    ensures { result ≡ check_bounds (of_recipes bounds.now pins.now) }
 {
     let n = recipe_count(bounds);
     let first = refuse_if(bounds[0] != 0, 4, 0);
@@ -80,8 +80,8 @@ fn check_bounds(bounds: &[u16], pins: &[u16]) -> Verdict
 
 // 5.
 fn check_pins(sizes: &[u16], bounds: &[u16], pins: &[u16]) -> Verdict
-    requires* { do ⌜ (length sizes.now ≤ (← ⟦Job::MOST_FILES⟧)) × ((checkBounds (ofRecipes bounds.now pins.now)).number ≡ 0) ⌝ }
-    ensures { result ≡ checkPins (ofPins sizes.now bounds.now pins.now) }
+    requires* { do ⌜ (length sizes.now ≤ (← ⟦Job::MOST_FILES⟧)) × ((check_bounds (of_recipes bounds.now pins.now)).number ≡ 0) ⌝ }
+    ensures { result ≡ check_pins (of_pins sizes.now bounds.now pins.now) }
 {
     let k = first_bad_pin(sizes, bounds, pins);
     refuse_if(k < pins.len(), 5, k)
@@ -90,7 +90,7 @@ fn check_pins(sizes: &[u16], bounds: &[u16], pins: &[u16]) -> Verdict
 // 6.
 fn check_files(sizes: &[u16], sides: &[u16], marks: &[u16]) -> Verdict
     requires { (length sides.now ≡ length sizes.now) × (length marks.now ≡ length sizes.now) }
-    ensures { result ≡ checkFiles (ofFiles sizes.now sides.now marks.now) }
+    ensures { result ≡ check_files (of_files sizes.now sides.now marks.now) }
 {
     let f = first_bad_file(sizes, sides, marks);
     refuse_if(f < sizes.len(), 6, f)
@@ -98,14 +98,14 @@ fn check_files(sizes: &[u16], sides: &[u16], marks: &[u16]) -> Verdict
 
 // Whether k is 0 or over its most; the writer and the reader ask it too.
 pub fn bad_k(k: u16) -> bool
-    ensures { result ≡ badK k }
+    ensures { result ≡ bad_k k }
 {
     (k == 0) | (Job::MOST_K < k)
 }
 
 // 7: the ratio, then k.
 fn check_ratio(job: Job) -> Verdict
-    ensures* { do ⌜ result ≡ checkRatio (limitsOf (← (⟦Job::MOST_FILES⟧).entry) (← (⟦Job::MOST_RECIPES⟧).entry) (← (⟦Job::MOST_PINS⟧).entry) (← (⟦Job::MOST_DEN⟧).entry)) (ofFigures job) ⌝ }
+    ensures* { do ⌜ result ≡ check_ratio (limits_of (← (⟦Job::MOST_FILES⟧).entry) (← (⟦Job::MOST_RECIPES⟧).entry) (← (⟦Job::MOST_PINS⟧).entry) (← (⟦Job::MOST_DEN⟧).entry)) (of_figures job) ⌝ }
 {
     let ratio = refuse_if(
         (job.num == 0) | (job.den <= job.num) | (Job::MOST_DEN < job.den),
@@ -124,7 +124,7 @@ fn check_lengths(
     pins: &[u16],
     lent: bool,
 ) -> Verdict
-    ensures* { do ⌜ result ≡ checkLengths (limitsOf (← (⟦Job::MOST_FILES⟧).entry) (← (⟦Job::MOST_RECIPES⟧).entry) (← (⟦Job::MOST_PINS⟧).entry) (← (⟦Job::MOST_DEN⟧).entry)) (ofLists sizes.now sides.now marks.now bounds.now pins.now) lent ⌝ }
+    ensures* { do ⌜ result ≡ check_lengths (limits_of (← (⟦Job::MOST_FILES⟧).entry) (← (⟦Job::MOST_RECIPES⟧).entry) (← (⟦Job::MOST_PINS⟧).entry) (← (⟦Job::MOST_DEN⟧).entry)) (of_lists sizes.now sides.now marks.now bounds.now pins.now) lent ⌝ }
 {
     let counts = check_counts(sizes.len(), recipe_count(bounds), pins.len());
     or_else(counts, check_lists(sizes, sides, marks, lent))
@@ -140,7 +140,7 @@ fn check_contents(
 ) -> Verdict
     requires* fact { do ⌜ (1 < length bounds.now) × (length sizes.now ≤ (← ⟦Job::MOST_FILES⟧)) ⌝ }
     requires sides_len { (length sides.now ≡ length sizes.now) × (length marks.now ≡ length sizes.now) }
-    ensures { result ≡ checkContents (ofLists sizes.now sides.now marks.now bounds.now pins.now) }
+    ensures { result ≡ check_contents (of_lists sizes.now sides.now marks.now bounds.now pins.now) }
 {
     let bad_bounds = check_bounds(bounds, pins);
     if bad_bounds.number != 0 {
@@ -162,7 +162,7 @@ pub fn check_sound(
     pins: &[u16],
     lent: bool,
 ) -> Verdict
-    ensures* { do ⌜ result ≡ checkSound (limitsOf (← (⟦Job::MOST_FILES⟧).entry) (← (⟦Job::MOST_RECIPES⟧).entry) (← (⟦Job::MOST_PINS⟧).entry) (← (⟦Job::MOST_DEN⟧).entry)) (ofLists sizes.now sides.now marks.now bounds.now pins.now) lent ⌝ }
+    ensures* { do ⌜ result ≡ check_sound (limits_of (← (⟦Job::MOST_FILES⟧).entry) (← (⟦Job::MOST_RECIPES⟧).entry) (← (⟦Job::MOST_PINS⟧).entry) (← (⟦Job::MOST_DEN⟧).entry)) (of_lists sizes.now sides.now marks.now bounds.now pins.now) lent ⌝ }
 {
     let v = check_lengths(sizes, sides, marks, bounds, pins, lent);
     if v.number != 0 {
@@ -185,7 +185,7 @@ fn check_start(job: Job, t: Totals, balancing: bool) -> Verdict
 // 7, 8, 10 and 9, in this order: they need no list, only what its files add up to.
 pub(crate) fn check_rest(job: Job, t: Totals, balancing: bool) -> Verdict
     requires* { do ⌜ Within t ((← ⟦Job::MOST_FILES⟧) * 65535) ⌝ }
-    ensures* { do ⌜ GivesRest balancing (limitsOf (← (⟦Job::MOST_FILES⟧).entry) (← (⟦Job::MOST_RECIPES⟧).entry) (← (⟦Job::MOST_PINS⟧).entry) (← (⟦Job::MOST_DEN⟧).entry)) job t result ⌝ }
+    ensures* { do ⌜ GivesRest balancing (limits_of (← (⟦Job::MOST_FILES⟧).entry) (← (⟦Job::MOST_RECIPES⟧).entry) (← (⟦Job::MOST_PINS⟧).entry) (← (⟦Job::MOST_DEN⟧).entry)) job t result ⌝ }
 {
     let ratio = check_ratio(job);
     let free = refuse_if(t.free == 0, 8, 0);

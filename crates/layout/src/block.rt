@@ -1,6 +1,6 @@
 // A block of 512 bytes: its check and its values.
 ghost use Rattle.std.specs.Prelude.{◌≡◌, ◌<◌, get_or};
-ghost use Rattle.rules.specs.Stored.{block_check, word, valueIn};
+ghost use Rattle.rules.specs.Stored.{block_check, word, value_in};
 
 use job::wide;
 
@@ -46,7 +46,7 @@ pub fn word_at(block: &[u8; 512], i: u16) -> u16
 
 // Value v, as many as a byte can count.
 pub fn value_in(block: &[u8; 512], v: u8) -> u16
-    ensures { result ≡ valueIn block.now v }
+    ensures { result ≡ value_in block.now v }
 {
     word_at(block, 4 + 2 * v as u16)
 }

@@ -1,8 +1,8 @@
 // Which blocks there are, by the header: document 01, "Kinds in order". A block's number is a two-byte number, its kind and its count of values are bytes.
 ghost use Rattle.std.specs.Prelude.{◌≡◌, ◌+◌, ◌<◌, ◌≤◌};
-ghost use Rattle.rules.specs.Job.{limitsOf};
-ghost use Rattle.rules.specs.Stored.{blocksFor, boundsAt, pinsAt, blockCount, kind_of, heldIn, headerValues, valuesIn};
-ghost use Rattle.rules.specs.Theorems.{mostBytes};
+ghost use Rattle.rules.specs.Job.{limits_of};
+ghost use Rattle.rules.specs.Stored.{blocks_for, bounds_at, pins_at, block_count, kind_of, held_in, header_values, values_in};
+ghost use Rattle.rules.specs.Theorems.{most_bytes};
 
 use crate::block::byte;
 use job::{Job, wide};
@@ -24,7 +24,7 @@ pub const INPUT_BYTES: usize = BLOCK_BYTES
 // That number, a block more than the bytes of the largest stored job: a program takes up so many of its input, and no more.
 pub fn input_bytes() -> usize
     ensures* result_value { do ⌜ result ≡ (← (⟦INPUT_BYTES⟧).entry) ⌝ }
-    ensures* result_value_2 { do ⌜ result ≡ 512 + mostBytes (limitsOf (← (⟦Job::MOST_FILES⟧).entry) (← (⟦Job::MOST_RECIPES⟧).entry) (← (⟦Job::MOST_PINS⟧).entry) (← (⟦Job::MOST_DEN⟧).entry)) ⌝ }
+    ensures* result_value_2 { do ⌜ result ≡ 512 + most_bytes (limits_of (← (⟦Job::MOST_FILES⟧).entry) (← (⟦Job::MOST_RECIPES⟧).entry) (← (⟦Job::MOST_PINS⟧).entry) (← (⟦Job::MOST_DEN⟧).entry)) ⌝ }
 {
     INPUT_BYTES
 }
@@ -32,25 +32,25 @@ pub fn input_bytes() -> usize
 // How many blocks hold x things, m to a block.
 fn blocks_for(m: usize, x: usize) -> usize
     requires { (0 < m) × (m ≤ 512) × (x ≤ 65536) }
-    ensures { result ≡ blocksFor m x }
+    ensures { result ≡ blocks_for m x }
 {
     (x + (m - 1)) / m
 }
 
 pub fn bounds_at(h: Header) -> u16
-    ensures { result ≡ boundsAt h }
+    ensures { result ≡ bounds_at h }
 {
     (1 + blocks_for(BLOCK_FILES as usize, wide(h.files))) as u16
 }
 
 pub fn pins_at(h: Header) -> u16
-    ensures { result ≡ pinsAt h }
+    ensures { result ≡ pins_at h }
 {
     (wide(bounds_at(h)) + blocks_for(BLOCK_NUMBERS as usize, wide(h.recipes) + 1)) as u16
 }
 
 pub fn block_count(h: Header) -> u16
-    ensures { result ≡ blockCount h }
+    ensures { result ≡ block_count h }
 {
     (wide(pins_at(h)) + blocks_for(BLOCK_NUMBERS as usize, wide(h.pins))) as u16
 }
@@ -72,7 +72,7 @@ pub fn kind_of(h: Header, b: u16) -> u8
 
 // The things in block k of a kind that has x of them, m to a block: only the last may be short.
 pub fn held_in(m: u8, x: usize, k: u16) -> u8
-    ensures { result ≡ heldIn m x k }
+    ensures { result ≡ held_in m x k }
 {
     let before = byte(m) * wide(k);
     if x <= before {
@@ -86,7 +86,7 @@ pub fn held_in(m: u8, x: usize, k: u16) -> u8
 
 // A header with six values means that k is 1: document 02, order 6.
 pub fn header_values(k: u16) -> u8
-    ensures { result ≡ headerValues k }
+    ensures { result ≡ header_values k }
 {
     if k == 1 {
         return 6;
@@ -95,7 +95,7 @@ pub fn header_values(k: u16) -> u8
 }
 
 pub fn values_in(h: Header, b: u16) -> u8
-    ensures { result ≡ valuesIn h b }
+    ensures { result ≡ values_in h b }
 {
     if b == 0 {
         return header_values(h.k);

@@ -13,29 +13,29 @@ use lib.Signed.{lt_z}
 use borrow.Author.Tests.{ne_eqb, lt-ltb}
 use Rattle.rules.specs.Lists.{bit, diff}
 use Rattle.rules.specs.Job.{view_of}
-use Rattle.rules.specs.Levels.{counted, unlimited, is_number, aboveZero, bindingOf, adds, takes, greaterVector}
+use Rattle.rules.specs.Levels.{counted, unlimited, is_number, above_zero, binding_of, adds, takes, greater_vector}
 use Rattle.rules.proofs.Count.{is0, Summed, summed-none, summed-bit, summed-entries}
 use Rattle.rules.proofs.Tests.{and-false}
 use Rattle.rules.specs.Split.{side_of}
 use Rattle.tables.specs.declared.zones.Zones.{Zones}
-use Rattle.tables.specs.Zones.{cellsAt, startsAt, countsAt, sideAt, zonesOf, part}
+use Rattle.tables.specs.Zones.{cells_at, starts_at, counts_at, side_at, zones_of, part}
 use Rattle.tables.proofs.Parts.{part-entry, front-part}
-use Rattle.levels.specs.Vectors.{Counts, countsFor, own_at, thereAt, addsAt, takesAt, levelBy, vectorBy, vectorIn}
-use Rattle.levels.specs.Numbers.{number_of, number_in, bindsIn, countsFrom}
+use Rattle.levels.specs.Vectors.{Counts, counts_for, own_at, there_at, adds_at, takes_at, level_by, vector_by, vector_in}
+use Rattle.levels.specs.Numbers.{number_of, number_in, binds_in, counts_from}
 
 -- ---- binding numbers
 
-number-test : (on locked i : ℕ) → i < 65535 → eqb (number_of on locked) i ≡ is_number i (bindingOf on locked)
+number-test : (on locked i : ℕ) → i < 65535 → eqb (number_of on locked) i ≡ is_number i (binding_of on locked)
 number-test on locked i h = go (eqb locked 0)
   where
     go : (b : Bool) → eqb (cond b on 65535) i ≡ is_number i (cond b (counted on) unlimited)
     go true = refl
     go false = ne_eqb 65535 i (λ e. omega arith)
 
-above-test : (on locked : ℕ) → ltb 0 (number_of on locked) ≡ aboveZero (bindingOf on locked)
+above-test : (on locked : ℕ) → ltb 0 (number_of on locked) ≡ above_zero (binding_of on locked)
 above-test on locked = go (eqb locked 0)
   where
-    go : (b : Bool) → ltb 0 (cond b on 65535) ≡ aboveZero (cond b (counted on) unlimited)
+    go : (b : Bool) → ltb 0 (cond b on 65535) ≡ above_zero (cond b (counted on) unlimited)
     go true = refl
     go false = lt-ltb 0 65535 (omega arith)
 
@@ -60,8 +60,8 @@ module _ (side : List ℕ) (n j : ℕ) where
 
 -- of the first k recipes, those that add to level i and those that take from it
 pub record Leveled (c : Counts) (i : ℕ) (js : List ℕ) (k up down : ℕ) : Type 0 where
-  pub adds : Summed (λ n. bit (addsAt c i (get_or js n 0))) 1 (length js) k up
-  pub takes : Summed (λ n. bit (takesAt c i (get_or js n 0))) 1 (length js) k down
+  pub adds : Summed (λ n. bit (adds_at c i (get_or js n 0))) 1 (length js) k up
+  pub takes : Summed (λ n. bit (takes_at c i (get_or js n 0))) 1 (length js) k down
 
 pub leveled-none : {c : Counts} {i : ℕ} {js : List ℕ} → Leveled c i js 0 0 0
 leveled-none = record { adds = summed-none; takes = summed-none }
@@ -71,9 +71,9 @@ module _ {c : Counts} {i : ℕ} {js : List ℕ} {k up down : ℕ} (s : Leveled c
   pub leveled-few : length js < 65536 → (up < 65536) × (down < 65536)
   leveled-few h = (omega (arith, s.adds.small, s.adds.stop), omega (arith, s.takes.small, s.takes.stop))
 
-  pub leveled-all : length js ≤ k → diff up down ≡ levelBy c i js
-  unfolding levelBy
-  leveled-all h = ap₂ diff (summed-entries (addsAt c i) js s.adds h) (summed-entries (takesAt c i) js s.takes h)
+  pub leveled-all : length js ≤ k → diff up down ≡ level_by c i js
+  unfolding level_by
+  leveled-all h = ap₂ diff (summed-entries (adds_at c i) js s.adds h) (summed-entries (takes_at c i) js s.takes h)
 
 -- one recipe, by the numbers that the code has of it
 module _ (own other : List ℕ) (n i j : ℕ) (few : i < 65535) where
@@ -84,27 +84,27 @@ module _ (own other : List ℕ) (n i j : ℕ) (few : i < 65535) where
   theirs = number_in other n j
 
   abbrev c : Counts
-  c = countsFrom own other n
+  c = counts_from own other n
 
-  adds-is : bindsIn mine theirs i ≡ bit (addsAt c i j)
+  adds-is : binds_in mine theirs i ≡ bit (adds_at c i j)
   adds-is = ap bit (ap₂ ◌&&◌ (number-test (get_or c.own j 0) (get_or c.held j 0) i few) (above-test (get_or c.there j 0) (get_or c.kept j 0)))
 
-  takes-is : bindsIn theirs mine (i - 1) ≡ bit (takesAt c i j)
+  takes-is : binds_in theirs mine (i - 1) ≡ bit (takes_at c i j)
   takes-is =
       ap bit
       (ap₂ ◌&&◌ (number-test (get_or c.there j 0) (get_or c.kept j 0) (i - 1) (omega arith)) (above-test (get_or c.own j 0) (get_or c.held j 0))
-      ∙ and-swap (is_number (i - 1) (thereAt c j)) (aboveZero (own_at c j)))
+      ∙ and-swap (is_number (i - 1) (there_at c j)) (above_zero (own_at c j)))
 
-pub leveled-more : (own other : List ℕ) (n : ℕ) {js : List ℕ} {i k up down j x y a b : ℕ} → i < 65535 → Leveled (countsFrom own other n) i js k up down
-    → k < length js → j ≡ get_or js k 0 → x ≡ number_in own n j → y ≡ number_in other n j → a ≡ bindsIn x y i → b ≡ bindsIn y x (i - 1)
-    → Leveled (countsFrom own other n) i js (k + 1) (up + a) (down + b)
+pub leveled-more : (own other : List ℕ) (n : ℕ) {js : List ℕ} {i k up down j x y a b : ℕ} → i < 65535 → Leveled (counts_from own other n) i js k up down
+    → k < length js → j ≡ get_or js k 0 → x ≡ number_in own n j → y ≡ number_in other n j → a ≡ binds_in x y i → b ≡ binds_in y x (i - 1)
+    → Leveled (counts_from own other n) i js (k + 1) (up + a) (down + b)
 leveled-more own other n {js} {i} {k} few s h e p q u v =
     let g : ℕ = get_or js k 0 in
     let x = p ∙ ap (number_in own n) e in
     let y = q ∙ ap (number_in other n) e in
     record {
-      adds = summed-bit (λ m. addsAt (countsFrom own other n) i (get_or js m 0)) s.adds h (u ∙ ap₂ (λ (l r : ℕ). bindsIn l r i) x y ∙ adds-is own other n i g few);
-      takes = summed-bit (λ m. takesAt (countsFrom own other n) i (get_or js m 0)) s.takes h (v ∙ ap₂ (λ (l r : ℕ). bindsIn l r (i - 1)) y x ∙ takes-is own other n i g few);
+      adds = summed-bit (λ m. adds_at (counts_from own other n) i (get_or js m 0)) s.adds h (u ∙ ap₂ (λ (l r : ℕ). binds_in l r i) x y ∙ adds-is own other n i g few);
+      takes = summed-bit (λ m. takes_at (counts_from own other n) i (get_or js m 0)) s.takes h (v ∙ ap₂ (λ (l r : ℕ). binds_in l r (i - 1)) y x ∙ takes-is own other n i g few);
     }
 
 -- ---- where they stand
@@ -125,12 +125,12 @@ view-few bounds pins j = go (ltb (suc j) (length bounds) && leb a b && leb b (le
     go false = omega arith
 
 -- the counts of a side, and of the other where those do not stand
-pub across : (at n u own : ℕ) → own ≡ sideAt at n u → ((own ≤ at + n) × (at ≤ own)) × (at + (at + n - own) ≡ sideAt at n (1 - u))
+pub across : (at n u own : ℕ) → own ≡ side_at at n u → ((own ≤ at + n) × (at ≤ own)) × (at + (at + n - own) ≡ side_at at n (1 - u))
 across at n zero own e = ((omega arith, omega arith), omega arith)
 across at n (suc u) own e =
     let there : own ≡ at + n = e ∙ ap (λ (t : Bool). cond t at (at + n)) (is0 u) in
     let none : 1 - suc u ≡ 0 = omega arith in
-    let first : sideAt at n (1 - suc u) ≡ at = ap (sideAt at n) none in
+    let first : side_at at n (1 - suc u) ≡ at = ap (side_at at n) none in
     ((omega arith, omega arith), omega arith)
 
 -- a part of a part
@@ -140,24 +140,24 @@ part-part a k b m xs h = front-part m (take m (drop b xs)) (drop b xs) (take-tak
 -- a file's vector by the places that the code has
 module _ (c n p : ℕ) (sides : List ℕ) (gains : List ℤ) (z : List ℕ) (f : ℕ) where
   -- the counts of a side are parts of those that the code lends
-  counts-are : (own other : ℕ) → own ≡ sideAt (countsAt c p) n (side_of sides f) → other ≡ sideAt (countsAt c p) n (1 - side_of sides f)
-      → countsFrom (part own (3 * n) z) (part other (3 * n) z) n ≡ countsFor (countsAt c p) n z (side_of sides f)
+  counts-are : (own other : ℕ) → own ≡ side_at (counts_at c p) n (side_of sides f) → other ≡ side_at (counts_at c p) n (1 - side_of sides f)
+      → counts_from (part own (3 * n) z) (part other (3 * n) z) n ≡ counts_for (counts_at c p) n z (side_of sides f)
   counts-are own other u v =
       rw (part-part 0 n own (3 * n) z (omega arith), part-part (2 * n) n own (3 * n) z (omega arith), part-part 0 n other (3 * n) z (omega arith), part-part (2 * n) n other (3 * n) z (omega arith), add-zero own, add-zero other, u, v)
       refl
 
-  pub vector-is : (at : Zones) (m own : ℕ) (gain : ℤ) (list : List ℕ) → at ≡ zonesOf c p → m ≡ n → own ≡ sideAt (countsAt c p) n (side_of sides f) → gain ≡ get_or gains f (pos 0)
+  pub vector-is : (at : Zones) (m own : ℕ) (gain : ℤ) (list : List ℕ) → at ≡ zones_of c p → m ≡ n → own ≡ side_at (counts_at c p) n (side_of sides f) → gain ≡ get_or gains f (pos 0)
       → list ≡ view_of (part at.starts (at.counts - at.starts) z) (part at.cells (at.starts - at.cells) z) f
       → let other = at.counts + (at.counts + m - own) in
-      vectorBy gain (countsFrom (part own (own + 3 * m - own) z) (part other (other + 3 * m - other) z) m) list ≡ vectorIn c n p sides gains z f
-  unfolding vectorIn
+      vector_by gain (counts_from (part own (own + 3 * m - own) z) (part other (other + 3 * m - other) z) m) list ≡ vector_in c n p sides gains z f
+  unfolding vector_in
   vector-is at m own gain list zones number side first view =
-      let starts : countsAt c p - startsAt c p ≡ suc c = omega arith in
-      let cells : startsAt c p - cellsAt c ≡ p = omega arith in
-      let other = countsAt c p + (countsAt c p + n - own) in
+      let starts : counts_at c p - starts_at c p ≡ suc c = omega arith in
+      let cells : starts_at c p - cells_at c ≡ p = omega arith in
+      let other = counts_at c p + (counts_at c p + n - own) in
       let mine : own + 3 * n - own ≡ 3 * n = omega arith in
       let theirs : other + 3 * n - other ≡ 3 * n = omega arith in
-      rw (first, view, zones, number, starts, cells, mine, theirs, counts-are own other side (across (countsAt c p) n (side_of sides f) own side).1) refl
+      rw (first, view, zones, number, starts, cells, mine, theirs, counts-are own other side (across (counts_at c p) n (side_of sides f) own side).1) refl
 
 -- ---- place by place
 
@@ -169,8 +169,8 @@ pub greater-three : (a b : List ℤ) → length a ≡ 3 → length b ≡ 3
     → (lt_z (get_or b 0 (pos 0)) (get_or a 0 (pos 0))
     || (not (lt_z (get_or a 0 (pos 0)) (get_or b 0 (pos 0)))
     && (lt_z (get_or b 1 (pos 0)) (get_or a 1 (pos 0)) || (not (lt_z (get_or a 1 (pos 0)) (get_or b 1 (pos 0))) && lt_z (get_or b 2 (pos 0)) (get_or a 2 (pos 0))))))
-    ≡ greaterVector a b
-unfolding greaterVector
+    ≡ greater_vector a b
+unfolding greater_vector
 greater-three (x ∷ y ∷ z ∷ []) (u ∷ v ∷ w ∷ []) h k = simp (and-false, or-false)
 greater-three (x ∷ y ∷ z ∷ []) (u ∷ v ∷ w ∷ t ∷ b) h k = absurd (omega arith)
 greater-three (x ∷ y ∷ z ∷ []) (u ∷ v ∷ []) h k = absurd (omega arith)

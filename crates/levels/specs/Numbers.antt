@@ -13,9 +13,9 @@ abbrev pub number_in : List ℕ → ℕ → ℕ → ℕ
 number_in side n j = number_of (get_or (part 0 n side) j 0) (get_or (part (2 * n) n side) j 0)
 
 -- 1 where one side's number is i and the other's is above 0
-abbrev pub bindsIn : ℕ → ℕ → ℕ → ℕ
-bindsIn number across i = bit (eqb number i && ltb 0 across)
+abbrev pub binds_in : ℕ → ℕ → ℕ → ℕ
+binds_in number across i = bit (eqb number i && ltb 0 across)
 
 -- the counts as a file sees them, by those of its own side and of the other
-abbrev pub countsFrom : List ℕ → List ℕ → ℕ → Counts
-countsFrom own other n = record { own = part 0 n own; held = part (2 * n) n own; there = part 0 n other; kept = part (2 * n) n other }
+abbrev pub counts_from : List ℕ → List ℕ → ℕ → Counts
+counts_from own other n = record { own = part 0 n own; held = part (2 * n) n own; there = part 0 n other; kept = part (2 * n) n other }

@@ -1,7 +1,7 @@
 // Edition 3: the legal move of greatest vector, then of least distance, then of lowest number, by one walk over the files.
 ghost use Rattle.std.specs.Prelude.{◌≡◌, true, ◌≤◌, length, take};
-ghost use Rattle.levels.specs.Vectors.{chosenVector, fitVectors, vectorChoice};
-ghost use Rattle.levels.specs.Leading.{goesFirst, leads, NextRival, ledOf, bestBy};
+ghost use Rattle.levels.specs.Vectors.{chosen_vector, fit_vectors, vector_choice};
+ghost use Rattle.levels.specs.Leading.{goes_first, leads, NextRival, led_of, best_by};
 
 use super::order::is_greater;
 use super::vector::vector_of;
@@ -29,7 +29,7 @@ const LEAST_GAIN: i32 = -2147483648;
 
 // Whether a rival goes before the best so far, which is of lower number, or there is none yet.
 fn goes_first(rival: Led, led: Led, files: usize) -> bool
-    ensures { result ≡ goesFirst rival led files }
+    ensures { result ≡ goes_first rival led files }
 {
     let own = rival.vector;
     let best = led.vector;
@@ -79,7 +79,7 @@ fn next_rival(
 
 // Whether the lists are those of a pass of this extent.
 fn fit(extent: Extent, sizes: usize, sides: usize, gains: usize, scratch: usize) -> bool
-    ensures { result ≡ fitVectors extent.files extent.recipes extent.pins sizes sides gains scratch }
+    ensures { result ≡ fit_vectors extent.files extent.recipes extent.pins sizes sides gains scratch }
 {
     let zones = zones_of(extent);
     let files = zones.cells;
@@ -97,8 +97,8 @@ fn first_of(
     scratch: &[u16],
     extent: Extent,
 ) -> Led
-    requires { fitVectors extent.files extent.recipes extent.pins (length sizes.now) (length sides.now) (length gains.now) (length scratch.now) ≡ true }
-    ensures { result ≡ ledOf extent.files extent.recipes extent.pins window size sizes.now sides.now gains.now scratch.now (chosenVector extent.files extent.recipes extent.pins window size sizes.now sides.now gains.now scratch.now extent.files) }
+    requires { fit_vectors extent.files extent.recipes extent.pins (length sizes.now) (length sides.now) (length gains.now) (length scratch.now) ≡ true }
+    ensures { result ≡ led_of extent.files extent.recipes extent.pins window size sizes.now sides.now gains.now scratch.now (chosen_vector extent.files extent.recipes extent.pins window size sizes.now sides.now gains.now scratch.now extent.files) }
 {
     let files = sizes.len();
     let mut led = Led {
@@ -126,7 +126,7 @@ fn first_of(
 
 // What is answered of it: its gain is its level 1.
 fn best_of(led: Led, files: usize) -> Best
-    ensures { result ≡ bestBy led files }
+    ensures { result ≡ best_by led files }
 {
     if led.file == files {
         return Best {
@@ -153,7 +153,7 @@ pub fn choose_vector(
     scratch: &[u16],
     extent: Extent,
 ) -> Best
-    ensures { result ≡ vectorChoice extent.files extent.recipes extent.pins window size sizes.now sides.now gains.now scratch.now }
+    ensures { result ≡ vector_choice extent.files extent.recipes extent.pins window size sizes.now sides.now gains.now scratch.now }
 {
     let files = sizes.len();
     if !fit(extent, files, sides.len(), gains.len(), scratch.len()) {

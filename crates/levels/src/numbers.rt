@@ -1,6 +1,6 @@
 // Binding numbers, by the counts that are kept: a recipe's files on one side, and those of them that are locked.
 ghost use Rattle.std.specs.Prelude.{◌≡◌, ◌*◌, ◌≤◌, length};
-ghost use Rattle.levels.specs.Numbers.{number_of, number_in, bindsIn};
+ghost use Rattle.levels.specs.Numbers.{number_of, number_in, binds_in};
 
 use job::bit;
 
@@ -29,7 +29,7 @@ pub(crate) fn number_at(counts: &[u16], n: usize, j: usize) -> u16
 
 // 1 where one side's number is i and the other's is above 0: what adds to level i, and, with the sides changed over, what takes from level i + 1.
 pub(crate) fn binds(number: u16, across: u16, i: u16) -> usize
-    ensures { (result ≡ bindsIn number across i) × (result ≤ 1) }
+    ensures { (result ≡ binds_in number across i) × (result ≤ 1) }
 {
     bit((number == i) & (0 < across))
 }

@@ -1,9 +1,9 @@
 // A file's gain vector: its gain, which is its level 1, and levels 2 and 3 by one walk over its recipes.
 ghost use Rattle.std.specs.Prelude.{◌≡◌, ◌+◌, ◌*◌, ◌≤◌, ◌<◌, length};
 ghost use Rattle.rules.specs.Lists.{diff};
-ghost use Rattle.tables.specs.Zones.{countsAt};
-ghost use Rattle.levels.specs.Vectors.{vectorBy, vectorIn};
-ghost use Rattle.levels.specs.Numbers.{countsFrom};
+ghost use Rattle.tables.specs.Zones.{counts_at};
+ghost use Rattle.levels.specs.Vectors.{vector_by, vector_in};
+ghost use Rattle.levels.specs.Numbers.{counts_from};
 
 use super::numbers::{binds, number_at};
 use job::{view, wide};
@@ -19,7 +19,7 @@ fn signed(up: usize, down: usize) -> i32
 // The vector of a file of this gain with these recipes, by the counts of its own side and of the other.
 fn levels_of(gain: i32, list: &[u16], own: &[u16], other: &[u16], n: usize) -> [i32; 3]
     requires { (length list.now < 65536) × (3 * n ≤ length own.now) × (3 * n ≤ length other.now) }
-    ensures { result ≡ vectorBy gain (countsFrom own.now other.now n) list.now }
+    ensures { result ≡ vector_by gain (counts_from own.now other.now n) list.now }
 {
     let mut adds2 = 0;
     let mut takes2 = 0;
@@ -47,8 +47,8 @@ pub(crate) fn vector_of(
     extent: Extent,
     f: usize,
 ) -> [i32; 3]
-    requires { (f < length sides.now) × (f < length gains.now) × (countsAt extent.files extent.pins + 4 * extent.recipes ≤ length scratch.now) }
-    ensures { result ≡ vectorIn extent.files extent.recipes extent.pins sides.now gains.now scratch.now f }
+    requires { (f < length sides.now) × (f < length gains.now) × (counts_at extent.files extent.pins + 4 * extent.recipes ≤ length scratch.now) }
+    ensures { result ≡ vector_in extent.files extent.recipes extent.pins sides.now gains.now scratch.now f }
 {
     let zones = zones_of(extent);
     let n = wide(extent.recipes);

@@ -15,8 +15,8 @@ use mir.Facts.{to_z-of_z}
 use Rattle.rules.proofs.Machine.{wide_is}
 use Rattle.rules.proofs.Tests.{clash}
 use Rattle.rules.specs.Report.{text}
-use Rattle.rules.specs.Trace.{signed, gainWords}
-use Rattle.report.specs.Bytes.{gainBytes}
+use Rattle.rules.specs.Trace.{signed, gain_words}
+use Rattle.report.specs.Bytes.{gain_bytes}
 use Rattle.report.specs.Laying.{Laid, pieces, shown, filled}
 use Rattle.report.proofs.Laying.{Laying, laying-none, laying-more, laying-end, laid_as}
 
@@ -72,8 +72,8 @@ module _ (g : ℤ) (n : ℕ) (f : SFits w32 g) (e : n ≡ nat_abs (to_z w32 (of_
 pub signed_back : {g : ℤ} → SFits w32 g → signed (to_z w32 (of_z w32 g)) ≡ signed g
 signed_back f = ap signed (to_z-of_z f)
 
-pub gain-pieces : (gains : List ℤ) → pieces signed gains ≡ gainWords gains
-unfolding pieces gainWords
+pub gain-pieces : (gains : List ℤ) → pieces signed gains ≡ gain_words gains
+unfolding pieces gain_words
 gain-pieces [] = refl
 gain-pieces (g ∷ gains) = ap (λ (l : List ℕ). signed g ++ l) (gain-pieces gains)
 
@@ -82,18 +82,18 @@ gain-pieces (g ∷ gains) = ap (λ (l : List ℕ). signed g ++ l) (gain-pieces g
 -- the first i gains are laid, at most so long
 pub record Gaining (gains : List ℤ) (at : ℕ) (room : List ℕ) (i next : ℕ) (after : List ℕ) : Type 0 where
   pub laying : Laying signed gains at room i next after
-  pub short : next ≤ at + gainBytes * i
+  pub short : next ≤ at + gain_bytes * i
 
 pub gaining-none : {gains : List ℤ} {at : ℕ} {room : List ℕ} → Gaining gains at room 0 at room
 gaining-none = record { laying = laying-none; short = omega arith }
 
 module _ {gains : List ℤ} {at i next : ℕ} {room mid : List ℕ} (x : Gaining gains at room i next mid) where
   pub gaining-more : {n : ℕ} {after : List ℕ} → i < length gains → SFits w32 (get_or gains i (pos 0))
-      → Laid next (signed (to_z w32 (of_z w32 (get_or gains i (pos 0))))) mid n after → n ≤ next + gainBytes → Gaining gains at room (i + 1) n after
+      → Laid next (signed (to_z w32 (of_z w32 (get_or gains i (pos 0))))) mid n after → n ≤ next + gain_bytes → Gaining gains at room (i + 1) n after
   gaining-more h f l s = record { laying = laying-more (pos 0) x.laying h (laid_as (signed_back f) l); short = omega (arith, x.short) }
 
-  pub gaining-end : length gains ≤ i → Laid at (gainWords gains) room next mid
+  pub gaining-end : length gains ≤ i → Laid at (gain_words gains) room next mid
   gaining-end h = laid_as (gain-pieces gains) (laying-end (pos 0) x.laying h)
 
-  pub gaining-short : next ≤ at + gainBytes * length gains
+  pub gaining-short : next ≤ at + gain_bytes * length gains
   gaining-short = omega (arith, x.short, x.laying.stop)

@@ -8,7 +8,7 @@ use native.Mathlib.Omega.{arith}
 use lib.ListN.{length, get_or, take, drop, set, length-append, take-append-drop}
 use lib.Seq.{sets, set_out, sets-eq, length-sets, take-suc, take_all}
 use Rattle.rules.specs.Lists.{onto, up_to}
-use Rattle.rules.proofs.Count.{length-upTo, getD-upTo}
+use Rattle.rules.proofs.Count.{length-up_to, get_d-up_to}
 use Rattle.report.specs.Laying.{over, Near, Laid, pieces}
 
 over-more : (at : ℕ) (t u room : List ℕ) → over (at + length t) u (over at t room) ≡ over at (t ++ u) room
@@ -24,9 +24,9 @@ pub laid_in : (at b : ℕ) (room : List ℕ) → Laid at (b ∷ []) room (at + 1
 unfolding over
 laid_in at b room = record { ends = refl; holds = refl }
 
-pub laid_out : (at b : ℕ) (room : List ℕ) → length room ≤ at → Laid at (b ∷ []) room (at + 1) room
+pub laid_out_lem : (at b : ℕ) (room : List ℕ) → length room ≤ at → Laid at (b ∷ []) room (at + 1) room
 unfolding over
-laid_out at b room h = record { ends = refl; holds = sym (set_out room at b h) }
+laid_out_lem at b room h = record { ends = refl; holds = sym (set_out room at b h) }
 
 pub laid_none : (at : ℕ) (room : List ℕ) → Laid at [] room at room
 unfolding over
@@ -116,16 +116,16 @@ grows piece text none more (suc n) =
 
 module _ {piece : ℕ → List ℕ} {n at i next : ℕ} {room mid : List ℕ} (l : Laying piece (up_to n) at room i next mid) where
   pub growing-near : Near at (pieces piece (up_to n)) → i < n → Near next (piece i)
-  growing-near near h = rw (getD-upTo n i h) at (laying-near 0 l near (rw (length-upTo n) h))
+  growing-near near h = rw (get_d-up_to n i h) at (laying-near 0 l near (rw (length-up_to n) h))
 
   pub growing-more : {p : ℕ} {after : List ℕ} → i < n → Laid next (piece i) mid p after → Laying piece (up_to n) at room (i + 1) p after
-  growing-more h m = laying-more 0 l (rw (length-upTo n) h) (rw (getD-upTo n i h) m)
+  growing-more h m = laying-more 0 l (rw (length-up_to n) h) (rw (get_d-up_to n i h) m)
 
   pub growing-stop : i ≤ n
-  growing-stop = rw (length-upTo n) at l.stop
+  growing-stop = rw (length-up_to n) at l.stop
 
   pub growing-end : n ≤ i → Laid at (pieces piece (up_to n)) room next mid
-  growing-end h = laying-end 0 l (rw (length-upTo n) h)
+  growing-end h = laying-end 0 l (rw (length-up_to n) h)
 
 -- ---- the same of pieces that are each at most so many bytes
 

@@ -7,16 +7,16 @@ use native.Mathlib.Omega.{arith}
 use lib.ListN.{length, length-append, length-map}
 use borrow.Author.Tests.{eq-eqb, ne_eqb}
 use Rattle.rules.specs.Lists.{up_to}
-use Rattle.rules.proofs.Count.{length-upTo}
+use Rattle.rules.proofs.Count.{length-up_to}
 use Rattle.rules.specs.declared.RunFigures.{RunFigures}
 use Rattle.rules.specs.declared.BalanceFigures.{BalanceFigures}
 use Rattle.rules.specs.declared.Verdict.{Verdict}
 use Rattle.rules.specs.Job.{Job}
-use Rattle.rules.specs.Split.{sizeOn}
-use Rattle.rules.specs.Report.{text, spaced, line, refusal, first_lines, letterOf, sizeLine, sidesLine, figureLines, ofFiles}
-use Rattle.rules.specs.Balance.{balanceLines}
+use Rattle.rules.specs.Split.{size_on}
+use Rattle.rules.specs.Report.{text, spaced, line, refusal, first_lines, letter_of, size_line, sides_line, figure_lines, of_files}
+use Rattle.rules.specs.Balance.{balance_lines}
 use Rattle.report.specs.Laying.{pieces, shown, filled}
-use Rattle.report.specs.Steps.{settledLine}
+use Rattle.report.specs.Steps.{settled_line}
 use Rattle.report.proofs.Forms.{joined}
 
 -- a list that is written entry by entry
@@ -26,8 +26,8 @@ byte-pieces byte [] = refl
 byte-pieces byte (x ∷ xs) = ap (λ (l : List ℕ). byte x ∷ l) (byte-pieces byte xs)
 
 -- the letters ask for no size
-pub sides-alone : (sizes marks sides : List ℕ) → sidesLine (ofFiles [] marks) sides ≡ sidesLine (ofFiles sizes marks) sides
-unfolding sidesLine
+pub sides-alone : (sizes marks sides : List ℕ) → sides_line (of_files [] marks) sides ≡ sides_line (of_files sizes marks) sides
+unfolding sides_line
 sides-alone sizes marks sides = refl
 
 -- ---- forms filled in
@@ -62,12 +62,12 @@ last-form k v =
     let visits : filled (k ∷ v ∷ []) (text "visits 1\n") ≡ line "visits" (v ∷ []) = simp append-nil in
     joined (k ∷ v ∷ []) (text "kept 0\n") (text "visits 1\n") kept visits
 
-pub figure-form : (sizes marks : List ℕ) (r : RunFigures) (sides : List ℕ) (b : ℕ) → b ≡ sizeOn (ofFiles sizes marks) 1 sides
+pub figure-form : (sizes marks : List ℕ) (r : RunFigures) (sides : List ℕ) (b : ℕ) → b ≡ size_on (of_files sizes marks) 1 sides
     → first_lines r.figures.unread r.figures.holding
     ++ filled (r.figures.before ∷ r.figures.cut ∷ r.figures.size ∷ b ∷ r.passes ∷ []) (text "cut 0 1\nsize 2 3\npasses 4\n")
-    ++ settledLine r.settled ++ filled (r.figures.kept ∷ r.figures.visits ∷ []) (text "kept 0\nvisits 1\n") ++ sidesLine (ofFiles [] marks) sides
-    ≡ figureLines (ofFiles sizes marks) r sides
-unfolding figureLines sizeLine
+    ++ settled_line r.settled ++ filled (r.figures.kept ∷ r.figures.visits ∷ []) (text "kept 0\nvisits 1\n") ++ sides_line (of_files [] marks) sides
+    ≡ figure_lines (of_files sizes marks) r sides
+unfolding figure_lines size_line
 figure-form sizes marks r sides b e =
     let f = r.figures in
     rw (sides-alone sizes marks sides, passes-form f.before f.cut f.size b r.passes, last-form f.kept f.visits, e) (simp append_assoc)
@@ -81,20 +81,20 @@ moves-form m c a b =
     let size : filled ns (text "size 2 3\n") ≡ line "size" (a ∷ b ∷ []) = simp (append_assoc, append-nil) in
     joined ns (text "moves 0\ncut 1\n") (text "size 2 3\n") (joined ns (text "moves 0\n") (text "cut 1\n") moves cut) size
 
-pub balance-form : (job : Job) (a : BalanceFigures) (sides : List ℕ) (b : ℕ) → b ≡ sizeOn job 1 sides
-    → first_lines a.unread a.holding ++ filled (a.moves ∷ a.cut ∷ a.size ∷ b ∷ []) (text "moves 0\ncut 1\nsize 2 3\n") ≡ balanceLines job a sides
-unfolding balanceLines sizeLine
+pub balance-form : (job : Job) (a : BalanceFigures) (sides : List ℕ) (b : ℕ) → b ≡ size_on job 1 sides
+    → first_lines a.unread a.holding ++ filled (a.moves ∷ a.cut ∷ a.size ∷ b ∷ []) (text "moves 0\ncut 1\nsize 2 3\n") ≡ balance_lines job a sides
+unfolding balance_lines size_line
 balance-form job a sides b e = rw (moves-form a.moves a.cut a.size b, e) (simp append_assoc)
 
 -- ---- how long
 
-pub settled-length : (b : Bool) → length (settledLine b) ≤ 12
+pub settled-length : (b : Bool) → length (settled_line b) ≤ 12
 unfolding line spaced text
 settled-length true = omega arith
 settled-length false = omega arith
 
-pub sides-length : (job : Job) (sides : List ℕ) → length (sidesLine job sides) ≡ length sides + 7
-unfolding sidesLine text
+pub sides-length : (job : Job) (sides : List ℕ) → length (sides_line job sides) ≡ length sides + 7
+unfolding sides_line text
 sides-length job sides =
-    let letters : List ℕ = map (letterOf job sides) (up_to (length sides)) in
-    omega (arith, length-append (text "sides " ++ letters) (10 ∷ []), length-append (text "sides ") letters, length-map (up_to (length sides)) (letterOf job sides), length-upTo (length sides))
+    let letters : List ℕ = map (letter_of job sides) (up_to (length sides)) in
+    omega (arith, length-append (text "sides " ++ letters) (10 ∷ []), length-append (text "sides ") letters, length-map (up_to (length sides)) (letter_of job sides), length-up_to (length sides))

@@ -14,54 +14,54 @@ use Rattle.rules.specs.declared.Verdict.{Verdict}
 use Rattle.rules.specs.declared.Figures.{Figures}
 use Rattle.rules.specs.declared.RunFigures.{RunFigures}
 use Rattle.rules.specs.declared.BalanceFigures.{BalanceFigures}
-use Rattle.rules.specs.Lists.{lowest, someBelow, onto}
+use Rattle.rules.specs.Lists.{lowest, some_below, onto}
 use Rattle.rules.specs.Job.{Limits}
-use Rattle.rules.specs.Check.{done, refuseIf, refuseAt, ◌orElse◌}
-use Rattle.rules.specs.Report.{refusal, figureLines, tells, report, ofFiles, splitVerdict, Printing, printed, printing, telling, reporting}
-use Rattle.rules.specs.Balance.{balanceLines, balanceReport, balanceReporting}
-use Rattle.rules.specs.Trace.{Listing, passLines, trace, holdsPass, tracing}
+use Rattle.rules.specs.Check.{done, refuse_if, refuse_at, ◌or_else◌}
+use Rattle.rules.specs.Report.{refusal, figure_lines, tells, report, of_files, split_verdict, Printing, printed, printing, telling, reporting}
+use Rattle.rules.specs.Balance.{balance_lines, balance_report, balance_reporting}
+use Rattle.rules.specs.Trace.{Listing, pass_lines, trace, holds_pass, tracing}
 use Rattle.report.specs.Laying.{Laid}
-use Rattle.report.specs.Steps.{lengthsVerdict, roomVerdict, EachFile}
-use Rattle.report.specs.Tracing.{passVerdict}
+use Rattle.report.specs.Steps.{lengths_verdict, room_verdict, EachFile}
+use Rattle.report.specs.Tracing.{pass_verdict}
 use Rattle.report.proofs.Laying.{counts-text, laid-onto}
 
 -- ---- the verdict in two parts
 
 two-parts : (over same lent : Bool) (last : Verdict)
-    → (refuseIf over 2 0 or_else refuseIf (not (same && lent)) 3 0 or_else last) ≡ ((refuseIf over 2 0 or_else refuseIf (not same) 3 0) or_else (refuseIf (not lent) 3 0 or_else last))
+    → (refuse_if over 2 0 or_else refuse_if (not (same && lent)) 3 0 or_else last) ≡ ((refuse_if over 2 0 or_else refuse_if (not same) 3 0) or_else (refuse_if (not lent) 3 0 or_else last))
 two-parts true same lent last = refl
 two-parts false true lent last = refl
 two-parts false false lent last = refl
 
-split_parts : (most : Limits) (sizes sides marks : List ℕ) (lent : Bool) → splitVerdict most sizes marks sides lent ≡ (lengthsVerdict most.files sizes sides marks or_else roomVerdict sides lent)
-unfolding lengthsVerdict roomVerdict
+split_parts : (most : Limits) (sizes sides marks : List ℕ) (lent : Bool) → split_verdict most sizes marks sides lent ≡ (lengths_verdict most.files sizes sides marks or_else room_verdict sides lent)
+unfolding lengths_verdict room_verdict
 split_parts most sizes sides marks lent =
-    two-parts (ltb most.files (length sizes)) (eqb (length sides) (length sizes) && eqb (length marks) (length sizes)) lent (refuseAt 6 (λ f. ltb 1 (get_or sides f 0)) (length sides))
+    two-parts (ltb most.files (length sizes)) (eqb (length sides) (length sizes) && eqb (length marks) (length sizes)) lent (refuse_at 6 (λ f. ltb 1 (get_or sides f 0)) (length sides))
 
 -- what is lent is lists that hold the pass, and room
 held-part : (v last : Verdict) (held lent : Bool)
-    → (v or_else (refuseIf (not (held && lent)) 3 0 or_else last)) ≡ ((v or_else refuseIf (not held) 3 0) or_else (refuseIf (not lent) 3 0 or_else last))
+    → (v or_else (refuse_if (not (held && lent)) 3 0 or_else last)) ≡ ((v or_else refuse_if (not held) 3 0) or_else (refuse_if (not lent) 3 0 or_else last))
 held-part v last held lent = go (eqb v.number 0) refl held
   where
     go : (b : Bool) → eqb v.number 0 ≡ b → (held : Bool)
-        → cond b (refuseIf (not (held && lent)) 3 0 or_else last) v ≡ (cond b (refuseIf (not held) 3 0) v or_else (refuseIf (not lent) 3 0 or_else last))
+        → cond b (refuse_if (not (held && lent)) 3 0 or_else last) v ≡ (cond b (refuse_if (not held) 3 0) v or_else (refuse_if (not lent) 3 0 or_else last))
     go true e true = refl
     go true e false = refl
     go false e held = rw e
 
 told-parts : (most : Limits) (sizes sides marks : List ℕ) (held lent : Bool)
-    → splitVerdict most sizes marks sides (held && lent) ≡ (passVerdict most.files sizes sides marks held or_else roomVerdict sides lent)
-unfolding roomVerdict passVerdict
+    → split_verdict most sizes marks sides (held && lent) ≡ (pass_verdict most.files sizes sides marks held or_else room_verdict sides lent)
+unfolding room_verdict pass_verdict
 told-parts most sizes sides marks held lent =
     split_parts most sizes sides marks (held && lent)
-    ∙ held-part (lengthsVerdict most.files sizes sides marks) (refuseAt 6 (λ f. ltb 1 (get_or sides f 0)) (length sides)) held lent
+    ∙ held-part (lengths_verdict most.files sizes sides marks) (refuse_at 6 (λ f. ltb 1 (get_or sides f 0)) (length sides)) held lent
 
-pub lengths-tell : (most : ℕ) (sizes sides marks : List ℕ) {v : Verdict} → v ≡ lengthsVerdict most sizes sides marks → v.number ≡ 0 → EachFile most sizes sides marks
-unfolding lengthsVerdict
+pub lengths-tell : (most : ℕ) (sizes sides marks : List ℕ) {v : Verdict} → v ≡ lengths_verdict most sizes sides marks → v.number ≡ 0 → EachFile most sizes sides marks
+unfolding lengths_verdict
 lengths-tell most sizes sides marks e z =
     let over : Bool = ltb most (length sizes) in
     let each : Bool = eqb (length sides) (length sizes) && eqb (length marks) (length sizes) in
-    let both = passes-both (refuseIf over 2 0) (refuseIf (not each) 3 0) (zero_of e z) in
+    let both = passes-both (refuse_if over 2 0) (refuse_if (not each) 3 0) (zero_of e z) in
     let same = and_yes _ _ (not-no each (not-refused (not each) 2 0 both.1)) in
     record {
       few = ltb-false most (length sizes) (not-refused over 1 0 both.0);
@@ -69,19 +69,19 @@ lengths-tell most sizes sides marks e z =
       marked = eqb-true (length marks) (length sizes) same.1;
     }
 
-pub pass-tells : (most : ℕ) (sizes sides marks : List ℕ) (held : Bool) {v : Verdict} → v ≡ passVerdict most sizes sides marks held → v.number ≡ 0
+pub pass-tells : (most : ℕ) (sizes sides marks : List ℕ) (held : Bool) {v : Verdict} → v ≡ pass_verdict most sizes sides marks held → v.number ≡ 0
     → EachFile most sizes sides marks × (held ≡ true)
-unfolding passVerdict
+unfolding pass_verdict
 pass-tells most sizes sides marks held e z =
-    let both = passes-both (lengthsVerdict most sizes sides marks) (refuseIf (not held) 3 0) (zero_of e z) in
+    let both = passes-both (lengths_verdict most sizes sides marks) (refuse_if (not held) 3 0) (zero_of e z) in
     (lengths-tell most sizes sides marks refl both.0, not-no held (not-refused (not held) 2 0 both.1))
 
-pub room-tells : (a b : ℕ) → (refuseIf (not (leb a b)) 3 0).number ≡ 0 → a ≤ b
+pub room-tells : (a b : ℕ) → (refuse_if (not (leb a b)) 3 0).number ≡ 0 → a ≤ b
 room-tells a b h = leb-true a b (not-no (leb a b) (not-refused (not (leb a b)) 2 0 h))
 
-split-room-tells : (sides : List ℕ) (a b : ℕ) → (roomVerdict sides (leb a b)).number ≡ 0 → a ≤ b
-unfolding roomVerdict
-split-room-tells sides a b h = room-tells a b (passes-both (refuseIf (not (leb a b)) 3 0) (refuseAt 6 (λ f. ltb 1 (get_or sides f 0)) (length sides)) h).0
+split-room-tells : (sides : List ℕ) (a b : ℕ) → (room_verdict sides (leb a b)).number ≡ 0 → a ≤ b
+unfolding room_verdict
+split-room-tells sides a b h = room-tells a b (passes-both (refuse_if (not (leb a b)) 3 0) (refuse_at 6 (λ f. ltb 1 (get_or sides f 0)) (length sides)) h).0
 
 -- ---- 3 is given for want of room alone
 
@@ -90,33 +90,33 @@ module _ (m n : ℕ) (t room : List ℕ) (e : n ≡ length t) (h : n ≤ m) (lon
   text-fits : leb (length t) (length room) ≡ true
   text-fits = le-leb (length t) (length room) (omega (arith, e))
 
-  pub refusal-enough : {v : Verdict} → v ≡ refuseIf (not (leb (length t) (length room))) 3 0 → v.number ≢ 3
+  pub refusal-enough : {v : Verdict} → v ≡ refuse_if (not (leb (length t) (length room))) 3 0 → v.number ≢ 3
   refusal-enough q = rw (q, text-fits) (λ z. omega (arith, z))
 
-  room-enough : (sides : List ℕ) {v : Verdict} → v ≡ roomVerdict sides (leb (length t) (length room)) → v.number ≢ 3
-  unfolding roomVerdict
-  room-enough sides q = rw (q, text-fits) (at-six (someBelow (λ f. ltb 1 (get_or sides f 0)) (length sides)) (lowest (λ f. ltb 1 (get_or sides f 0)) (length sides)))
+  room-enough : (sides : List ℕ) {v : Verdict} → v ≡ room_verdict sides (leb (length t) (length room)) → v.number ≢ 3
+  unfolding room_verdict
+  room-enough sides q = rw (q, text-fits) (at-six (some_below (λ f. ltb 1 (get_or sides f 0)) (length sides)) (lowest (λ f. ltb 1 (get_or sides f 0)) (length sides)))
     where
-      at-six : (b : Bool) (p : ℕ) → (refuseIf b 6 p).number ≢ 3
+      at-six : (b : Bool) (p : ℕ) → (refuse_if b 6 p).number ≢ 3
       at-six true p z = omega (arith, z)
       at-six false p z = omega (arith, z)
 
-pub at-two : (b : Bool) → (refuseIf b 2 0 or_else done).number ≢ 3
+pub at-two : (b : Bool) → (refuse_if b 2 0 or_else done).number ≢ 3
 at-two true z = omega (arith, z)
 at-two false z = omega (arith, z)
 
-pub lengths-enough : (most : ℕ) (sizes sides marks : List ℕ) {v : Verdict} → v ≡ lengthsVerdict most sizes sides marks
+pub lengths-enough : (most : ℕ) (sizes sides marks : List ℕ) {v : Verdict} → v ≡ lengths_verdict most sizes sides marks
     → length sides ≡ length sizes → length marks ≡ length sizes → v.number ≢ 3
-unfolding lengthsVerdict
+unfolding lengths_verdict
 lengths-enough most sizes sides marks e sided marked =
     rw (e, eq-eqb (length sides) (length sizes) sided, eq-eqb (length marks) (length sizes) marked) (at-two (ltb most (length sizes)))
 
-pub pass-enough : (most : ℕ) (sizes sides marks : List ℕ) (held : Bool) {v : Verdict} → v ≡ passVerdict most sizes sides marks held
+pub pass-enough : (most : ℕ) (sizes sides marks : List ℕ) (held : Bool) {v : Verdict} → v ≡ pass_verdict most sizes sides marks held
     → length sides ≡ length sizes → length marks ≡ length sizes → held ≡ true → v.number ≢ 3
-unfolding passVerdict
-pass-enough most sizes sides marks held e sided marked k = rw (e, k) (go (eqb (lengthsVerdict most sizes sides marks).number 0))
+unfolding pass_verdict
+pass-enough most sizes sides marks held e sided marked k = rw (e, k) (go (eqb (lengths_verdict most sizes sides marks).number 0))
   where
-    go : (b : Bool) → (cond b done (lengthsVerdict most sizes sides marks)).number ≢ 3
+    go : (b : Bool) → (cond b done (lengths_verdict most sizes sides marks)).number ≢ 3
     go true z = omega (arith, z)
     go false z = lengths-enough most sizes sides marks refl sided marked z
 
@@ -134,15 +134,15 @@ module _ {v w : Verdict} (bytes room : List ℕ) {after : List ℕ} (q : v ≡ w
 -- ---- a text told: refused before it is counted, then for want of room, or else laid
 
 pub record Told (whole : Printing) (first : Verdict) (sides t room : List ℕ) : Type 0 where
-  pub is : whole ≡ printing (first or_else roomVerdict sides (leb (length t) (length room))) t room
+  pub is : whole ≡ printing (first or_else room_verdict sides (leb (length t) (length room))) t room
 
 module _ {whole : Printing} {first : Verdict} {sides t room : List ℕ} (x : Told whole first sides t room) where
   pub told_none : {v : Verdict} → v ≡ first → (v.number ≡ 0 → ⊥) → printed (record { verdict = v; bytes = 0 }) room ≡ whole
   told_none e h = not-printed t room (chain-stop _ e h) h refl ∙ sym x.is
 
-  module _ {v w : Verdict} {n : ℕ} {last : List ℕ} (e : v ≡ first) (z : v.number ≡ 0) (l : Laid 0 t [] n last) (q : w ≡ roomVerdict sides (leb n (length room))) where
-    room-is : w ≡ roomVerdict sides (leb (length t) (length room))
-    room-is = q ∙ ap (λ (k : ℕ). roomVerdict sides (leb k (length room))) (counts-text l)
+  module _ {v w : Verdict} {n : ℕ} {last : List ℕ} (e : v ≡ first) (z : v.number ≡ 0) (l : Laid 0 t [] n last) (q : w ≡ room_verdict sides (leb n (length room))) where
+    room-is : w ≡ room_verdict sides (leb (length t) (length room))
+    room-is = q ∙ ap (λ (k : ℕ). room_verdict sides (leb k (length room))) (counts-text l)
 
     pub told-short : (w.number ≡ 0 → ⊥) → printed (record { verdict = w; bytes = 0 }) room ≡ whole
     told-short h = not-printed t room (chain-go e z room-is) h refl ∙ sym x.is
@@ -158,7 +158,7 @@ module _ {whole : Printing} {first : Verdict} {sides t room : List ℕ} (x : Tol
 
 module _ (most : Limits) (sizes sides marks : List ℕ) (v : Verdict) (lines room : List ℕ) (h : v.number ≡ 0) where
   -- where the answer is not refused
-  lines-told : (held : Bool) → telling most sizes marks sides v held (tells v lines) room ≡ printing (splitVerdict most sizes marks sides (held && leb (length lines) (length room))) lines room
+  lines-told : (held : Bool) → telling most sizes marks sides v held (tells v lines) room ≡ printing (split_verdict most sizes marks sides (held && leb (length lines) (length room))) lines room
   lines-told held = ap answered (eq-eqb v.number 0 h)
     where
       text : Bool → List ℕ
@@ -167,28 +167,28 @@ module _ (most : Limits) (sizes sides marks : List ℕ) (v : Verdict) (lines roo
       answered : Bool → Printing
       answered b =
           let lent = leb (length (text b)) (length room) in
-          printing (cond b (splitVerdict most sizes marks sides (held && lent)) (refuseIf (not lent) 3 0)) (text b) room
+          printing (cond b (split_verdict most sizes marks sides (held && lent)) (refuse_if (not lent) 3 0)) (text b) room
 
   -- its text has no other list than the split
-  split-lines : Told (telling most sizes marks sides v true (tells v lines) room) (lengthsVerdict most.files sizes sides marks) sides lines room
+  split-lines : Told (telling most sizes marks sides v true (tells v lines) room) (lengths_verdict most.files sizes sides marks) sides lines room
   split-lines = record { is = lines-told true ∙ ap (λ (w : Verdict). printing w lines room) (split_parts most sizes sides marks (leb (length lines) (length room))) }
 
 pub reporting-told : (most : Limits) (sizes marks : List ℕ) (r : RunFigures) (sides room : List ℕ) → r.figures.verdict.number ≡ 0
-    → Told (reporting most sizes marks r sides room) (lengthsVerdict most.files sizes sides marks) sides (figureLines (ofFiles sizes marks) r sides) room
+    → Told (reporting most sizes marks r sides room) (lengths_verdict most.files sizes sides marks) sides (figure_lines (of_files sizes marks) r sides) room
 unfolding reporting report
-reporting-told most sizes marks r sides room h = split-lines most sizes sides marks r.figures.verdict (figureLines (ofFiles sizes marks) r sides) room h
+reporting-told most sizes marks r sides room h = split-lines most sizes sides marks r.figures.verdict (figure_lines (of_files sizes marks) r sides) room h
 
 pub balance-told : (most : Limits) (sizes marks : List ℕ) (a : BalanceFigures) (sides room : List ℕ) → a.verdict.number ≡ 0
-    → Told (balanceReporting most sizes marks a sides room) (lengthsVerdict most.files sizes sides marks) sides (balanceLines (ofFiles sizes marks) a sides) room
-unfolding balanceReporting balanceReport
-balance-told most sizes marks a sides room h = split-lines most sizes sides marks a.verdict (balanceLines (ofFiles sizes marks) a sides) room h
+    → Told (balance_reporting most sizes marks a sides room) (lengths_verdict most.files sizes sides marks) sides (balance_lines (of_files sizes marks) a sides) room
+unfolding balance_reporting balance_report
+balance-told most sizes marks a sides room h = split-lines most sizes sides marks a.verdict (balance_lines (of_files sizes marks) a sides) room h
 
 pub tracing-told : (most : Limits) (sizes marks : List ℕ) (f : Figures) (sides : List ℕ) (l : Listing) (room : List ℕ) → f.verdict.number ≡ 0
-    → Told (tracing most sizes marks f sides l room) (passVerdict most.files sizes sides marks (holdsPass sizes f l)) sides (passLines (ofFiles sizes marks) f sides l) room
+    → Told (tracing most sizes marks f sides l room) (pass_verdict most.files sizes sides marks (holds_pass sizes f l)) sides (pass_lines (of_files sizes marks) f sides l) room
 unfolding tracing trace
 tracing-told most sizes marks f sides l room h =
-    let lines : List ℕ = passLines (ofFiles sizes marks) f sides l in
+    let lines : List ℕ = pass_lines (of_files sizes marks) f sides l in
     record {
-      is = lines-told most sizes sides marks f.verdict lines room h (holdsPass sizes f l)
-          ∙ ap (λ (v : Verdict). printing v lines room) (told-parts most sizes sides marks (holdsPass sizes f l) (leb (length lines) (length room)));
+      is = lines-told most sizes sides marks f.verdict lines room h (holds_pass sizes f l)
+          ∙ ap (λ (v : Verdict). printing v lines room) (told-parts most sizes sides marks (holds_pass sizes f l) (leb (length lines) (length room)));
     }

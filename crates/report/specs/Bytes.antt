@@ -2,33 +2,33 @@
 use Rattle.std.specs.Prelude.{ℕ, ◌+◌, ◌*◌}
 
 -- a gain of the gain list or of a move: a number with its sign
-abbrev pub gainBytes : ℕ
-gainBytes = 22
+abbrev pub gain_bytes : ℕ
+gain_bytes = 22
 
 -- the line of a scan: its word, two numbers and the end of the line
-abbrev pub scanBytes : ℕ
-scanBytes = 47
+abbrev pub scan_bytes : ℕ
+scan_bytes = 47
 
 -- the line of a move: its word, two numbers, a gain and the end of the line
-abbrev pub moveBytes : ℕ
-moveBytes = 69
+abbrev pub move_bytes : ℕ
+move_bytes = 69
 
 -- the line of a difference: four numbers and the end of the line
-abbrev pub differenceBytes : ℕ
-differenceBytes = 84
+abbrev pub difference_bytes : ℕ
+difference_bytes = 84
 
 -- the first lines where some file could not be read: their words, two numbers and the ends of the lines
-abbrev pub firstBytes : ℕ
-firstBytes = 57
+abbrev pub first_bytes : ℕ
+first_bytes = 57
 
 -- the lines of the figures, words and all, with the end of the gains' line and of the sides'; a refusal is shorter
-abbrev pub figureBytes : ℕ
-figureBytes = 256
+abbrev pub figure_bytes : ℕ
+figure_bytes = 256
 
 -- a report: the lines of the figures with the first, and a letter for each file
-abbrev pub reportBytes : ℕ → ℕ
-reportBytes files = figureBytes + files
+abbrev pub report_bytes : ℕ → ℕ
+report_bytes files = figure_bytes + files
 
 -- a trace: the first lines, the lines of the figures, for each file a move's line, a gain and a letter, and for each scan its line, all rounded up
-abbrev pub traceBytes : ℕ → ℕ → ℕ
-traceBytes files scans = 512 + 128 * files + 64 * scans
+abbrev pub trace_bytes : ℕ → ℕ → ℕ
+trace_bytes files scans = 512 + 128 * files + 64 * scans

@@ -2,17 +2,17 @@
 -- enough. Assumes nothing.
 use Rattle.std.specs.Prelude.{◌≡◌, ◌≢◌, ℕ, ◌≤◌, Bool, not, cond, ◌&&◌, List, [], length, get_or, ltb, eqb}
 use Rattle.rules.specs.declared.Verdict.{Verdict}
-use Rattle.rules.specs.Check.{refuseIf, refuseAt, ◌orElse◌}
+use Rattle.rules.specs.Check.{refuse_if, refuse_at, ◌or_else◌}
 use Rattle.rules.specs.Report.{line}
 
 -- the verdict on a split in two parts: before its text is counted, and after
-unfoldable pub lengthsVerdict : ℕ → List ℕ → List ℕ → List ℕ → Verdict
-lengthsVerdict most sizes sides marks =
-    refuseIf (ltb most (length sizes)) 2 0
-    or_else refuseIf (not (eqb (length sides) (length sizes) && eqb (length marks) (length sizes))) 3 0
+unfoldable pub lengths_verdict : ℕ → List ℕ → List ℕ → List ℕ → Verdict
+lengths_verdict most sizes sides marks =
+    refuse_if (ltb most (length sizes)) 2 0
+    or_else refuse_if (not (eqb (length sides) (length sizes) && eqb (length marks) (length sizes))) 3 0
 
-unfoldable pub roomVerdict : List ℕ → Bool → Verdict
-roomVerdict sides lent = refuseIf (not lent) 3 0 or_else refuseAt 6 (λ f. ltb 1 (get_or sides f 0)) (length sides)
+unfoldable pub room_verdict : List ℕ → Bool → Verdict
+room_verdict sides lent = refuse_if (not lent) 3 0 or_else refuse_at 6 (λ f. ltb 1 (get_or sides f 0)) (length sides)
 
 -- what the first lets through: not too many files, and a side and a mark for each
 pub record EachFile (most : ℕ) (sizes sides marks : List ℕ) : Type 0 where
@@ -24,5 +24,5 @@ pub record EachFile (most : ℕ) (sizes sides marks : List ℕ) : Type 0 where
 abbrev pub Enough : ℕ → Verdict → List ℕ → List ℕ → List ℕ → List ℕ → Type 0
 Enough n v sizes sides marks room = length sides ≡ length sizes → length marks ≡ length sizes → n ≤ length room → v.number ≢ 3
 
-abbrev pub settledLine : Bool → List ℕ
-settledLine settled = line (cond settled "settled yes" "settled no") []
+abbrev pub settled_line : Bool → List ℕ
+settled_line settled = line (cond settled "settled yes" "settled no") []

@@ -1,8 +1,8 @@
 // The lines of a balancing.
 ghost use Rattle.std.specs.Prelude.{◌≤◌};
-ghost use Rattle.rules.specs.Report.{ofFiles};
-ghost use Rattle.rules.specs.Balance.{balanceLines};
-ghost use Rattle.report.specs.Bytes.{figureBytes};
+ghost use Rattle.rules.specs.Report.{of_files};
+ghost use Rattle.rules.specs.Balance.{balance_lines};
+ghost use Rattle.report.specs.Bytes.{figure_bytes};
 ghost use Rattle.report.specs.Laying.{Laid};
 ghost use Rattle.report.specs.Steps.{EachFile};
 
@@ -20,8 +20,8 @@ pub(crate) fn put_balance(
     marks: &[u16],
 ) -> usize
     requires* { do ⌜ EachFile (← ⟦Job::MOST_FILES⟧) sizes.now sides.now marks.now ⌝ }
-    ensures laid { Laid 0 (balanceLines (ofFiles sizes.now marks.now) answer sides.now) out.old result out.new }
-    ensures upper_bound { result ≤ figureBytes }
+    ensures laid { Laid 0 (balance_lines (of_files sizes.now marks.now) answer sides.now) out.old result out.new }
+    ensures upper_bound { result ≤ figure_bytes }
 {
     let b = size_on(sizes, sides, marks, 1);
     let next = put_first(out, answer.unread, answer.holding);

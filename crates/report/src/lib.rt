@@ -9,13 +9,13 @@ mod text;
 mod verdict;
 
 ghost use Rattle.std.specs.Prelude.{◌≡◌, ◌≢◌, ◌≤◌, length};
-ghost use Rattle.rules.specs.Job.{limitsOf};
-ghost use Rattle.rules.specs.Report.{printed, intoRoom, refusal, reporting};
-ghost use Rattle.rules.specs.Trace.{listingOf, tracing};
-ghost use Rattle.rules.specs.Balance.{balanceReporting};
-ghost use Rattle.rules.specs.Compare.{refusedOf};
-ghost use Rattle.report.specs.Bytes.{figureBytes, reportBytes};
-ghost use Rattle.report.specs.Comparison.{comparisonTelling, EnoughLines};
+ghost use Rattle.rules.specs.Job.{limits_of};
+ghost use Rattle.rules.specs.Report.{printed, into_room, refusal, reporting};
+ghost use Rattle.rules.specs.Trace.{listing_of, tracing};
+ghost use Rattle.rules.specs.Balance.{balance_reporting};
+ghost use Rattle.rules.specs.Compare.{refused_of};
+ghost use Rattle.report.specs.Bytes.{figure_bytes, report_bytes};
+ghost use Rattle.report.specs.Comparison.{comparison_telling, EnoughLines};
 ghost use Rattle.report.specs.Laying.{filled, longest};
 ghost use Rattle.report.specs.Steps.{Enough};
 ghost use Rattle.report.specs.Tracing.{EnoughTold};
@@ -34,9 +34,9 @@ pub const MOST_DIFFERENCES: usize = 6 + 3 * Job::MOST_FILES + Job::MOST_RECIPES;
 
 // A line told alone: it needs room alone, since it tells of no split.
 fn print_line(form: &[u8], numbers: &[u64], out: &mut [u8]) -> Printed
-    requires { longest (length numbers.now) form.now ≤ figureBytes }
-    ensures out_after { printed result out.new ≡ intoRoom (filled numbers.now form.now) out.old }
-    ensures number_nonzero { figureBytes ≤ length out.old → result.verdict.number ≢ 3 }
+    requires { longest (length numbers.now) form.now ≤ figure_bytes }
+    ensures out_after { printed result out.new ≡ into_room (filled numbers.now form.now) out.old }
+    ensures number_nonzero { figure_bytes ≤ length out.old → result.verdict.number ≢ 3 }
 {
     let bytes = put_form(&mut [], 0, form, numbers);
     let verdict = refuse_if(!(bytes <= out.len()), 3, 0);
@@ -48,8 +48,8 @@ fn print_line(form: &[u8], numbers: &[u64], out: &mut [u8]) -> Printed
 }
 
 fn print_refusal(told: Verdict, out: &mut [u8]) -> Printed
-    ensures out_after { printed result out.new ≡ intoRoom (refusal told) out.old }
-    ensures number_nonzero { figureBytes ≤ length out.old → result.verdict.number ≢ 3 }
+    ensures out_after { printed result out.new ≡ into_room (refusal told) out.old }
+    ensures number_nonzero { figure_bytes ≤ length out.old → result.verdict.number ≢ 3 }
 {
     print_line(
         b"refused 0 1\n",
@@ -60,8 +60,8 @@ fn print_refusal(told: Verdict, out: &mut [u8]) -> Printed
 
 // `refused`, job, number and place.
 fn print_refused(told: Compared, out: &mut [u8]) -> Printed
-    ensures out_after { printed result out.new ≡ intoRoom (refusedOf told.job told.verdict) out.old }
-    ensures number_nonzero { figureBytes ≤ length out.old → result.verdict.number ≢ 3 }
+    ensures out_after { printed result out.new ≡ into_room (refused_of told.job told.verdict) out.old }
+    ensures number_nonzero { figure_bytes ≤ length out.old → result.verdict.number ≢ 3 }
 {
     print_line(
         b"refused 0 1 2\n",
@@ -83,8 +83,8 @@ pub fn report(
     marks: &[u16],
     out: &mut [u8],
 ) -> Printed
-    ensures* out_after { do ⌜ printed result out.new ≡ reporting (limitsOf (← (⟦Job::MOST_FILES⟧).entry) (← (⟦Job::MOST_RECIPES⟧).entry) (← (⟦Job::MOST_PINS⟧).entry) (← (⟦Job::MOST_DEN⟧).entry)) sizes.now marks.now answer sides.now out.old ⌝ }
-    ensures enough { Enough (reportBytes (length sides.now)) result.verdict sizes.now sides.now marks.now out.old }
+    ensures* out_after { do ⌜ printed result out.new ≡ reporting (limits_of (← (⟦Job::MOST_FILES⟧).entry) (← (⟦Job::MOST_RECIPES⟧).entry) (← (⟦Job::MOST_PINS⟧).entry) (← (⟦Job::MOST_DEN⟧).entry)) sizes.now marks.now answer sides.now out.old ⌝ }
+    ensures enough { Enough (report_bytes (length sides.now)) result.verdict sizes.now sides.now marks.now out.old }
 {
     if answer.figures.verdict.number != 0 {
         let told = answer.figures.verdict;
@@ -111,8 +111,8 @@ pub fn balanced(
     marks: &[u16],
     out: &mut [u8],
 ) -> Printed
-    ensures* out_after { do ⌜ printed result out.new ≡ balanceReporting (limitsOf (← (⟦Job::MOST_FILES⟧).entry) (← (⟦Job::MOST_RECIPES⟧).entry) (← (⟦Job::MOST_PINS⟧).entry) (← (⟦Job::MOST_DEN⟧).entry)) sizes.now marks.now answer sides.now out.old ⌝ }
-    ensures enough { Enough figureBytes result.verdict sizes.now sides.now marks.now out.old }
+    ensures* out_after { do ⌜ printed result out.new ≡ balance_reporting (limits_of (← (⟦Job::MOST_FILES⟧).entry) (← (⟦Job::MOST_RECIPES⟧).entry) (← (⟦Job::MOST_PINS⟧).entry) (← (⟦Job::MOST_DEN⟧).entry)) sizes.now marks.now answer sides.now out.old ⌝ }
+    ensures enough { Enough figure_bytes result.verdict sizes.now sides.now marks.now out.old }
 {
     if answer.verdict.number != 0 {
         let told = answer.verdict;
@@ -147,8 +147,8 @@ pub fn trace(
     kinds: &[u16],
     out: &mut [u8],
 ) -> Printed
-    ensures* out_after { do ⌜ printed result out.new ≡ tracing (limitsOf (← (⟦Job::MOST_FILES⟧).entry) (← (⟦Job::MOST_RECIPES⟧).entry) (← (⟦Job::MOST_PINS⟧).entry) (← (⟦Job::MOST_DEN⟧).entry)) sizes.now marks.now answer sides.now (listingOf gains.now tried.now gained.now cuts.now ends.now recipes.now kinds.now) out.old ⌝ }
-    ensures enough_told { EnoughTold result.verdict sizes.now answer sides.now marks.now (listingOf gains.now tried.now gained.now cuts.now ends.now recipes.now kinds.now) out.old }
+    ensures* out_after { do ⌜ printed result out.new ≡ tracing (limits_of (← (⟦Job::MOST_FILES⟧).entry) (← (⟦Job::MOST_RECIPES⟧).entry) (← (⟦Job::MOST_PINS⟧).entry) (← (⟦Job::MOST_DEN⟧).entry)) sizes.now marks.now answer sides.now (listing_of gains.now tried.now gained.now cuts.now ends.now recipes.now kinds.now) out.old ⌝ }
+    ensures enough_told { EnoughTold result.verdict sizes.now answer sides.now marks.now (listing_of gains.now tried.now gained.now cuts.now ends.now recipes.now kinds.now) out.old }
 {
     if answer.verdict.number != 0 {
         let told = answer.verdict;
@@ -187,7 +187,7 @@ pub fn trace(
 // A comparison's answer told: a line for each record, which stands in the numbers, four to a record, or the refusal's line. The answer and the room are those of the
 // telling, for every input. The text is counted only once there are no more records than two jobs can have, so that the count is small.
 pub fn comparison(answer: Compared, numbers: &[u16], out: &mut [u8]) -> Printed
-    ensures* out_after { do ⌜ printed result out.new ≡ comparisonTelling (limitsOf (← (⟦Job::MOST_FILES⟧).entry) (← (⟦Job::MOST_RECIPES⟧).entry) (← (⟦Job::MOST_PINS⟧).entry) (← (⟦Job::MOST_DEN⟧).entry)) answer numbers.now out.old ⌝ }
+    ensures* out_after { do ⌜ printed result out.new ≡ comparison_telling (limits_of (← (⟦Job::MOST_FILES⟧).entry) (← (⟦Job::MOST_RECIPES⟧).entry) (← (⟦Job::MOST_PINS⟧).entry) (← (⟦Job::MOST_DEN⟧).entry)) answer numbers.now out.old ⌝ }
     ensures enough_lines { EnoughLines result.verdict answer numbers.now out.old }
 {
     if answer.verdict.number != 0 {

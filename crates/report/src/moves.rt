@@ -1,10 +1,10 @@
 // The moves of a pass with their scans, and the gain list.
 ghost use Rattle.std.specs.Prelude.{◌≡◌, [], ◌∷◌, ◌+◌, ◌-◌, ◌*◌, ◌≤◌, length, nat_abs};
 ghost use Rattle.rules.specs.Report.{line};
-ghost use Rattle.rules.specs.Trace.{signed, scanLines, scansBefore, movesLines};
-ghost use Rattle.report.specs.Bytes.{gainBytes, scanBytes, moveBytes};
+ghost use Rattle.rules.specs.Trace.{signed, scan_lines, scans_before, moves_lines};
+ghost use Rattle.report.specs.Bytes.{gain_bytes, scan_bytes, move_bytes};
 ghost use Rattle.report.specs.Laying.{Ahead, Laid};
-ghost use Rattle.report.specs.Tracing.{scanLists, moveLists, InOrder, MovesHeld, move_line, gainsLine};
+ghost use Rattle.report.specs.Tracing.{scan_lists, move_lists, InOrder, MovesHeld, move_line, gains_line};
 
 use crate::text::{put, put_form, put_text};
 
@@ -22,9 +22,9 @@ fn magnitude(gain: i32) -> u64
 
 // After one space, with its sign where it is below zero.
 fn put_signed(out: &mut [u8], at: usize, gain: i32) -> usize
-    requires { Ahead at gainBytes }
+    requires { Ahead at gain_bytes }
     ensures laid { Laid at (signed gain) out.old result out.new }
-    ensures upper_bound { result ≤ at + gainBytes }
+    ensures upper_bound { result ≤ at + gain_bytes }
 {
     let n = magnitude(gain);
     if gain < 0 {
@@ -34,9 +34,9 @@ fn put_signed(out: &mut [u8], at: usize, gain: i32) -> usize
 }
 
 pub(crate) fn put_gains(out: &mut [u8], at: usize, gains: &[i32]) -> usize
-    requires { Ahead at (6 + gainBytes * length gains.now) }
-    ensures laid { Laid at (gainsLine gains.now) out.old result out.new }
-    ensures upper_bound { result ≤ at + (6 + gainBytes * length gains.now) }
+    requires { Ahead at (6 + gain_bytes * length gains.now) }
+    ensures laid { Laid at (gains_line gains.now) out.old result out.new }
+    ensures upper_bound { result ≤ at + (6 + gain_bytes * length gains.now) }
 {
     let mut next = put_text(out, at, b"gains");
     let mut f = 0;
@@ -48,9 +48,9 @@ pub(crate) fn put_gains(out: &mut [u8], at: usize, gains: &[i32]) -> usize
 }
 
 fn put_scan(out: &mut [u8], at: usize, recipe: u16, kind: u16) -> usize
-    requires { Ahead at scanBytes }
+    requires { Ahead at scan_bytes }
     ensures laid { Laid at (line "scan" (recipe ∷ kind ∷ [])) out.old result out.new }
-    ensures upper_bound { result ≤ at + scanBytes }
+    ensures upper_bound { result ≤ at + scan_bytes }
 {
     put_form(out, at, b"scan 0 1\n", &[recipe as u64, kind as u64])
 }
@@ -64,10 +64,10 @@ fn put_scans(
     first: u16,
     end: u16,
 ) -> usize
-    requires ahead { Ahead at (scanBytes * (end - first)) }
+    requires ahead { Ahead at (scan_bytes * (end - first)) }
     requires in_order { InOrder recipes.now kinds.now first end }
-    ensures laid { Laid at (scanLines (scanLists recipes.now kinds.now) first (end - first)) out.old result out.new }
-    ensures upper_bound { result ≤ at + scanBytes * (end - first) }
+    ensures laid { Laid at (scan_lines (scan_lists recipes.now kinds.now) first (end - first)) out.old result out.new }
+    ensures upper_bound { result ≤ at + scan_bytes * (end - first) }
 {
     let a = first as usize;
     let n = (end - first) as usize;
@@ -81,9 +81,9 @@ fn put_scans(
 }
 
 fn put_move(out: &mut [u8], at: usize, file: u16, gain: i32, cut: u16) -> usize
-    requires { Ahead at moveBytes }
+    requires { Ahead at move_bytes }
     ensures laid { Laid at (move_line file gain cut) out.old result out.new }
-    ensures upper_bound { result ≤ at + moveBytes }
+    ensures upper_bound { result ≤ at + move_bytes }
 {
     let mut next = put_form(out, at, b"move 0", &[file as u64]);
     next = put_signed(out, next, gain);
@@ -102,10 +102,10 @@ pub(crate) fn put_moves(
     recipes: &[u16],
     kinds: &[u16],
 ) -> usize
-    requires ahead { Ahead at (moveBytes * n + scanBytes * 65536) }
-    requires moves_held { MovesHeld n (moveLists tried.now gained.now cuts.now ends.now recipes.now kinds.now) }
-    ensures laid { Laid at (movesLines (moveLists tried.now gained.now cuts.now ends.now recipes.now kinds.now) n) out.old result out.new }
-    ensures upper_bound { result ≤ at + (moveBytes * n + scanBytes * scansBefore (moveLists tried.now gained.now cuts.now ends.now recipes.now kinds.now) n) }
+    requires ahead { Ahead at (move_bytes * n + scan_bytes * 65536) }
+    requires moves_held { MovesHeld n (move_lists tried.now gained.now cuts.now ends.now recipes.now kinds.now) }
+    ensures laid { Laid at (moves_lines (move_lists tried.now gained.now cuts.now ends.now recipes.now kinds.now) n) out.old result out.new }
+    ensures upper_bound { result ≤ at + (move_bytes * n + scan_bytes * scans_before (move_lists tried.now gained.now cuts.now ends.now recipes.now kinds.now) n) }
 {
     let mut next = at;
     let mut first = 0;

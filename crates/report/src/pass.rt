@@ -1,11 +1,11 @@
 // A pass told: whether the lists hold it, and its lines.
 ghost use Rattle.std.specs.Prelude.{◌≡◌, true, not, ◌&&◌, ◌||◌, ◌+◌, ◌*◌, ◌≤◌, length, leb, ltb, eqb};
-ghost use Rattle.rules.specs.Lists.{someBelow};
-ghost use Rattle.rules.specs.Report.{ofFiles};
-ghost use Rattle.rules.specs.Trace.{listingOf, badEnd, holdsPass, passLines};
-ghost use Rattle.report.specs.Bytes.{gainBytes, figureBytes, traceBytes};
+ghost use Rattle.rules.specs.Lists.{some_below};
+ghost use Rattle.rules.specs.Report.{of_files};
+ghost use Rattle.rules.specs.Trace.{listing_of, bad_end, holds_pass, pass_lines};
+ghost use Rattle.report.specs.Bytes.{gain_bytes, figure_bytes, trace_bytes};
 ghost use Rattle.report.specs.Laying.{Ahead, Laid};
-ghost use Rattle.report.specs.Tracing.{endsOf, passVerdict, tailLines};
+ghost use Rattle.report.specs.Tracing.{ends_of, pass_verdict, tail_lines};
 ghost use Rattle.report.specs.Steps.{EachFile};
 
 use crate::figures::put_first;
@@ -38,7 +38,7 @@ fn is_bad_end(first: u16, end: u16, recipes: usize, kinds: usize) -> bool
 
 // An end for each move; the scans of each end no earlier than they begin, and within the scan lists.
 fn holds_scans(n: u64, ends: &[u16], recipes: &[u16], kinds: &[u16]) -> bool
-    ensures { result ≡ (leb n (length ends.now) && not (someBelow (badEnd (endsOf ends.now recipes.now kinds.now)) n)) }
+    ensures { result ≡ (leb n (length ends.now) && not (some_below (bad_end (ends_of ends.now recipes.now kinds.now)) n)) }
 {
     let m = n as usize;
     if ends.len() < m {
@@ -71,7 +71,7 @@ pub(crate) fn pass_verdict(
     recipes: &[u16],
     kinds: &[u16],
 ) -> Verdict
-    ensures* { do ⌜ result ≡ passVerdict (← (⟦Job::MOST_FILES⟧).entry) sizes.now sides.now marks.now (holdsPass sizes.now answer (listingOf gains.now tried.now gained.now cuts.now ends.now recipes.now kinds.now)) ⌝ }
+    ensures* { do ⌜ result ≡ pass_verdict (← (⟦Job::MOST_FILES⟧).entry) sizes.now sides.now marks.now (holds_pass sizes.now answer (listing_of gains.now tried.now gained.now cuts.now ends.now recipes.now kinds.now)) ⌝ }
 {
     let lengths = lengths_verdict(sizes, sides, marks);
     if lengths.number != 0 {
@@ -94,9 +94,9 @@ fn put_tail(
     sides: &[u16],
     marks: &[u16],
 ) -> usize
-    requires { (length marks.now ≡ length sides.now) × Ahead at (figureBytes + gainBytes * length gains.now + length sides.now) }
-    ensures laid { Laid at (tailLines f b gains.now sides.now marks.now) out.old result out.new }
-    ensures upper_bound { result ≤ at + (figureBytes + gainBytes * length gains.now + length sides.now) }
+    requires { (length marks.now ≡ length sides.now) × Ahead at (figure_bytes + gain_bytes * length gains.now + length sides.now) }
+    ensures laid { Laid at (tail_lines f b gains.now sides.now marks.now) out.old result out.new }
+    ensures upper_bound { result ≤ at + (figure_bytes + gain_bytes * length gains.now + length sides.now) }
 {
     let mut next = put_gains(out, at, gains);
     next = put_form(
@@ -132,9 +132,9 @@ pub(crate) fn put_pass(
     kinds: &[u16],
 ) -> usize
     requires* fact { do ⌜ EachFile (← ⟦Job::MOST_FILES⟧) sizes.now sides.now marks.now ⌝ }
-    requires kinds_value { holdsPass sizes.now f (listingOf gains.now tried.now gained.now cuts.now ends.now recipes.now kinds.now) ≡ true }
-    ensures laid { Laid 0 (passLines (ofFiles sizes.now marks.now) f sides.now (listingOf gains.now tried.now gained.now cuts.now ends.now recipes.now kinds.now)) out.old result out.new }
-    ensures upper_bound { result ≤ traceBytes (length sizes.now) (length recipes.now) }
+    requires kinds_value { holds_pass sizes.now f (listing_of gains.now tried.now gained.now cuts.now ends.now recipes.now kinds.now) ≡ true }
+    ensures laid { Laid 0 (pass_lines (of_files sizes.now marks.now) f sides.now (listing_of gains.now tried.now gained.now cuts.now ends.now recipes.now kinds.now)) out.old result out.new }
+    ensures upper_bound { result ≤ trace_bytes (length sizes.now) (length recipes.now) }
 {
     let b = size_on(sizes, sides, marks, 1);
     let mut next = put_first(out, f.unread, f.holding);

@@ -1,8 +1,8 @@
 // Files on their sides: the letters, the size of a side, the first side over 1.
 ghost use Rattle.std.specs.Prelude.{◌≡◌, not, cond, [], ltb, eqb, length, get_or};
 ghost use Rattle.rules.specs.Lists.{lowest};
-ghost use Rattle.rules.specs.Split.{sizeOn};
-ghost use Rattle.rules.specs.Report.{«letter», sidesLine, ofFiles};
+ghost use Rattle.rules.specs.Split.{size_on};
+ghost use Rattle.rules.specs.Report.{«letter», sides_line, of_files};
 ghost use Rattle.report.specs.Laying.{Near, Laid};
 ghost use Rattle.report.specs.Steps.{EachFile};
 
@@ -23,8 +23,8 @@ fn letter(side: u16, mark: u16) -> u8
 }
 
 pub(crate) fn put_sides(out: &mut [u8], at: usize, sides: &[u16], marks: &[u16]) -> usize
-    requires { (length marks.now ≡ length sides.now) × Near at (sidesLine (ofFiles [] marks.now) sides.now) }
-    ensures { Laid at (sidesLine (ofFiles [] marks.now) sides.now) out.old result out.new }
+    requires { (length marks.now ≡ length sides.now) × Near at (sides_line (of_files [] marks.now) sides.now) }
+    ensures { Laid at (sides_line (of_files [] marks.now) sides.now) out.old result out.new }
 {
     let mut next = put_text(out, at, b"sides ");
     let mut f = 0;
@@ -38,7 +38,7 @@ pub(crate) fn put_sides(out: &mut [u8], at: usize, sides: &[u16], marks: &[u16])
 // What the files on a side weigh: one that could not be read weighs nothing.
 pub(crate) fn size_on(sizes: &[u16], sides: &[u16], marks: &[u16], side: u16) -> u64
     requires* { do ⌜ EachFile (← ⟦Job::MOST_FILES⟧) sizes.now sides.now marks.now ⌝ }
-    ensures { result ≡ sizeOn (ofFiles sizes.now marks.now) side sides.now }
+    ensures { result ≡ size_on (of_files sizes.now marks.now) side sides.now }
 {
     let mut sum: u64 = 0;
     let mut f = 0;

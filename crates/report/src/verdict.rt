@@ -1,8 +1,8 @@
 // Numbers for no: whether there is room, and whether what is told is a split of a job.
 ghost use Rattle.std.specs.Prelude.{◌≡◌};
-ghost use Rattle.rules.specs.Job.{limitsOf};
-ghost use Rattle.report.specs.Steps.{lengthsVerdict, roomVerdict};
-ghost use Rattle.report.specs.Comparison.{recordsVerdict};
+ghost use Rattle.rules.specs.Job.{limits_of};
+ghost use Rattle.report.specs.Steps.{lengths_verdict, room_verdict};
+ghost use Rattle.report.specs.Comparison.{records_verdict};
 
 use crate::split::first_bad_side;
 use job::{Job, refuse_if};
@@ -10,7 +10,7 @@ use rules::Verdict;
 
 // 2, or 3 for sides or marks that are not C long.
 pub(crate) fn lengths_verdict(sizes: &[u16], sides: &[u16], marks: &[u16]) -> Verdict
-    ensures* { do ⌜ result ≡ lengthsVerdict (← (⟦Job::MOST_FILES⟧).entry) sizes.now sides.now marks.now ⌝ }
+    ensures* { do ⌜ result ≡ lengths_verdict (← (⟦Job::MOST_FILES⟧).entry) sizes.now sides.now marks.now ⌝ }
 {
     let over = refuse_if(Job::MOST_FILES < sizes.len(), 2, 0);
     if over.number != 0 {
@@ -22,7 +22,7 @@ pub(crate) fn lengths_verdict(sizes: &[u16], sides: &[u16], marks: &[u16]) -> Ve
 
 // 3 for what is lent, then 6.
 pub(crate) fn room_verdict(sides: &[u16], lent: bool) -> Verdict
-    ensures { result ≡ roomVerdict sides.now lent }
+    ensures { result ≡ room_verdict sides.now lent }
 {
     let short = refuse_if(!lent, 3, 0);
     if short.number != 0 {
@@ -34,7 +34,7 @@ pub(crate) fn room_verdict(sides: &[u16], lent: bool) -> Verdict
 
 // 2 for more records than two jobs can have, or 3 for numbers that do not hold them.
 pub(crate) fn records_verdict(count: usize, numbers: usize) -> Verdict
-    ensures* { do ⌜ result ≡ recordsVerdict (limitsOf (← (⟦Job::MOST_FILES⟧).entry) (← (⟦Job::MOST_RECIPES⟧).entry) (← (⟦Job::MOST_PINS⟧).entry) (← (⟦Job::MOST_DEN⟧).entry)) count numbers ⌝ }
+    ensures* { do ⌜ result ≡ records_verdict (limits_of (← (⟦Job::MOST_FILES⟧).entry) (← (⟦Job::MOST_RECIPES⟧).entry) (← (⟦Job::MOST_PINS⟧).entry) (← (⟦Job::MOST_DEN⟧).entry)) count numbers ⌝ }
 {
     if crate::MOST_DIFFERENCES < count {
         return Verdict {

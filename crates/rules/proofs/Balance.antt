@@ -14,15 +14,15 @@ use lib.ListN.{length, get_or}
 use lib.Signed.{lt_z}
 use borrow.Author.Tests.{not-true, leb-true, leb-false, eqb-true, eqb-false, eq-eqb}
 use Rattle.rules.specs.Lists.{bit}
-use Rattle.rules.specs.Job.{isRead, Job, fileCount, files, recipes}
-use Rattle.rules.specs.Split.{side_of, onSide, gain, size_of, isFree, weighs, weight, smax, sizeOn, sizeA, tolerance, largeEnough, smallEnough, balanced}
-use Rattle.rules.specs.Move.{State, lockOf, free, moved, greater, firstBelow}
-use Rattle.rules.specs.Balance.{tooLarge, tooSmall, heavy, freeOn, greatestOn, balanceChoice, leastA, mostA, noneBalanced}
+use Rattle.rules.specs.Job.{is_read, Job, file_count, files, recipes}
+use Rattle.rules.specs.Split.{side_of, on_side, gain, size_of, is_free, weighs, weight, smax, size_on, size_a, tolerance, large_enough, small_enough, balanced}
+use Rattle.rules.specs.Move.{State, lock_of, free, moved, greater, first_below}
+use Rattle.rules.specs.Balance.{too_large, too_small, heavy, free_on, greatest_on, balance_choice, least_a, most_a, none_balanced}
 use Rattle.rules.specs.Theorems.{Binary}
 use Rattle.rules.specs.Balancing.{Halves, Greatest, Assignment}
 use Rattle.rules.proofs.Tests.{clash, or_no, and_yes, and_both, and-false, not-no, contra, contra'}
 use Rattle.rules.proofs.Count.{bit-most, total-below, largest-has}
-use Rattle.rules.proofs.Signed.{ltZ-true, ltZ-false}
+use Rattle.rules.proofs.Signed.{lt_z-true, lt_z-false}
 use Rattle.rules.proofs.OneMove.{Moves, move-of, stays-binary}
 use Rattle.rules.proofs.GainKept.{Fresh}
 use Rattle.rules.proofs.Sizes.{size-moved}
@@ -32,70 +32,70 @@ use Rattle.rules.proofs.MovesEnd.{StateLong, moved-long, Picks}
 -- ---- too large and too small, as numbers
 
 module _ (job : Job) where
-  large-yes : (a : ℕ) → tooLarge job a ≡ true → job.num * weight job + job.den * tolerance job < job.den * a
-  unfolding tooLarge
+  large-yes : (a : ℕ) → too_large job a ≡ true → job.num * weight job + job.den * tolerance job < job.den * a
+  unfolding too_large
   large-yes a h = leb-false (job.den * a) (job.num * weight job + job.den * tolerance job) (not-true _ h)
 
-  large-no : (a : ℕ) → tooLarge job a ≡ false → job.den * a ≤ job.num * weight job + job.den * tolerance job
-  unfolding tooLarge
+  large-no : (a : ℕ) → too_large job a ≡ false → job.den * a ≤ job.num * weight job + job.den * tolerance job
+  unfolding too_large
   large-no a h = leb-true (job.den * a) (job.num * weight job + job.den * tolerance job) (not-no _ h)
 
-  small-yes : (a : ℕ) → tooSmall job a ≡ true → job.den * a + job.den * tolerance job < job.num * weight job
-  unfolding tooSmall
+  small-yes : (a : ℕ) → too_small job a ≡ true → job.den * a + job.den * tolerance job < job.num * weight job
+  unfolding too_small
   small-yes a h = leb-false (job.num * weight job) (job.den * a + job.den * tolerance job) (not-true _ h)
 
-  small-no : (a : ℕ) → tooSmall job a ≡ false → job.num * weight job ≤ job.den * a + job.den * tolerance job
-  unfolding tooSmall
+  small-no : (a : ℕ) → too_small job a ≡ false → job.num * weight job ≤ job.den * a + job.den * tolerance job
+  unfolding too_small
   small-no a h = leb-true (job.num * weight job) (job.den * a + job.den * tolerance job) (not-no _ h)
 
   -- more is too large too, and less too small
-  pub large-up : (a b : ℕ) → a ≤ b → tooLarge job a ≡ true → tooLarge job b ≡ true
-  large-up a b l h = contra' (tooLarge job b) (λ e. omega (arith, large-yes a h, large-no b e, mul-le-mul_left {m = a} {n = b} job.den l))
+  pub large-up : (a b : ℕ) → a ≤ b → too_large job a ≡ true → too_large job b ≡ true
+  large-up a b l h = contra' (too_large job b) (λ e. omega (arith, large-yes a h, large-no b e, mul-le-mul_left {m = a} {n = b} job.den l))
 
-  pub small-down : (a b : ℕ) → a ≤ b → tooSmall job b ≡ true → tooSmall job a ≡ true
-  small-down a b l h = contra' (tooSmall job a) (λ e. omega (arith, small-yes b h, small-no a e, mul-le-mul_left {m = a} {n = b} job.den l))
+  pub small-down : (a b : ℕ) → a ≤ b → too_small job b ≡ true → too_small job a ≡ true
+  small-down a b l h = contra' (too_small job a) (λ e. omega (arith, small-yes b h, small-no a e, mul-le-mul_left {m = a} {n = b} job.den l))
 
   -- a file no larger than the tolerance, taken from too large an A, leaves it not too small; and the other way round
-  less-not-small : (a b z : ℕ) → b + z ≡ a → z ≤ tolerance job → tooLarge job a ≡ true → tooSmall job b ≡ false
+  less-not-small : (a b z : ℕ) → b + z ≡ a → z ≤ tolerance job → too_large job a ≡ true → too_small job b ≡ false
   less-not-small a b z e l h =
-      contra (tooSmall job b)
+      contra (too_small job b)
       (λ t. omega (arith, large-yes a h, small-yes b t, ap (λ (n : ℕ). job.den * n) e, mul-add job.den b z, mul-le-mul_left {m = z} {n = tolerance job} job.den l))
 
-  more-not-large : (a b z : ℕ) → a + z ≡ b → z ≤ tolerance job → tooSmall job a ≡ true → tooLarge job b ≡ false
+  more-not-large : (a b z : ℕ) → a + z ≡ b → z ≤ tolerance job → too_small job a ≡ true → too_large job b ≡ false
   more-not-large a b z e l h =
-      contra (tooLarge job b)
+      contra (too_large job b)
       (λ t. omega (arith, small-yes a h, large-yes b t, ap (λ (n : ℕ). job.den * n) e, mul-add job.den a z, mul-le-mul_left {m = z} {n = tolerance job} job.den l))
 
   -- ---- which side
 
   -- A is too large and files go from it, or too small and files go from B
-  pub heavy-some : (a u : ℕ) → heavy job a ≡ some u → ((u ≡ 0) × (tooLarge job a ≡ true)) ⊎ ((u ≡ 1) × (tooSmall job a ≡ true))
+  pub heavy-some : (a u : ℕ) → heavy job a ≡ some u → ((u ≡ 0) × (too_large job a ≡ true)) ⊎ ((u ≡ 1) × (too_small job a ≡ true))
   unfolding heavy
-  heavy-some a u h = go (tooLarge job a) (tooSmall job a) refl refl h
+  heavy-some a u h = go (too_large job a) (too_small job a) refl refl h
     where
-      go : (l s : Bool) → tooLarge job a ≡ l → tooSmall job a ≡ s → ◌≡◌ {A = Option ℕ} (cond l (some 0) (cond s (some 1) none)) (some u)
-          → ((u ≡ 0) × (tooLarge job a ≡ true)) ⊎ ((u ≡ 1) × (tooSmall job a ≡ true))
+      go : (l s : Bool) → too_large job a ≡ l → too_small job a ≡ s → ◌≡◌ {A = Option ℕ} (cond l (some 0) (cond s (some 1) none)) (some u)
+          → ((u ≡ 0) × (too_large job a ≡ true)) ⊎ ((u ≡ 1) × (too_small job a ≡ true))
       go true s p q r = inl (sym (some_inj 0 u r), p)
       go false true p q r = inr (sym (some_inj 1 u r), q)
       go false false p q r = no-some u r
 
-  heavy-none : (a : ℕ) → heavy job a ≡ none → (tooLarge job a ≡ false) × (tooSmall job a ≡ false)
+  heavy-none : (a : ℕ) → heavy job a ≡ none → (too_large job a ≡ false) × (too_small job a ≡ false)
   unfolding heavy
-  heavy-none a h = go (tooLarge job a) (tooSmall job a) refl refl h
+  heavy-none a h = go (too_large job a) (too_small job a) refl refl h
     where
-      go : (l s : Bool) → tooLarge job a ≡ l → tooSmall job a ≡ s → ◌≡◌ {A = Option ℕ} (cond l (some 0) (cond s (some 1) none)) none
-          → (tooLarge job a ≡ false) × (tooSmall job a ≡ false)
+      go : (l s : Bool) → too_large job a ≡ l → too_small job a ≡ s → ◌≡◌ {A = Option ℕ} (cond l (some 0) (cond s (some 1) none)) none
+          → (too_large job a ≡ false) × (too_small job a ≡ false)
       go true s p q r = no-some 0 (sym r)
       go false true p q r = no-some 1 (sym r)
       go false false p q r = (p, q)
 
-  heavy-even : (a : ℕ) → tooLarge job a ≡ false → tooSmall job a ≡ false → heavy job a ≡ none
+  heavy-even : (a : ℕ) → too_large job a ≡ false → too_small job a ≡ false → heavy job a ≡ none
   unfolding heavy
   heavy-even a p q = rw (p, q) refl
 
-  neither : (a : ℕ) → balanced job a ≡ (not (tooSmall job a) && not (tooLarge job a))
-  unfolding balanced tooSmall tooLarge
-  neither a = go (largeEnough job.num job.den (weight job) (tolerance job) a) (smallEnough job.num job.den (weight job) (tolerance job) a)
+  neither : (a : ℕ) → balanced job a ≡ (not (too_small job a) && not (too_large job a))
+  unfolding balanced too_small too_large
+  neither a = go (large_enough job.num job.den (weight job) (tolerance job) a) (small_enough job.num job.den (weight job) (tolerance job) a)
     where
       go : (p q : Bool) → (p && q) ≡ (not (not p) && not (not q))
       go true true = refl
@@ -105,10 +105,10 @@ module _ (job : Job) where
   pub halves : (a : ℕ) → Halves job a
   halves a = record {
     neither = neither a;
-    apart = λ h. contra (tooSmall job a) (λ t. omega (arith, large-yes a h, small-yes a t));
+    apart = λ h. contra (too_small job a) (λ t. omega (arith, large-yes a h, small-yes a t));
     even = λ h.
-        let q = and_yes (not (tooSmall job a)) (not (tooLarge job a)) (sym (neither a) ∙ h) in
-        heavy-even a (not-true (tooLarge job a) q.1) (not-true (tooSmall job a) q.0);
+        let q = and_yes (not (too_small job a)) (not (too_large job a)) (sym (neither a) ∙ h) in
+        heavy-even a (not-true (too_large job a) q.1) (not-true (too_small job a) q.0);
     uneven = λ h. let q = heavy-none a h in neither a ∙ ap₂ (λ (s l : Bool). not s && not l) q.1 q.0;
   }
 
@@ -117,18 +117,18 @@ module _ (job : Job) where
 -- the greater gain goes first
 greater-order : (G : ℕ → ℤ) → Order (greater G)
 greater-order G = record {
-  irrefl = λ a. contra (lt_z (G a) (G a)) (λ h. omega (arith, ltZ-true (G a) (G a) h));
-  trans = λ a b c p q. contra' (lt_z (G c) (G a)) (λ h. omega (arith, ltZ-true (G b) (G a) p, ltZ-true (G c) (G b) q, ltZ-false (G c) (G a) h));
-  weak = λ a b c p q. contra (lt_z (G c) (G a)) (λ h. omega (arith, ltZ-false (G b) (G a) p, ltZ-false (G c) (G b) q, ltZ-true (G c) (G a) h));
+  irrefl = λ a. contra (lt_z (G a) (G a)) (λ h. omega (arith, lt_z-true (G a) (G a) h));
+  trans = λ a b c p q. contra' (lt_z (G c) (G a)) (λ h. omega (arith, lt_z-true (G b) (G a) p, lt_z-true (G c) (G b) q, lt_z-false (G c) (G a) h));
+  weak = λ a b c p q. contra (lt_z (G c) (G a)) (λ h. omega (arith, lt_z-false (G b) (G a) p, lt_z-false (G c) (G b) q, lt_z-true (G c) (G a) h));
 }
 
 module _ (job : Job) where
-  greatest : (sides : List ℕ) (u f : ℕ) → greatestOn job sides u ≡ some f → Greatest job sides u f
-  unfolding greatestOn
+  greatest : (sides : List ℕ) (u f : ℕ) → greatest_on job sides u ≡ some f → Greatest job sides u f
+  unfolding greatest_on
   greatest sides u f e =
       let G : ℕ → ℤ = gain sides (recipes job) in
-      let r = first_some (freeOn job sides u) (greater G) (greater-order G) (fileCount job) f e in
-      let q = and_yes (isFree job f) (onSide sides u f) r.fine in
+      let r = first_some (free_on job sides u) (greater G) (greater-order G) (file_count job) f e in
+      let q = and_yes (is_free job f) (on_side sides u f) r.fine in
       record {
         below = r.below;
         free = q.0;
@@ -150,47 +150,47 @@ module _ (job : Job) where
       further : (f g : ℕ) → f < g → Greatest job sides u f → Greatest job sides u g → ⊥
       further f g l p q = clash (sym (q.lowest f l p.free p.there) ∙ p.greatest g q.below q.free q.there)
 
-  pub choice-stop : (st : State) → heavy job (sizeA job st.sides) ≡ none → balanceChoice job st ≡ none
-  unfolding balanceChoice
-  choice-stop st e = rw (e, balanceChoice)
+  pub choice-stop : (st : State) → heavy job (size_a job st.sides) ≡ none → balance_choice job st ≡ none
+  unfolding balance_choice
+  choice-stop st e = rw (e, balance_choice)
 
-  pub choice-go : (st : State) (u : ℕ) → heavy job (sizeA job st.sides) ≡ some u → balanceChoice job st ≡ greatestOn job st.sides u
-  unfolding balanceChoice
-  choice-go st u e = rw (e, balanceChoice)
+  pub choice-go : (st : State) (u : ℕ) → heavy job (size_a job st.sides) ≡ some u → balance_choice job st ≡ greatest_on job st.sides u
+  unfolding balance_choice
+  choice-go st u e = rw (e, balance_choice)
 
-  choice-some : (st : State) (f : ℕ) → balanceChoice job st ≡ some f
-      → (u : ℕ) × (heavy job (sizeA job st.sides) ≡ some u) × (greatestOn job st.sides u ≡ some f)
-  choice-some st f h = go (heavy job (sizeA job st.sides)) refl
+  choice-some : (st : State) (f : ℕ) → balance_choice job st ≡ some f
+      → (u : ℕ) × (heavy job (size_a job st.sides) ≡ some u) × (greatest_on job st.sides u ≡ some f)
+  choice-some st f h = go (heavy job (size_a job st.sides)) refl
     where
-      go : (o : Option ℕ) → heavy job (sizeA job st.sides) ≡ o → (u : ℕ) × (heavy job (sizeA job st.sides) ≡ some u) × (greatestOn job st.sides u ≡ some f)
+      go : (o : Option ℕ) → heavy job (size_a job st.sides) ≡ o → (u : ℕ) × (heavy job (size_a job st.sides) ≡ some u) × (greatest_on job st.sides u ≡ some f)
       go none e = no-some f (sym (choice-stop st e) ∙ h)
       go (some u) e = (u, e, sym (choice-go st u e) ∙ h)
 
 -- ---- the way that a balancing goes: from side u
 
 pub record Toward (job : Job) (u : ℕ) (st : State) : Type 0 where
-  pub long : StateLong (fileCount job) st
+  pub long : StateLong (file_count job) st
   pub binary : Binary st.sides
   -- of the files of side u, those with mark 0 are those that are not locked
-  pub unlocked : (f : ℕ) → f < fileCount job → side_of st.sides f ≡ u → isFree job f ≡ free st f
+  pub unlocked : (f : ℕ) → f < file_count job → side_of st.sides f ≡ u → is_free job f ≡ free st f
   -- and all files of side u were there at the start
   pub unmoved : (f : ℕ) → side_of st.sides f ≡ u → side_of job.sides f ≡ u
   -- the other side never holds too much
-  pub way : (v : ℕ) → heavy job (sizeA job st.sides) ≡ some v → v ≡ u
+  pub way : (v : ℕ) → heavy job (size_a job st.sides) ≡ some v → v ≡ u
 
 -- the move that is made
 pub record Made (job : Job) (u : ℕ) (st : State) (f : ℕ) : Type 0 where
-  pub heavy : heavy job (sizeA job st.sides) ≡ some u
+  pub heavy : heavy job (size_a job st.sides) ≡ some u
   pub greatest : Greatest job st.sides u f
   pub moves : Moves st (moved st f) f
 
 module _ (job : Job) (u : ℕ) where
-  pub made : (st : State) (f : ℕ) → Toward job u st → balanceChoice job st ≡ some f → Made job u st f
+  pub made : (st : State) (f : ℕ) → Toward job u st → balance_choice job st ≡ some f → Made job u st f
   made st f t e =
       let c = choice-some job st f e in
       let same : c.0 ≡ u = t.way c.0 c.1 in
       let g : Greatest job st.sides u f = rw (← same) (greatest job st.sides c.0 f c.2) in
-      let lock : lockOf st f ≡ 0 = eqb-true (lockOf st f) 0 (sym (t.unlocked f g.below g.there) ∙ g.free) in
+      let lock : lock_of st f ≡ 0 = eqb-true (lock_of st f) 0 (sym (t.unlocked f g.below g.there) ∙ g.free) in
       record {
         heavy = rw (← same) c.1;
         greatest = g;
@@ -198,27 +198,27 @@ module _ (job : Job) (u : ℕ) where
       }
 
   -- a free file is no larger than smax
-  size-most : (f : ℕ) → f < fileCount job → isFree job f ≡ true → size_of job f ≤ smax job
+  size-most : (f : ℕ) → f < file_count job → is_free job f ≡ true → size_of job f ≤ smax job
   unfolding smax files
   size-most f h e =
-      let z : bit (isFree job f) ≡ 1 = ap bit e in
-      let l = largest-has (λ x. bit (isFree job x) * size_of job x) (fileCount job) f h in
-      let one : bit (isFree job f) * size_of job f ≡ size_of job f = rw z (omega arith) in
+      let z : bit (is_free job f) ≡ 1 = ap bit e in
+      let l = largest-has (λ x. bit (is_free job x) * size_of job x) (file_count job) f h in
+      let one : bit (is_free job f) * size_of job f ≡ size_of job f = rw z (omega arith) in
       omega (arith, one, l)
 
   -- nor than the tolerance, at every k over 0
-  size-within : 1 ≤ job.k → (f : ℕ) → f < fileCount job → isFree job f ≡ true → size_of job f ≤ tolerance job
+  size-within : 1 ≤ job.k → (f : ℕ) → f < file_count job → is_free job f ≡ true → size_of job f ≤ tolerance job
   size-within wide f h e = omega (arith, size-most f h e, one-mul (smax job), mul-le-mul_right {m = 1} {n = job.k} (smax job) wide)
 
   -- one move more keeps the way
-  pub toward-next : 1 ≤ job.k → (st : State) (f : ℕ) → Toward job u st → balanceChoice job st ≡ some f → Toward job u (moved st f)
+  pub toward-next : 1 ≤ job.k → (st : State) (f : ℕ) → Toward job u st → balance_choice job st ≡ some f → Toward job u (moved st f)
   toward-next wide st f t e =
       let m : Made job u st f = made st f t e in
-      let a : ℕ = sizeA job st.sides in
-      let b : ℕ = sizeA job (moved st f).sides in
+      let a : ℕ = size_a job st.sides in
+      let b : ℕ = size_a job (moved st f).sides in
       let z : ℕ = weighs job f in
       let s : b + bit (eqb u 0) * z ≡ a + bit (eqb (1 - u) 0) * z = rw (← m.greatest.there) (size-moved job m.moves m.greatest.below 0) in
-      let small : z ≤ tolerance job = omega (arith, bit-most (isRead job f) (size_of job f), size-within wide f m.greatest.below m.greatest.free) in
+      let small : z ≤ tolerance job = omega (arith, bit-most (is_read job f) (size_of job f), size-within wide f m.greatest.below m.greatest.free) in
       record {
         long = moved-long f t.long;
         binary = stays-binary m.moves;
@@ -234,8 +234,8 @@ module _ (job : Job) (u : ℕ) where
       }
     where
       next : (a b z : ℕ) → b + bit (eqb u 0) * z ≡ a + bit (eqb (1 - u) 0) * z → z ≤ tolerance job
-          → ((u ≡ 0) × (tooLarge job a ≡ true)) ⊎ ((u ≡ 1) × (tooSmall job a ≡ true)) → (v : ℕ)
-          → ((v ≡ 0) × (tooLarge job b ≡ true)) ⊎ ((v ≡ 1) × (tooSmall job b ≡ true)) → v ≡ u
+          → ((u ≡ 0) × (too_large job a ≡ true)) ⊎ ((u ≡ 1) × (too_small job a ≡ true)) → (v : ℕ)
+          → ((v ≡ 0) × (too_large job b ≡ true)) ⊎ ((v ≡ 1) × (too_small job b ≡ true)) → v ≡ u
       next a b z s l p v q =
           ⊎_elim
           (λ x. ⊎_elim (λ y. y.0 ∙ sym x.0) (λ y. clash (sym y.1 ∙ less-not-small job a b z (omega (arith, rw x.0 at s)) l x.1)) q)
@@ -245,98 +245,98 @@ module _ (job : Job) (u : ℕ) where
 -- ---- the same choice by the locks, which a machine that makes the moves keeps
 
 module _ (job : Job) where
-  abbrev pub unlockedOn : State → ℕ → ℕ → Bool
-  unlockedOn st u f = free st f && onSide st.sides u f
+  abbrev pub unlocked_on : State → ℕ → ℕ → Bool
+  unlocked_on st u f = free st f && on_side st.sides u f
 
-  unfoldable pub lockedChoice : State → Option ℕ
-  lockedChoice st =
-      elim (heavy job (sizeA job st.sides)) [
+  unfoldable pub locked_choice : State → Option ℕ
+  locked_choice st =
+      elim (heavy job (size_a job st.sides)) [
         | none ↦ none
-        | some u ↦ firstBelow (unlockedOn st u) (greater (gain st.sides (recipes job))) (fileCount job)
+        | some u ↦ first_below (unlocked_on st u) (greater (gain st.sides (recipes job))) (file_count job)
       ]
 
-  locked-stop : (st : State) → heavy job (sizeA job st.sides) ≡ none → lockedChoice st ≡ none
-  unfolding lockedChoice
-  locked-stop st e = rw (e, lockedChoice)
+  locked-stop : (st : State) → heavy job (size_a job st.sides) ≡ none → locked_choice st ≡ none
+  unfolding locked_choice
+  locked-stop st e = rw (e, locked_choice)
 
-  locked-go : (st : State) (u : ℕ) → heavy job (sizeA job st.sides) ≡ some u
-      → lockedChoice st ≡ firstBelow (unlockedOn st u) (greater (gain st.sides (recipes job))) (fileCount job)
-  unfolding lockedChoice
-  locked-go st u e = rw (e, lockedChoice)
+  locked-go : (st : State) (u : ℕ) → heavy job (size_a job st.sides) ≡ some u
+      → locked_choice st ≡ first_below (unlocked_on st u) (greater (gain st.sides (recipes job))) (file_count job)
+  unfolding locked_choice
+  locked-go st u e = rw (e, locked_choice)
 
-  pub locked-same : (u : ℕ) (st : State) → Toward job u st → balanceChoice job st ≡ lockedChoice st
-  unfolding greatestOn
-  locked-same u st t = go (heavy job (sizeA job st.sides)) refl
+  pub locked-same : (u : ℕ) (st : State) → Toward job u st → balance_choice job st ≡ locked_choice st
+  unfolding greatest_on
+  locked-same u st t = go (heavy job (size_a job st.sides)) refl
     where
-      test : (v f : ℕ) → v ≡ u → f < fileCount job → (b : Bool) → onSide st.sides v f ≡ b → (isFree job f && b) ≡ (free st f && b)
+      test : (v f : ℕ) → v ≡ u → f < file_count job → (b : Bool) → on_side st.sides v f ≡ b → (is_free job f && b) ≡ (free st f && b)
       test v f q h true e = ap (λ (x : Bool). x && true) (t.unlocked f h (eqb-true (side_of st.sides f) v e ∙ q))
-      test v f q h false e = and-false (isFree job f) ∙ sym (and-false (free st f))
+      test v f q h false e = and-false (is_free job f) ∙ sym (and-false (free st f))
 
-      go : (o : Option ℕ) → heavy job (sizeA job st.sides) ≡ o → balanceChoice job st ≡ lockedChoice st
+      go : (o : Option ℕ) → heavy job (size_a job st.sides) ≡ o → balance_choice job st ≡ locked_choice st
       go none e = choice-stop job st e ∙ sym (locked-stop st e)
       go (some v) e =
           choice-go job st v e
-          ∙ first-same (freeOn job st.sides v) (unlockedOn st v) _ _ (fileCount job) (λ f h. test v f (t.way v e) h (onSide st.sides v f) refl) (λ f g h k p q. refl)
+          ∙ first-same (free_on job st.sides v) (unlocked_on st v) _ _ (file_count job) (λ f h. test v f (t.way v e) h (on_side st.sides v f) refl) (λ f g h k p q. refl)
           ∙ sym (locked-go st v e)
 
   -- it picks files then still free
-  pub locked-picks : Picks (fileCount job) lockedChoice moved (λ s. s) (StateLong (fileCount job))
-  locked-picks = record { seen = λ s f. refl; long = λ s l. l; keeps = λ s f l e. moved-long f l; free = λ s f l e. good s f e (heavy job (sizeA job s.sides)) refl }
+  pub locked-picks : Picks (file_count job) locked_choice moved (λ s. s) (StateLong (file_count job))
+  locked-picks = record { seen = λ s f. refl; long = λ s l. l; keeps = λ s f l e. moved-long f l; free = λ s f l e. good s f e (heavy job (size_a job s.sides)) refl }
     where
-      good : (st : State) (f : ℕ) → lockedChoice st ≡ some f → (o : Option ℕ) → heavy job (sizeA job st.sides) ≡ o → (f < fileCount job) × (lockOf st f ≡ 0)
+      good : (st : State) (f : ℕ) → locked_choice st ≡ some f → (o : Option ℕ) → heavy job (size_a job st.sides) ≡ o → (f < file_count job) × (lock_of st f ≡ 0)
       good st f e none h = no-some f (sym (locked-stop st h) ∙ e)
       good st f e (some u) h =
-          let q = first-ok (unlockedOn st u) (greater (gain st.sides (recipes job))) (fileCount job) f (sym (locked-go st u h) ∙ e) in
-          (q.0, eqb-true (lockOf st f) 0 (and_yes (free st f) (onSide st.sides u f) q.1).0)
+          let q = first-ok (unlocked_on st u) (greater (gain st.sides (recipes job))) (file_count job) f (sym (locked-go st u h) ∙ e) in
+          (q.0, eqb-true (lock_of st f) 0 (and_yes (free st f) (on_side st.sides u f) q.1).0)
 
   -- and by a gain list that is fresh: what code has at hand is enough
-  pub listed_same : (u : ℕ) (st : State) (g : List ℤ) → Toward job u st → heavy job (sizeA job st.sides) ≡ some u → length g ≡ fileCount job → Fresh (recipes job) st g
-      → firstBelow (unlockedOn st u) (greater (λ f. get_or g f (pos 0))) (fileCount job) ≡ balanceChoice job st
+  pub listed_same : (u : ℕ) (st : State) (g : List ℤ) → Toward job u st → heavy job (size_a job st.sides) ≡ some u → length g ≡ file_count job → Fresh (recipes job) st g
+      → first_below (unlocked_on st u) (greater (λ f. get_or g f (pos 0))) (file_count job) ≡ balance_choice job st
   listed_same u st g t e long fresh =
-      first-same (unlockedOn st u) (unlockedOn st u) (greater (λ f. get_or g f (pos 0))) (greater (gain st.sides (recipes job))) (fileCount job) (λ f h. refl)
+      first-same (unlocked_on st u) (unlocked_on st u) (greater (λ f. get_or g f (pos 0))) (greater (gain st.sides (recipes job))) (file_count job) (λ f h. refl)
       (λ f x h k p q. ap₂ lt_z (same x k q) (same f h p))
       ∙ sym (locked-go st u e) ∙ sym (locked-same u st t)
     where
-      same : (f : ℕ) → f < fileCount job → unlockedOn st u f ≡ true → get_or g f (pos 0) ≡ gain st.sides (recipes job) f
-      same f h p = fresh f (omega arith) (eqb-true (lockOf st f) 0 (and_yes (free st f) (onSide st.sides u f) p).0)
+      same : (f : ℕ) → f < file_count job → unlocked_on st u f ≡ true → get_or g f (pos 0) ≡ gain st.sides (recipes job) f
+      same f h p = fresh f (omega arith) (eqb-true (lock_of st f) 0 (and_yes (free st f) (on_side st.sides u f) p).0)
 
 -- ---- what |A| can be
 
 module _ (job : Job) (sides : List ℕ) where
   -- no assignment has less than the least, nor more than the most
-  least-le : Assignment job sides → leastA job ≤ sizeA job sides
-  unfolding leastA sizeOn files
-  least-le w = total-below _ _ (fileCount job) (λ f h. go f (isFree job f) refl h)
+  least-le : Assignment job sides → least_a job ≤ size_a job sides
+  unfolding least_a size_on files
+  least-le w = total-below _ _ (file_count job) (λ f h. go f (is_free job f) refl h)
     where
-      go : (f : ℕ) (b : Bool) → isFree job f ≡ b → f < fileCount job → bit (not b && onSide job.sides 0 f) * weighs job f ≤ bit (onSide sides 0 f) * weighs job f
+      go : (f : ℕ) (b : Bool) → is_free job f ≡ b → f < file_count job → bit (not b && on_side job.sides 0 f) * weighs job f ≤ bit (on_side sides 0 f) * weighs job f
       go f true e h = omega arith
       go f false e h = rw (w.stays f h e) (omega arith)
 
-  le-most : Assignment job sides → sizeA job sides ≤ mostA job
-  unfolding mostA sizeOn files
-  le-most w = total-below _ _ (fileCount job) (λ f h. go f (isFree job f) refl h)
+  le-most : Assignment job sides → size_a job sides ≤ most_a job
+  unfolding most_a size_on files
+  le-most w = total-below _ _ (file_count job) (λ f h. go f (is_free job f) refl h)
     where
-      go : (f : ℕ) (b : Bool) → isFree job f ≡ b → f < fileCount job → bit (onSide sides 0 f) * weighs job f ≤ bit (b || onSide job.sides 0 f) * weighs job f
-      go f true e h = omega (arith, bit-most (onSide sides 0 f) (weighs job f))
+      go : (f : ℕ) (b : Bool) → is_free job f ≡ b → f < file_count job → bit (on_side sides 0 f) * weighs job f ≤ bit (b || on_side job.sides 0 f) * weighs job f
+      go f true e h = omega (arith, bit-most (on_side sides 0 f) (weighs job f))
       go f false e h = rw (w.stays f h e) (omega arith)
 
   -- with no free file in A it is the least, with none in B the most
-  none_left : Assignment job sides → ((f : ℕ) → f < fileCount job → freeOn job sides 0 f ≡ false) → sizeA job sides ≤ leastA job
-  unfolding leastA sizeOn files
-  none_left w empty = total-below _ _ (fileCount job) (λ f h. go f (isFree job f) (onSide sides 0 f) refl refl h (empty f h))
+  none_left : Assignment job sides → ((f : ℕ) → f < file_count job → free_on job sides 0 f ≡ false) → size_a job sides ≤ least_a job
+  unfolding least_a size_on files
+  none_left w empty = total-below _ _ (file_count job) (λ f h. go f (is_free job f) (on_side sides 0 f) refl refl h (empty f h))
     where
-      go : (f : ℕ) (b c : Bool) → isFree job f ≡ b → onSide sides 0 f ≡ c → f < fileCount job → (b && c) ≡ false
-          → bit c * weighs job f ≤ bit (not b && onSide job.sides 0 f) * weighs job f
+      go : (f : ℕ) (b c : Bool) → is_free job f ≡ b → on_side sides 0 f ≡ c → f < file_count job → (b && c) ≡ false
+          → bit c * weighs job f ≤ bit (not b && on_side job.sides 0 f) * weighs job f
       go f true true e q h n = clash n
       go f true false e q h n = omega arith
       go f false c e q h n = rw (← q, w.stays f h e) (omega arith)
 
-  all_there : Assignment job sides → ((f : ℕ) → f < fileCount job → freeOn job sides 1 f ≡ false) → mostA job ≤ sizeA job sides
-  unfolding mostA sizeOn files
-  all_there w empty = total-below _ _ (fileCount job) (λ f h. go f (isFree job f) refl h (empty f h))
+  all_there : Assignment job sides → ((f : ℕ) → f < file_count job → free_on job sides 1 f ≡ false) → most_a job ≤ size_a job sides
+  unfolding most_a size_on files
+  all_there w empty = total-below _ _ (file_count job) (λ f h. go f (is_free job f) refl h (empty f h))
     where
-      go : (f : ℕ) (b : Bool) → isFree job f ≡ b → f < fileCount job → (b && onSide sides 1 f) ≡ false
-          → bit (b || onSide job.sides 0 f) * weighs job f ≤ bit (onSide sides 0 f) * weighs job f
+      go : (f : ℕ) (b : Bool) → is_free job f ≡ b → f < file_count job → (b && on_side sides 1 f) ≡ false
+          → bit (b || on_side job.sides 0 f) * weighs job f ≤ bit (on_side sides 0 f) * weighs job f
       go f true e h n =
           let l = w.binary f h e in
           let m : side_of sides f ≢ 1 = eqb-false (side_of sides f) 1 n in
@@ -344,30 +344,30 @@ module _ (job : Job) (sides : List ℕ) where
       go f false e h n = rw (w.stays f h e) (omega arith)
 
   -- so where it is given that none is balanced none is, and where it is not the split is balanced once no file is left to move
-  pub none-balanced : noneBalanced job ≡ true → Assignment job sides → balanced job (sizeA job sides) ≡ false
-  unfolding noneBalanced
-  none-balanced h w = go (tooLarge job (leastA job)) refl h
+  pub none-balanced : none_balanced job ≡ true → Assignment job sides → balanced job (size_a job sides) ≡ false
+  unfolding none_balanced
+  none-balanced h w = go (too_large job (least_a job)) refl h
     where
       a : ℕ
-      a = sizeA job sides
+      a = size_a job sides
 
-      go : (b : Bool) → tooLarge job (leastA job) ≡ b → (b || tooSmall job (mostA job)) ≡ true → balanced job a ≡ false
-      go true e q = (halves job a).neither ∙ rw (large-up job (leastA job) a (least-le w) e) (and-false (not (tooSmall job a)))
-      go false e q = (halves job a).neither ∙ rw (small-down job a (mostA job) (le-most w) q) refl
+      go : (b : Bool) → too_large job (least_a job) ≡ b → (b || too_small job (most_a job)) ≡ true → balanced job a ≡ false
+      go true e q = (halves job a).neither ∙ rw (large-up job (least_a job) a (least-le w) e) (and-false (not (too_small job a)))
+      go false e q = (halves job a).neither ∙ rw (small-down job a (most_a job) (le-most w) q) refl
 
-  pub left-balanced : noneBalanced job ≡ false → Assignment job sides
-      → ((u f : ℕ) → heavy job (sizeA job sides) ≡ some u → f < fileCount job → freeOn job sides u f ≡ false) → balanced job (sizeA job sides) ≡ true
-  unfolding noneBalanced
+  pub left-balanced : none_balanced job ≡ false → Assignment job sides
+      → ((u f : ℕ) → heavy job (size_a job sides) ≡ some u → f < file_count job → free_on job sides u f ≡ false) → balanced job (size_a job sides) ≡ true
+  unfolding none_balanced
   left-balanced h w empty = (halves job a).uneven (go (heavy job a) refl)
     where
       a : ℕ
-      a = sizeA job sides
+      a = size_a job sides
 
       go : (o : Option ℕ) → heavy job a ≡ o → heavy job a ≡ none
       go none e = e
       go (some u) e =
-          let q = or_no (tooLarge job (leastA job)) (tooSmall job (mostA job)) h in
+          let q = or_no (too_large job (least_a job)) (too_small job (most_a job)) h in
           ⊎_elim
-          (λ x. clash (sym (large-up job a (leastA job) (none_left w (λ f l. empty 0 f (e ∙ ap (λ (n : ℕ). some n) x.0) l)) x.1) ∙ q.0))
-          (λ x. clash (sym (small-down job (mostA job) a (all_there w (λ f l. empty 1 f (e ∙ ap (λ (n : ℕ). some n) x.0) l)) x.1) ∙ q.1))
+          (λ x. clash (sym (large-up job a (least_a job) (none_left w (λ f l. empty 0 f (e ∙ ap (λ (n : ℕ). some n) x.0) l)) x.1) ∙ q.0))
+          (λ x. clash (sym (small-down job (most_a job) a (all_there w (λ f l. empty 1 f (e ∙ ap (λ (n : ℕ). some n) x.0) l)) x.1) ∙ q.1))
           (heavy-some job a u e)

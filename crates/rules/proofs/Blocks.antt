@@ -9,8 +9,8 @@ use lib.ListN.{get_or, drop}
 use lib.Seq.{drop-nil}
 use Rattle.rules.specs.declared.Header.{Header}
 use Rattle.rules.specs.Lists.{total}
-use Rattle.rules.specs.Check.{done, ◌orElse◌}
-use Rattle.rules.specs.Stored.{weigh, blockVerdict, furtherRows, blocksVerdict}
+use Rattle.rules.specs.Check.{done, ◌or_else◌}
+use Rattle.rules.specs.Stored.{weigh, block_verdict, further_rows, blocks_verdict}
 use Rattle.rules.proofs.Verdicts.{or_assoc, passes-both, both-pass}
 
 -- counted from one place later, each byte weighs one more of itself
@@ -35,22 +35,22 @@ weigh-running (b ∷ bs) (suc j) = weigh-running bs j
 
 -- of the n blocks from b on, those from the kth on
 module _ (h : Header) (bytes : List ℕ) (b n k : ℕ) where
-  pub blocks_more : k < n → blocksVerdict h bytes (b + k) (n - k) ≡ (blockVerdict h bytes (b + k) or_else blocksVerdict h bytes (b + (k + 1)) (n - (k + 1)))
-  unfolding blocksVerdict blockVerdict furtherRows
+  pub blocks_more : k < n → blocks_verdict h bytes (b + k) (n - k) ≡ (block_verdict h bytes (b + k) or_else blocks_verdict h bytes (b + (k + 1)) (n - (k + 1)))
+  unfolding blocks_verdict block_verdict further_rows
   blocks_more l =
       let e : n - k ≡ suc (n - (k + 1)) = omega arith in
       let f : b + (k + 1) ≡ suc (b + k) = omega arith in
       rw (e, f)
 
-  pub blocks_end : n ≤ k → blocksVerdict h bytes (b + k) (n - k) ≡ done
-  unfolding blocksVerdict blockVerdict furtherRows
+  pub blocks_end : n ≤ k → blocks_verdict h bytes (b + k) (n - k) ≡ done
+  unfolding blocks_verdict block_verdict further_rows
   blocks_end l =
       let e : n - k ≡ 0 = omega arith in
       rw e
 
 -- the m blocks from b on, then the n blocks after them
-pub blocks-split : (h : Header) (bytes : List ℕ) (b m n : ℕ) → blocksVerdict h bytes b (m + n) ≡ (blocksVerdict h bytes b m or_else blocksVerdict h bytes (b + m) n)
-unfolding blocksVerdict blockVerdict furtherRows
+pub blocks-split : (h : Header) (bytes : List ℕ) (b m n : ℕ) → blocks_verdict h bytes b (m + n) ≡ (blocks_verdict h bytes b m or_else blocks_verdict h bytes (b + m) n)
+unfolding blocks_verdict block_verdict further_rows
 blocks-split h bytes b zero n =
     let e : 0 + n ≡ n = omega arith in
     let f : b + 0 ≡ b = omega arith in
@@ -58,21 +58,21 @@ blocks-split h bytes b zero n =
 blocks-split h bytes b (suc m) n =
     let e : suc m + n ≡ suc (m + n) = omega arith in
     let f : b + suc m ≡ suc b + m = omega arith in
-    rw (e, f, blocks-split h bytes (suc b) m n) (sym (or_assoc (blockVerdict h bytes b) (blocksVerdict h bytes (suc b) m) (blocksVerdict h bytes (suc b + m) n)))
+    rw (e, f, blocks-split h bytes (suc b) m n) (sym (or_assoc (block_verdict h bytes b) (blocks_verdict h bytes (suc b) m) (blocks_verdict h bytes (suc b + m) n)))
 
 -- ---- the blocks from b on, n of them
 
-pub blocks-pass : (h : Header) (bytes : List ℕ) (b n : ℕ) → ((i : ℕ) → b ≤ i → i < b + n → (blockVerdict h bytes i).number ≡ 0) → (blocksVerdict h bytes b n).number ≡ 0
-unfolding blocksVerdict blockVerdict furtherRows
+pub blocks-pass : (h : Header) (bytes : List ℕ) (b n : ℕ) → ((i : ℕ) → b ≤ i → i < b + n → (block_verdict h bytes i).number ≡ 0) → (blocks_verdict h bytes b n).number ≡ 0
+unfolding blocks_verdict block_verdict further_rows
 blocks-pass h bytes b zero each = refl
 blocks-pass h bytes b (suc n) each =
-    both-pass (blockVerdict h bytes b) (blocksVerdict h bytes (suc b) n) (each b (omega arith) (omega arith)) (blocks-pass h bytes (suc b) n (λ i k l. each i (omega arith) (omega arith)))
+    both-pass (block_verdict h bytes b) (blocks_verdict h bytes (suc b) n) (each b (omega arith) (omega arith)) (blocks-pass h bytes (suc b) n (λ i k l. each i (omega arith) (omega arith)))
 
-pub blocks-each : (h : Header) (bytes : List ℕ) (b n : ℕ) → (blocksVerdict h bytes b n).number ≡ 0 → (i : ℕ) → b ≤ i → i < b + n → (blockVerdict h bytes i).number ≡ 0
-unfolding blocksVerdict blockVerdict furtherRows
+pub blocks-each : (h : Header) (bytes : List ℕ) (b n : ℕ) → (blocks_verdict h bytes b n).number ≡ 0 → (i : ℕ) → b ≤ i → i < b + n → (block_verdict h bytes i).number ≡ 0
+unfolding blocks_verdict block_verdict further_rows
 blocks-each h bytes b zero ok i k l = absurd (omega arith)
 blocks-each h bytes b (suc n) ok i k l =
-    let r = passes-both (blockVerdict h bytes b) (blocksVerdict h bytes (suc b) n) ok in
+    let r = passes-both (block_verdict h bytes b) (blocks_verdict h bytes (suc b) n) ok in
     elim (ℕ_discrete i b) [
       | yes e ↦ rw e r.0
       | no z ↦ blocks-each h bytes (suc b) n r.1 i (omega arith) (omega arith)

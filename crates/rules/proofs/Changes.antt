@@ -8,27 +8,27 @@ use lib.IntN.{ℤ}
 use lib.ListN.{get_or}
 use borrow.Author.Tests.{ltb-true, lt-ltb}
 use Rattle.rules.specs.Lists.{total, count, those}
-use Rattle.rules.specs.Split.{onSide, other, times, holds}
-use Rattle.rules.specs.Move.{stepsBy, State, free, Scan, reaches, touches, scanPins, scanAll, Change, changeOf, changesIn, changesBy, changed}
+use Rattle.rules.specs.Split.{on_side, other, times, holds}
+use Rattle.rules.specs.Move.{steps_by, State, free, Scan, reaches, touches, scan_pins, scan_all, Change, change_of, changes_in, changes_by, changed}
 use Rattle.rules.specs.Theorems.{ScansChange}
 use Rattle.rules.proofs.Tests.{and_yes}
 use Rattle.rules.proofs.Count.{hit-self}
 use Rattle.rules.proofs.InTurn.{Every, every_append}
 
-pub steps-append {ℓ κ} : {S : Type ℓ} {A : Type κ} (step : S → A → S) (s : S) (xs ys : List A) → stepsBy step s (xs ++ ys) ≡ stepsBy step (stepsBy step s xs) ys
-unfolding stepsBy
+pub steps-append {ℓ κ} : {S : Type ℓ} {A : Type κ} (step : S → A → S) (s : S) (xs ys : List A) → steps_by step s (xs ++ ys) ≡ steps_by step (steps_by step s xs) ys
+unfolding steps_by
 steps-append step s [] ys = refl
 steps-append step s (x ∷ xs) ys = steps-append step (step s x) xs ys
 
 module _ (st : State) (t : ℕ) where
   -- one scan
-  scan-changes : (k : ℕ) (r : List ℕ) (g : List ℤ) → scanPins st t k r g ≡ stepsBy changed g (changesIn st t k r)
-  unfolding scanPins changesIn those stepsBy
+  scan-changes : (k : ℕ) (r : List ℕ) (g : List ℤ) → scan_pins st t k r g ≡ steps_by changed g (changes_in st t k r)
+  unfolding scan_pins changes_in those steps_by
   scan-changes k [] g = refl
   scan-changes k (x ∷ r) g = scan-changes k r _ ∙ go (touches st t k x)
     where
-      go : (b : Bool) → stepsBy changed (cond b (changed g (changeOf k x)) g) (map (changeOf k) (those (touches st t k) r))
-          ≡ stepsBy changed g (map (changeOf k) (cond b (x ∷ those (touches st t k) r) (those (touches st t k) r)))
+      go : (b : Bool) → steps_by changed (cond b (changed g (change_of k x)) g) (map (change_of k) (those (touches st t k) r))
+          ≡ steps_by changed g (map (change_of k) (cond b (x ∷ those (touches st t k) r) (those (touches st t k) r)))
       go true = refl
       go false = refl
 
@@ -36,8 +36,8 @@ module _ (st : State) (t : ℕ) where
   abbrev Touched : List ℕ → Change → Type 0
   Touched r c = (free st c.file ≡ true) × (holds r c.file ≡ true)
 
-  touched-in : (k : ℕ) (d : Change) (r : List ℕ) → Every d (Touched r) (changesIn st t k r)
-  unfolding changesIn those
+  touched-in : (k : ℕ) (d : Change) (r : List ℕ) → Every d (Touched r) (changes_in st t k r)
+  unfolding changes_in those
   touched-in k d [] = λ i h. absurd (omega arith)
   touched-in k d (x ∷ r) = go (touches st t k x) refl (λ i h. let q = touched-in k d r i h in (q.0, more _ q.1))
     where
@@ -47,26 +47,26 @@ module _ (st : State) (t : ℕ) where
       first : holds (x ∷ r) x ≡ true
       first = lt-ltb 0 (times x (x ∷ r)) (unfold times count total in omega (arith, hit-self x))
 
-      go : (b : Bool) → touches st t k x ≡ b → Every d (Touched (x ∷ r)) (map (changeOf k) (those (touches st t k) r))
-          → Every d (Touched (x ∷ r)) (map (changeOf k) (cond b (x ∷ those (touches st t k) r) (those (touches st t k) r)))
-      go true e ih zero h = ((and_yes (free st x) (reaches (onSide st.sides t x) (onSide st.sides (other t) x) k) e).0, first)
+      go : (b : Bool) → touches st t k x ≡ b → Every d (Touched (x ∷ r)) (map (change_of k) (those (touches st t k) r))
+          → Every d (Touched (x ∷ r)) (map (change_of k) (cond b (x ∷ those (touches st t k) r) (those (touches st t k) r)))
+      go true e ih zero h = ((and_yes (free st x) (reaches (on_side st.sides t x) (on_side st.sides (other t) x) k) e).0, first)
       go true e ih (suc i) h = ih i (omega arith)
       go false e ih i h = ih i h
 
   module _ (rs : List (List ℕ)) where
-    all-changes : (cs : List Scan) (g : List ℤ) → scanAll rs st t cs g ≡ stepsBy changed g (changesBy rs st t cs)
-    unfolding scanAll changesBy stepsBy
+    all-changes : (cs : List Scan) (g : List ℤ) → scan_all rs st t cs g ≡ steps_by changed g (changes_by rs st t cs)
+    unfolding scan_all changes_by steps_by
     all-changes [] g = refl
     all-changes (c ∷ cs) g =
         let r : List ℕ = get_or rs c.recipe [] in
-        all-changes cs _ ∙ ap (λ (x : List ℤ). stepsBy changed x (changesBy rs st t cs)) (scan-changes c.kind r g)
-        ∙ sym (steps-append changed g (changesIn st t c.kind r) (changesBy rs st t cs))
+        all-changes cs _ ∙ ap (λ (x : List ℤ). steps_by changed x (changes_by rs st t cs)) (scan-changes c.kind r g)
+        ∙ sym (steps-append changed g (changes_in st t c.kind r) (changes_by rs st t cs))
 
-    touched-by : (d : Change) (cs : List Scan) → Every d (λ c. (free st c.file ≡ true) × (j : ℕ) × (holds (get_or rs j []) c.file ≡ true)) (changesBy rs st t cs)
-    unfolding changesBy
+    touched-by : (d : Change) (cs : List Scan) → Every d (λ c. (free st c.file ≡ true) × (j : ℕ) × (holds (get_or rs j []) c.file ≡ true)) (changes_by rs st t cs)
+    unfolding changes_by
     touched-by d [] = λ i h. absurd (omega arith)
     touched-by d (c ∷ cs) =
-        every_append d (λ c. (free st c.file ≡ true) × (j : ℕ) × (holds (get_or rs j []) c.file ≡ true)) (changesIn st t c.kind (get_or rs c.recipe [])) (changesBy rs st t cs)
+        every_append d (λ c. (free st c.file ≡ true) × (j : ℕ) × (holds (get_or rs j []) c.file ≡ true)) (changes_in st t c.kind (get_or rs c.recipe [])) (changes_by rs st t cs)
         (λ i h. let q = touched-in c.kind d (get_or rs c.recipe []) i h in (q.0, c.recipe, q.1)) (touched-by d cs)
 
 pub scans-change : (rs : List (List ℕ)) (st : State) (t : ℕ) → ScansChange rs st t

@@ -12,11 +12,11 @@ use lib.IntN.{ℤ, pos}
 use lib.Signed.{lt_z}
 use lib.ListN.{length, get_or}
 use borrow.Author.Tests.{not-true, ltb-true, ltb-false, eqb-true}
-use Rattle.rules.specs.Job.{Job, fileCount, recipes}
+use Rattle.rules.specs.Job.{Job, file_count, recipes}
 use Rattle.rules.specs.Split.{gain, balanced}
-use Rattle.rules.specs.Move.{State, lockOf, free, sizeAfter, legal, distAfter, better, firstBelow, choose}
+use Rattle.rules.specs.Move.{State, lock_of, free, size_after, legal, dist_after, better, first_below, choose}
 use Rattle.rules.specs.Theorems.{Chosen}
-use Rattle.rules.proofs.Signed.{up, down, ltZ-true, ltZ-false}
+use Rattle.rules.proofs.Signed.{up, down, lt_z-true, lt_z-false}
 use Rattle.rules.proofs.GainKept.{Fresh}
 use Rattle.rules.proofs.Tests.{or_no, and_yes, and_no, contra, contra'}
 use Rattle.rules.proofs.First.{Order, first_some, first-none, first-same}
@@ -33,21 +33,21 @@ module _ (G : ℕ → ℤ) (D : ℕ → ℕ) where
   yes-cases f g h = go (lt_z (G g) (G f)) refl h
     where
       go : (b : Bool) → lt_z (G g) (G f) ≡ b → (b || (not (lt_z (G f) (G g)) && ltb (D f) (D g))) ≡ true → less g f ⊎ ((¬ less f g) × (D f < D g))
-      go true e k = inl (ltZ-true (G g) (G f) e)
+      go true e k = inl (lt_z-true (G g) (G f) e)
       go false e k =
           let t = and_yes (not (lt_z (G f) (G g))) (ltb (D f) (D g)) k in
-          let l = ltZ-false (G f) (G g) (not-true (lt_z (G f) (G g)) t.0) in
+          let l = lt_z-false (G f) (G g) (not-true (lt_z (G f) (G g)) t.0) in
           inr ((λ z. omega arith), ltb-true (D f) (D g) t.1)
 
   no_cases : (f g : ℕ) → better G D f g ≡ false → (¬ less g f) × (less f g ⊎ (D g ≤ D f))
   unfolding less
   no_cases f g h =
       let t = or_no (lt_z (G g) (G f)) (not (lt_z (G f) (G g)) && ltb (D f) (D g)) h in
-      let l = ltZ-false (G g) (G f) t.0 in
+      let l = lt_z-false (G g) (G f) t.0 in
       ((λ z. omega arith), go (lt_z (G f) (G g)) refl t.1)
     where
       go : (b : Bool) → lt_z (G f) (G g) ≡ b → (not b && ltb (D f) (D g)) ≡ false → less f g ⊎ (D g ≤ D f)
-      go true e k = inl (ltZ-true (G f) (G g) e)
+      go true e k = inl (lt_z-true (G f) (G g) e)
       go false e k = inr (ltb-false (D f) (D g) k)
 
   is-yes : (f g : ℕ) → less g f ⊎ ((¬ less f g) × (D f < D g)) → better G D f g ≡ true
@@ -85,8 +85,8 @@ pub chosen : (job : Job) (st : State) (f : ℕ) → choose job st ≡ some f →
 unfolding choose
 chosen job st f e =
     let G : ℕ → ℤ = gain st.sides (recipes job) in
-    let D : ℕ → ℕ = distAfter job st in
-    let r = first_some (legal job st) (better G D) (better-order G D) (fileCount job) f e in
+    let D : ℕ → ℕ = dist_after job st in
+    let r = first_some (legal job st) (better G D) (better-order G D) (file_count job) f e in
     record {
       below = r.below;
       lawful = r.fine;
@@ -98,9 +98,9 @@ chosen job st f e =
           (sym (ap (λ (b : Bool). b || (not (lt_z (G f) (G g)) && ltb (D f) (D g))) z) ∙ r.lower g h k)).1;
     }
 
-pub nothing_left : (job : Job) (st : State) → choose job st ≡ none → (g : ℕ) → g < fileCount job → legal job st g ≡ false
+pub nothing_left : (job : Job) (st : State) → choose job st ≡ none → (g : ℕ) → g < file_count job → legal job st g ≡ false
 unfolding choose
-nothing_left job st e = first-none (legal job st) (better (gain st.sides (recipes job)) (distAfter job st)) (fileCount job) e
+nothing_left job st e = first-none (legal job st) (better (gain st.sides (recipes job)) (dist_after job st)) (file_count job) e
 
 -- so there is only one such file
 pub chosen-one : (job : Job) (st : State) (f g : ℕ) → Chosen job st f → Chosen job st g → f ≡ g
@@ -121,13 +121,13 @@ chosen-one job st f g p q = elim (dec_lt f g) [
         )
 
 -- the choice by a gain list that is fresh is the choice by the gains afresh
-pub choose-listed : (job : Job) (st : State) (g : List ℤ) → length g ≡ fileCount job → Fresh (recipes job) st g
-    → firstBelow (legal job st) (better (λ f. get_or g f (pos 0)) (distAfter job st)) (fileCount job) ≡ choose job st
+pub choose-listed : (job : Job) (st : State) (g : List ℤ) → length g ≡ file_count job → Fresh (recipes job) st g
+    → first_below (legal job st) (better (λ f. get_or g f (pos 0)) (dist_after job st)) (file_count job) ≡ choose job st
 unfolding choose legal
 choose-listed job st g long fresh =
-    first-same (legal job st) (legal job st) (better (λ f. get_or g f (pos 0)) (distAfter job st)) (better (gain st.sides (recipes job)) (distAfter job st)) (fileCount job)
+    first-same (legal job st) (legal job st) (better (λ f. get_or g f (pos 0)) (dist_after job st)) (better (gain st.sides (recipes job)) (dist_after job st)) (file_count job)
     (λ f h. refl)
-    (λ f x h k p q. ap₂ (λ (y z : ℤ). lt_z y z || (not (lt_z z y) && ltb (distAfter job st f) (distAfter job st x))) (same x k q) (same f h p))
+    (λ f x h k p q. ap₂ (λ (y z : ℤ). lt_z y z || (not (lt_z z y) && ltb (dist_after job st f) (dist_after job st x))) (same x k q) (same f h p))
   where
-    same : (f : ℕ) → f < fileCount job → (free st f && balanced job (sizeAfter job st f)) ≡ true → get_or g f (pos 0) ≡ gain st.sides (recipes job) f
-    same f h p = fresh f (omega arith) (eqb-true (lockOf st f) 0 (and_yes (free st f) (balanced job (sizeAfter job st f)) p).0)
+    same : (f : ℕ) → f < file_count job → (free st f && balanced job (size_after job st f)) ≡ true → get_or g f (pos 0) ≡ gain st.sides (recipes job) f
+    same f h p = fresh f (omega arith) (eqb-true (lock_of st f) 0 (and_yes (free st f) (balanced job (size_after job st f)) p).0)

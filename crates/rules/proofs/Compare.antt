@@ -11,12 +11,12 @@ use lib.ListN.{length, length-append}
 use borrow.Author.Tests.{eqb-true, eqb-false, eq-eqb, ne_eqb}
 use Rattle.rules.specs.declared.Difference.{Difference}
 use Rattle.rules.specs.Lists.{in_turn}
-use Rattle.rules.specs.Job.{Job, fileCount, recipeCount, view}
-use Rattle.rules.specs.Writing.{headerFor}
-use Rattle.rules.specs.Compare.{difference, figure, headDifferences, fileDifferences, same, recipeDifferences, differences}
+use Rattle.rules.specs.Job.{Job, file_count, recipe_count, view}
+use Rattle.rules.specs.Writing.{header_for}
+use Rattle.rules.specs.Compare.{difference, figure, head_differences, file_differences, same, recipe_differences, differences}
 use Rattle.rules.specs.Comparing.{shown, Told, Has}
 use Rattle.rules.proofs.Tests.{clash, and_yes, and_both, contra}
-use Rattle.rules.proofs.InTurn.{Every, Entry, every_append, every-inTurn, entry-left, entry-right, entry-inTurn, inTurn-few}
+use Rattle.rules.proofs.InTurn.{Every, Entry, every_append, every-in_turn, entry-left, entry-right, entry-in_turn, in_turn-few}
 
 -- ---- the same numbers in the same order
 
@@ -63,18 +63,18 @@ if-entry b d e = rw e (0, omega arith, refl)
 
 module _ (old new : Job) where
   -- the record of this kind and number
-  abbrev recordOf : ℕ → ℕ → Difference
-  recordOf what n = difference what n (shown old what n) (shown new what n)
+  abbrev record_of : ℕ → ℕ → Difference
+  record_of what n = difference what n (shown old what n) (shown new what n)
 
-  abbrev figureOf : ℕ → ℕ → List Difference
-  figureOf what n = figure what n (shown old what n) (shown new what n)
+  abbrev figure_of : ℕ → ℕ → List Difference
+  figure_of what n = figure what n (shown old what n) (shown new what n)
 
   -- 6 never differs
   six-alike : (what n : ℕ) → what ≡ 6 → shown old what n ≡ shown new what n
   six-alike what n e = rw e refl
 
-  figure-told : (what n : ℕ) → 1 ≤ what → what ≤ 10 → (what ≤ 7 → n ≡ 0) → Every nothing (Told old new) (figureOf what n)
-  figure-told what n h l z = if-every (Told old new) (eqb (shown old what n) (shown new what n)) (recordOf what n) (λ e. record {
+  figure-told : (what n : ℕ) → 1 ≤ what → what ≤ 10 → (what ≤ 7 → n ≡ 0) → Every nothing (Told old new) (figure_of what n)
+  figure-told what n h l z = if-every (Told old new) (eqb (shown old what n) (shown new what n)) (record_of what n) (λ e. record {
     kind = (h, omega arith, λ q. eqb-false (shown old what n) (shown new what n) e (six-alike what n q));
     before = refl;
     after = refl;
@@ -83,20 +83,20 @@ module _ (old new : Job) where
     header = z;
   })
 
-  figure-entry : (what n : ℕ) → shown old what n ≢ shown new what n → Entry nothing (recordOf what n) (figureOf what n)
-  figure-entry what n h = if-entry (eqb (shown old what n) (shown new what n)) (recordOf what n) (ne_eqb (shown old what n) (shown new what n) h)
+  figure-entry : (what n : ℕ) → shown old what n ≢ shown new what n → Entry nothing (record_of what n) (figure_of what n)
+  figure-entry what n h = if-entry (eqb (shown old what n) (shown new what n)) (record_of what n) (ne_eqb (shown old what n) (shown new what n) h)
 
   -- ---- figures of several kinds, one after the other: the header's are 1 to 5 and 7, and a file's are 8 to 10
 
   abbrev figures : ℕ → ℕ → ℕ → List Difference
-  figures n from count = in_turn (λ (i : ℕ). figureOf (from + i) n) count
+  figures n from count = in_turn (λ (i : ℕ). figure_of (from + i) n) count
 
-  head-is : figures 0 1 5 ++ figures 0 7 1 ≡ headDifferences (headerFor old) (headerFor new)
-  unfolding in_turn headDifferences
+  head-is : figures 0 1 5 ++ figures 0 7 1 ≡ head_differences (header_for old) (header_for new)
+  unfolding in_turn head_differences
   head-is = refl
 
-  file-is : (f : ℕ) → figures f 8 3 ≡ fileDifferences old new f
-  unfolding in_turn fileDifferences
+  file-is : (f : ℕ) → figures f 8 3 ≡ file_differences old new f
+  unfolding in_turn file_differences
   file-is f = refl
 
   abbrev AllTold : List Difference → Type 0
@@ -104,23 +104,23 @@ module _ (old new : Job) where
 
   figures-told : (n from count : ℕ) → 1 ≤ from → from + count ≤ 11 → (from ≤ 7 → n ≡ 0) → AllTold (figures n from count)
   figures-told n from count h l z =
-      every-inTurn nothing (Told old new) (λ (i : ℕ). figureOf (from + i) n) count (λ i q. figure-told (from + i) n (omega arith) (omega arith) (λ k. z (omega arith)))
+      every-in_turn nothing (Told old new) (λ (i : ℕ). figure_of (from + i) n) count (λ i q. figure-told (from + i) n (omega arith) (omega arith) (λ k. z (omega arith)))
 
-  figures-entry : (n from count what : ℕ) → from ≤ what → what < from + count → shown old what n ≢ shown new what n → Entry nothing (recordOf what n) (figures n from count)
+  figures-entry : (n from count what : ℕ) → from ≤ what → what < from + count → shown old what n ≢ shown new what n → Entry nothing (record_of what n) (figures n from count)
   figures-entry n from count what h l ne =
       let i : ℕ = what - from in
       let e : what ≡ from + i = omega arith in
-      entry-inTurn nothing (recordOf what n) (λ (k : ℕ). figureOf (from + k) n) count i (omega arith)
+      entry-in_turn nothing (record_of what n) (λ (k : ℕ). figure_of (from + k) n) count i (omega arith)
       (rw (← e) (figure-entry what n ne))
 
   figures-few : (n from count : ℕ) → length (figures n from count) ≤ count
-  figures-few n from count = omega (arith, inTurn-few 1 (λ (k : ℕ). figureOf (from + k) n) (λ i. if-few (eqb (shown old (from + i) n) (shown new (from + i) n)) (recordOf (from + i) n)) count)
+  figures-few n from count = omega (arith, in_turn-few 1 (λ (k : ℕ). figure_of (from + k) n) (λ i. if-few (eqb (shown old (from + i) n) (shown new (from + i) n)) (record_of (from + i) n)) count)
 
   -- ---- each record is true
 
-  recipe-told : (j : ℕ) → AllTold (recipeDifferences old new j)
-  unfolding recipeDifferences
-  recipe-told j = if-every (Told old new) (same (view old j) (view new j)) (recordOf 11 j) (λ e. record {
+  recipe-told : (j : ℕ) → AllTold (recipe_differences old new j)
+  unfolding recipe_differences
+  recipe-told j = if-every (Told old new) (same (view old j) (view new j)) (record_of 11 j) (λ e. record {
     kind = (omega arith, omega arith, omega arith);
     before = refl;
     after = refl;
@@ -130,34 +130,34 @@ module _ (old new : Job) where
   })
 
   abbrev heads : List Difference
-  heads = headDifferences (headerFor old) (headerFor new)
+  heads = head_differences (header_for old) (header_for new)
 
-  abbrev ofFiles : List Difference
-  ofFiles = in_turn (fileDifferences old new) (max (fileCount old) (fileCount new))
+  abbrev of_files : List Difference
+  of_files = in_turn (file_differences old new) (max (file_count old) (file_count new))
 
-  abbrev ofRecipes : List Difference
-  ofRecipes = in_turn (recipeDifferences old new) (max (recipeCount old) (recipeCount new))
+  abbrev of_recipes : List Difference
+  of_recipes = in_turn (recipe_differences old new) (max (recipe_count old) (recipe_count new))
 
   pub all_told : AllTold (differences old new)
   unfolding differences
   all_told =
       let P : Difference → Type 0 = Told old new in
-      every_append nothing P (heads ++ ofFiles) ofRecipes
-      (every_append nothing P heads ofFiles
+      every_append nothing P (heads ++ of_files) of_recipes
+      (every_append nothing P heads of_files
       (rw (← head-is) (every_append nothing P (figures 0 1 5) (figures 0 7 1) (figures-told 0 1 5 (omega arith) (omega arith) (λ _. refl)) (figures-told 0 7 1 (omega arith) (omega arith) (λ _. refl))))
-      (every-inTurn nothing P (fileDifferences old new) _ (λ f _. rw (← file-is f) (figures-told f 8 3 (omega arith) (omega arith) (λ l. absurd (omega arith))))))
-      (every-inTurn nothing P (recipeDifferences old new) _ (λ j _. recipe-told j))
+      (every-in_turn nothing P (file_differences old new) _ (λ f _. rw (← file-is f) (figures-told f 8 3 (omega arith) (omega arith) (λ l. absurd (omega arith))))))
+      (every-in_turn nothing P (recipe_differences old new) _ (λ j _. recipe-told j))
 
   -- ---- and each difference has its record
 
   pub head-has : (what : ℕ) → 1 ≤ what → what ≤ 7 → shown old what 0 ≢ shown new what 0 → Has old new what 0
   unfolding differences
   head-has what h l ne =
-      let d : Difference = recordOf what 0 in
+      let d : Difference = record_of what 0 in
       let low : List Difference = figures 0 1 5 in
       let high : List Difference = figures 0 7 1 in
-      entry-left nothing d (heads ++ ofFiles) ofRecipes
-      (entry-left nothing d heads ofFiles (rw (← head-is) (elim (dec_lt what 6) [
+      entry-left nothing d (heads ++ of_files) of_recipes
+      (entry-left nothing d heads of_files (rw (← head-is) (elim (dec_lt what 6) [
         | yes k ↦ entry-left nothing d low high (figures-entry 0 1 5 what h (omega arith) ne)
         | no k ↦ elim (ℕ_discrete what 6) [
           | yes q ↦ absurd (ne (six-alike what 0 q))
@@ -165,36 +165,36 @@ module _ (old new : Job) where
         ]
       ])))
 
-  pub file-has : (what f : ℕ) → 8 ≤ what → what ≤ 10 → f < max (fileCount old) (fileCount new) → shown old what f ≢ shown new what f → Has old new what f
+  pub file-has : (what f : ℕ) → 8 ≤ what → what ≤ 10 → f < max (file_count old) (file_count new) → shown old what f ≢ shown new what f → Has old new what f
   unfolding differences
   file-has what f h l below ne =
-      let d : Difference = recordOf what f in
-      entry-left nothing d (heads ++ ofFiles) ofRecipes
-      (entry-right nothing d heads ofFiles
-      (entry-inTurn nothing d (fileDifferences old new) (max (fileCount old) (fileCount new)) f below (rw (← file-is f) (figures-entry f 8 3 what h (omega arith) ne))))
+      let d : Difference = record_of what f in
+      entry-left nothing d (heads ++ of_files) of_recipes
+      (entry-right nothing d heads of_files
+      (entry-in_turn nothing d (file_differences old new) (max (file_count old) (file_count new)) f below (rw (← file-is f) (figures-entry f 8 3 what h (omega arith) ne))))
 
-  recipe-entry : (j : ℕ) → view old j ≢ view new j → Entry nothing (recordOf 11 j) (recipeDifferences old new j)
-  unfolding recipeDifferences
-  recipe-entry j ne = if-entry (same (view old j) (view new j)) (recordOf 11 j) (not_same (view old j) (view new j) ne)
+  recipe-entry : (j : ℕ) → view old j ≢ view new j → Entry nothing (record_of 11 j) (recipe_differences old new j)
+  unfolding recipe_differences
+  recipe-entry j ne = if-entry (same (view old j) (view new j)) (record_of 11 j) (not_same (view old j) (view new j) ne)
 
-  pub recipe-has : (j : ℕ) → j < max (recipeCount old) (recipeCount new) → view old j ≢ view new j → Has old new 11 j
+  pub recipe-has : (j : ℕ) → j < max (recipe_count old) (recipe_count new) → view old j ≢ view new j → Has old new 11 j
   unfolding differences
   recipe-has j below ne =
-      entry-right nothing (recordOf 11 j) (heads ++ ofFiles) ofRecipes
-      (entry-inTurn nothing (recordOf 11 j) (recipeDifferences old new) (max (recipeCount old) (recipeCount new)) j below (recipe-entry j ne))
+      entry-right nothing (record_of 11 j) (heads ++ of_files) of_recipes
+      (entry-in_turn nothing (record_of 11 j) (recipe_differences old new) (max (recipe_count old) (recipe_count new)) j below (recipe-entry j ne))
 
   -- ---- how many there are at most
 
-  recipe-few : (j : ℕ) → length (recipeDifferences old new j) ≤ 1
-  unfolding recipeDifferences
-  recipe-few j = if-few (same (view old j) (view new j)) (recordOf 11 j)
+  recipe-few : (j : ℕ) → length (recipe_differences old new j) ≤ 1
+  unfolding recipe_differences
+  recipe-few j = if-few (same (view old j) (view new j)) (record_of 11 j)
 
-  pub differences-few : length (differences old new) ≤ 6 + 3 * max (fileCount old) (fileCount new) + max (recipeCount old) (recipeCount new)
+  pub differences-few : length (differences old new) ≤ 6 + 3 * max (file_count old) (file_count new) + max (recipe_count old) (recipe_count new)
   unfolding differences
   differences-few =
-      let c : ℕ = max (fileCount old) (fileCount new) in
-      let n : ℕ = max (recipeCount old) (recipeCount new) in
+      let c : ℕ = max (file_count old) (file_count new) in
+      let n : ℕ = max (recipe_count old) (recipe_count new) in
       let a : length heads ≤ 6 = rw (← head-is) (omega (arith, length-append (figures 0 1 5) (figures 0 7 1), figures-few 0 1 5, figures-few 0 7 1)) in
-      let b : length ofFiles ≤ 3 * c = inTurn-few 3 (fileDifferences old new) (λ f. rw (← file-is f) (figures-few f 8 3)) c in
-      let e : length ofRecipes ≤ 1 * n = inTurn-few 1 (recipeDifferences old new) recipe-few n in
-      omega (arith, length-append (heads ++ ofFiles) ofRecipes, length-append heads ofFiles)
+      let b : length of_files ≤ 3 * c = in_turn-few 3 (file_differences old new) (λ f. rw (← file-is f) (figures-few f 8 3)) c in
+      let e : length of_recipes ≤ 1 * n = in_turn-few 1 (recipe_differences old new) recipe-few n in
+      omega (arith, length-append (heads ++ of_files) of_recipes, length-append heads of_files)

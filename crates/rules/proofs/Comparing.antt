@@ -11,14 +11,14 @@ use lib.Seq.{ext_get_or, take_all, take-add}
 use borrow.Author.Tests.{eq-eqb, ne_eqb, le-leb, lt-leb}
 use Rattle.rules.specs.declared.Verdict.{Verdict}
 use Rattle.rules.specs.declared.Difference.{Difference}
-use Rattle.rules.specs.Lists.{in_turn, onto, allBelow}
-use Rattle.rules.specs.Job.{Job, Limits, fileCount, recipeCount, bound, view_of, view}
-use Rattle.rules.specs.Check.{done, isDone}
+use Rattle.rules.specs.Lists.{in_turn, onto, AllBelow}
+use Rattle.rules.specs.Job.{Job, Limits, file_count, recipe_count, bound, view_of, view}
+use Rattle.rules.specs.Check.{done, is_done}
 use Rattle.rules.specs.Stored.{job_of}
-use Rattle.rules.specs.Report.{text, spaced, digits, line, allRoom}
-use Rattle.rules.specs.Theorems.{Sound, mostBytes}
-use Rattle.rules.specs.Compare.{same, headDifferences, fileDifferences, recipeDifferences, differences, readFor, Comparing, compared, comparingOf, comparingJobs, comparing, differenceLine, differenceLines, refusedOf, compares}
-use Rattle.rules.specs.Comparing.{shown, recordAt, Told, Has, DifferencesHold, CompareHolds, CompareWorked}
+use Rattle.rules.specs.Report.{text, spaced, digits, line, all_room}
+use Rattle.rules.specs.Theorems.{Sound, most_bytes}
+use Rattle.rules.specs.Compare.{same, head_differences, file_differences, recipe_differences, differences, read_for, Comparing, compared, comparing_of, comparing_jobs, comparing, difference_line, difference_lines, refused_of, compares}
+use Rattle.rules.specs.Comparing.{shown, record_at, Told, Has, DifferencesHold, CompareHolds, CompareWorked}
 use Rattle.rules.proofs.Tests.{contra'}
 use Rattle.rules.proofs.Views.{none-past}
 use Rattle.rules.proofs.SoundJob.{view-is, view-length}
@@ -26,17 +26,17 @@ use Rattle.rules.proofs.Refusals.{never-read}
 use Rattle.rules.proofs.Reading.{read-holds}
 use Rattle.rules.proofs.CutOff.{cut-same}
 use Rattle.rules.proofs.RoundTrip.{back-holds}
-use Rattle.rules.proofs.InTurn.{inTurn-same}
+use Rattle.rules.proofs.InTurn.{in_turn-same}
 use Rattle.rules.proofs.Compare.{same-is, same_not, all_told, head-has, file-has, recipe-has, differences-few}
 
 pub worked : CompareWorked
-unfolding in_turn view_of same headDifferences fileDifferences recipeDifferences differences
+unfolding in_turn view_of same head_differences file_differences recipe_differences differences
 worked = record { night = refl; order = refl; less = refl }
 
 -- ---- a sound job is its figures, its files and its recipes
 
 module _ (most : Limits) (job : Job) (s : Sound most job) where
-  views-take : (n : ℕ) → n ≤ recipeCount job → in_turn (view job) n ≡ take (bound job n) job.pins
+  views-take : (n : ℕ) → n ≤ recipe_count job → in_turn (view job) n ≡ take (bound job n) job.pins
   unfolding in_turn
   views-take zero h = rw s.first refl
   views-take (suc n) h =
@@ -46,20 +46,20 @@ module _ (most : Limits) (job : Job) (s : Sound most job) where
       ∙ ap (λ (k : ℕ). take k job.pins) e
 
   -- the pins are the recipes one after the other
-  views-pins : in_turn (view job) (recipeCount job) ≡ job.pins
-  views-pins = views-take (recipeCount job) (omega arith) ∙ take_all (bound job (recipeCount job)) job.pins (omega (arith, s.last))
+  views-pins : in_turn (view job) (recipe_count job) ≡ job.pins
+  views-pins = views-take (recipe_count job) (omega arith) ∙ take_all (bound job (recipe_count job)) job.pins (omega (arith, s.last))
 
-  bound-next : (j : ℕ) → j < recipeCount job → bound job (suc j) ≡ bound job j + length (view job j)
+  bound-next : (j : ℕ) → j < recipe_count job → bound job (suc j) ≡ bound job j + length (view job j)
   bound-next j h = omega (arith, view-length most job s j h, s.two j h)
 
   -- a file that it lacks reads as zeros
-  zeros : (i f : ℕ) → i ≤ 2 → fileCount job ≤ f → shown job (8 + i) f ≡ 0
+  zeros : (i f : ℕ) → i ≤ 2 → file_count job ≤ f → shown job (8 + i) f ≡ 0
   zeros zero f h l = get_or-eq_default job.sizes 0 {n = f} l
-  zeros (suc zero) f h l = get_or-eq_default job.sides 0 {n = f} (omega (arith, s.sidesLong))
-  zeros (suc (suc zero)) f h l = get_or-eq_default job.marks 0 {n = f} (omega (arith, s.marksLong))
+  zeros (suc zero) f h l = get_or-eq_default job.sides 0 {n = f} (omega (arith, s.sides_long))
+  zeros (suc (suc zero)) f h l = get_or-eq_default job.marks 0 {n = f} (omega (arith, s.marks_long))
   zeros (suc (suc (suc i))) f h l = absurd (omega arith)
 
-  lacked : (what f : ℕ) → 8 ≤ what → what ≤ 10 → fileCount job ≤ f → shown job what f ≡ 0
+  lacked : (what f : ℕ) → 8 ≤ what → what ≤ 10 → file_count job ≤ f → shown job what f ≡ 0
   lacked what f h l q = let e : 8 + (what - 8) ≡ what = omega arith in rw e at (zeros (what - 8) f (omega arith) q)
 
 -- lists entry by entry
@@ -68,13 +68,13 @@ by_entries xs ys p q e h = ext_get_or 0 xs ys (p ∙ e ∙ sym q) (λ i l. h i (
 
 module _ (most : Limits) (old new : Job) (s : Sound most old) (t : Sound most new) where
   file-record : (what f : ℕ) → 8 ≤ what → what ≤ 10 → shown old what f ≢ shown new what f → Has old new what f
-  file-record what f h l ne = elim (dec_lt f (max (fileCount old) (fileCount new))) [
+  file-record what f h l ne = elim (dec_lt f (max (file_count old) (file_count new))) [
     | yes p ↦ file-has old new what f h l p ne
     | no q ↦ absurd (ne (lacked most old s what f h l (omega arith) ∙ sym (lacked most new t what f h l (omega arith))))
   ]
 
   recipe-record : (j : ℕ) → view old j ≢ view new j → Has old new 11 j
-  recipe-record j ne = elim (dec_lt j (max (recipeCount old) (recipeCount new))) [
+  recipe-record j ne = elim (dec_lt j (max (recipe_count old) (recipe_count new))) [
     | yes p ↦ recipe-has old new j p ne
     | no q ↦ absurd (ne (sym (none-past old.bounds old.pins j (omega arith)) ∙ none-past new.bounds new.pins j (omega arith)))
   ]
@@ -98,30 +98,30 @@ module _ (most : Limits) (old new : Job) (s : Sound most old) (t : Sound most ne
     view-agrees : (j : ℕ) → view old j ≡ view new j
     view-agrees j = same-is (view old j) (view new j) (contra' (same (view old j) (view new j)) (λ e. no_record 11 j (recipe-record j (same_not (view old j) (view new j) e))))
 
-    files-agree : fileCount old ≡ fileCount new
+    files-agree : file_count old ≡ file_count new
     files-agree = header-agrees 1 (omega arith) (omega arith)
 
-    recipes-agree : recipeCount old ≡ recipeCount new
+    recipes-agree : recipe_count old ≡ recipe_count new
     recipes-agree = header-agrees 2 (omega arith) (omega arith)
 
-    bound-agrees : (j : ℕ) → j ≤ recipeCount old → bound old j ≡ bound new j
+    bound-agrees : (j : ℕ) → j ≤ recipe_count old → bound old j ≡ bound new j
     bound-agrees zero h = s.first ∙ sym t.first
     bound-agrees (suc j) h =
         bound-next most old s j h ∙ ap₂ ◌+◌ (bound-agrees j (omega arith)) (ap length (view-agrees j)) ∙ sym (bound-next most new t j (omega (arith, recipes-agree)))
 
     bounds-agree : old.bounds ≡ new.bounds
-    bounds-agree = by_entries old.bounds new.bounds refl refl (omega (arith, recipes-agree, s.someRecipe, t.someRecipe)) (λ i l. bound-agrees i (omega arith))
+    bounds-agree = by_entries old.bounds new.bounds refl refl (omega (arith, recipes-agree, s.some_recipe, t.some_recipe)) (λ i l. bound-agrees i (omega arith))
 
     pins-agree : old.pins ≡ new.pins
     pins-agree =
-        sym (views-pins most old s) ∙ inTurn-same (view old) (view new) (recipeCount old) (λ j _. view-agrees j)
+        sym (views-pins most old s) ∙ in_turn-same (view old) (view new) (recipe_count old) (λ j _. view-agrees j)
         ∙ ap (in_turn (view new)) recipes-agree ∙ views-pins most new t
 
     one-job : old ≡ new
     one-job = λ k. record {
       sizes = by_entries old.sizes new.sizes refl refl files-agree (λ f _. file-agrees 8 f (omega arith) (omega arith)) k;
-      sides = by_entries old.sides new.sides s.sidesLong t.sidesLong files-agree (λ f _. file-agrees 9 f (omega arith) (omega arith)) k;
-      marks = by_entries old.marks new.marks s.marksLong t.marksLong files-agree (λ f _. file-agrees 10 f (omega arith) (omega arith)) k;
+      sides = by_entries old.sides new.sides s.sides_long t.sides_long files-agree (λ f _. file-agrees 9 f (omega arith) (omega arith)) k;
+      marks = by_entries old.marks new.marks s.marks_long t.marks_long files-agree (λ f _. file-agrees 10 f (omega arith) (omega arith)) k;
       bounds = bounds-agree k;
       pins = pins-agree k;
       num = header-agrees 4 (omega arith) (omega arith) k;
@@ -139,7 +139,7 @@ untrue job d w = elim (ℕ_discrete d.what 11) [
 none-itself : (job : Job) → differences job job ≡ []
 none-itself job = go (differences job job) (all_told job job)
   where
-    go : (ds : List Difference) → ((i : ℕ) → i < length ds → Told job job (recordAt ds i)) → ds ≡ []
+    go : (ds : List Difference) → ((i : ℕ) → i < length ds → Told job job (record_at ds i)) → ds ≡ []
     go [] h = refl
     go (d ∷ ds) h = absurd (untrue job d (h 0 (omega arith)))
 
@@ -154,14 +154,14 @@ differences-hold most old new s t = record {
   recipes = recipe-record most old new s t;
   none = one-job most old new s t;
   alike = none_alike old new;
-  few = omega (arith, differences-few old new, s.fewFiles, t.fewFiles, s.fewRecipes, t.fewRecipes);
+  few = omega (arith, differences-few old new, s.few_files, t.few_files, s.few_recipes, t.few_recipes);
 }
 
 -- ---- the call
 
 -- reading never gives 30
-read-never : (most : Limits) (bytes : List ℕ) → (readFor most bytes).number ≢ 30
-read-never most bytes = never-read most bytes (allRoom most) 30 (omega arith) (omega arith) (omega arith) (omega arith) (omega arith)
+read-never : (most : Limits) (bytes : List ℕ) → (read_for most bytes).number ≢ 30
+read-never most bytes = never-read most bytes (all_room most) 30 (omega arith) (omega arith) (omega arith) (omega arith) (omega arith)
 
 module _ (most : Limits) (old new : List ℕ) (room : List Difference) where
   abbrev found : List Difference
@@ -170,37 +170,37 @@ module _ (most : Limits) (old new : List ℕ) (room : List Difference) where
   abbrev outcome : Comparing
   outcome = comparing most old new room
 
-  first-refused : (readFor most old).number ≢ 0 → outcome ≡ comparingOf (compared 1 (readFor most old) 0) room
+  first-refused : (read_for most old).number ≢ 0 → outcome ≡ comparing_of (compared 1 (read_for most old) 0) room
   unfolding comparing
-  first-refused n = rw (ne_eqb (readFor most old).number 0 n) refl
+  first-refused n = rw (ne_eqb (read_for most old).number 0 n) refl
 
-  module _ (ok : (readFor most old).number ≡ 0) where
-    second-refused : (readFor most new).number ≢ 0 → outcome ≡ comparingOf (compared 2 (readFor most new) 0) room
+  module _ (ok : (read_for most old).number ≡ 0) where
+    second-refused : (read_for most new).number ≢ 0 → outcome ≡ comparing_of (compared 2 (read_for most new) 0) room
     unfolding comparing
-    second-refused n = rw (eq-eqb (readFor most old).number 0 ok, ne_eqb (readFor most new).number 0 n) refl
+    second-refused n = rw (eq-eqb (read_for most old).number 0 ok, ne_eqb (read_for most new).number 0 n) refl
 
-    module _ (fine : (readFor most new).number ≡ 0) where
-      both_read : outcome ≡ comparingJobs (job_of old) (job_of new) room
+    module _ (fine : (read_for most new).number ≡ 0) where
+      both_read : outcome ≡ comparing_jobs (job_of old) (job_of new) room
       unfolding comparing
-      both_read = rw (eq-eqb (readFor most old).number 0 ok, eq-eqb (readFor most new).number 0 fine) refl
+      both_read = rw (eq-eqb (read_for most old).number 0 ok, eq-eqb (read_for most new).number 0 fine) refl
 
-      too_short : length room < length found → outcome ≡ comparingOf (compared 0 (record { number = 30; place = 0 }) (length found)) room
-      too_short h = both_read ∙ unfold comparingJobs in rw (lt-leb (length found) (length room) h) refl
+      too_short : length room < length found → outcome ≡ comparing_of (compared 0 (record { number = 30; place = 0 }) (length found)) room
+      too_short h = both_read ∙ unfold comparing_jobs in rw (lt-leb (length found) (length room) h) refl
 
-      all_made : length found ≤ length room → outcome ≡ comparingOf (compared 0 done (length found)) (onto found room)
-      all_made h = both_read ∙ unfold comparingJobs in rw (le-leb (length found) (length room) h) refl
+      all_made : length found ≤ length room → outcome ≡ comparing_of (compared 0 done (length found)) (onto found room)
+      all_made h = both_read ∙ unfold comparing_jobs in rw (le-leb (length found) (length room) h) refl
 
       both-sound : DifferencesHold most (job_of old) (job_of new)
       both-sound =
-          differences-hold most (job_of old) (job_of new) ((read-holds most old (allRoom most)).sound ok) ((read-holds most new (allRoom most)).sound fine)
+          differences-hold most (job_of old) (job_of new) ((read-holds most old (all_room most)).sound ok) ((read-holds most new (all_room most)).sound fine)
 
-      equal-bytes : allBelow 256 old → allBelow 256 new → found ≡ [] → old ≡ new
-      equal-bytes p q e = (back-holds most old (allRoom most) p).one new (allRoom most) q ok fine (both-sound.none e)
+      equal-bytes : AllBelow 256 old → AllBelow 256 new → found ≡ [] → old ≡ new
+      equal-bytes p q e = (back-holds most old (all_room most) p).one new (all_room most) q ok fine (both-sound.none e)
 
   never-short : 6 + 3 * most.files + most.recipes ≤ length room → outcome.answer.verdict.number ≢ 30
-  never-short h = elim (ℕ_discrete (readFor most old).number 0) [
+  never-short h = elim (ℕ_discrete (read_for most old).number 0) [
     | no n ↦ rw (first-refused n) (read-never most old)
-    | yes ok ↦ elim (ℕ_discrete (readFor most new).number 0) [
+    | yes ok ↦ elim (ℕ_discrete (read_for most new).number 0) [
       | no n ↦ rw (second-refused ok n) (read-never most new)
       | yes fine ↦ rw (all_made ok fine (omega (arith, (both-sound ok fine).few))) (omega arith)
     ]
@@ -212,46 +212,46 @@ module _ (most : Limits) (old new : List ℕ) (room : List Difference) where
 some-line : (xs ys : List ℕ) → 1 ≤ length (xs ++ ys ++ (10 ∷ []))
 some-line xs ys = omega (arith, length-append (xs ++ ys) (10 ∷ []))
 
-refused-some : (job : ℕ) (v : Verdict) → refusedOf job v ≢ []
-unfolding refusedOf line
+refused-some : (job : ℕ) (v : Verdict) → refused_of job v ≢ []
+unfolding refused_of line
 refused-some job v e = omega (arith, some-line (text "refused") (spaced (job ∷ v.number ∷ v.place ∷ [])), ap length e)
 
-line-some : (d : Difference) → 1 ≤ length (differenceLine d)
-unfolding differenceLine
+line-some : (d : Difference) → 1 ≤ length (difference_line d)
+unfolding difference_line
 line-some d = some-line (digits d.what) (spaced (d.number ∷ d.old ∷ d.new ∷ []))
 
-lines_none : (ds : List Difference) → differenceLines ds ≡ [] → ds ≡ []
-unfolding differenceLines
+lines_none : (ds : List Difference) → difference_lines ds ≡ [] → ds ≡ []
+unfolding difference_lines
 lines_none [] e = refl
-lines_none (d ∷ ds) e = absurd (omega (arith, line-some d, length-append (differenceLine d) (differenceLines ds), ap length e))
+lines_none (d ∷ ds) e = absurd (omega (arith, line-some d, length-append (difference_line d) (difference_lines ds), ap length e))
 
 module _ (most : Limits) where
-  pub prints-first : (old new : List ℕ) → (readFor most old).number ≢ 0 → compares most old new ≡ refusedOf 1 (readFor most old)
+  pub prints-first : (old new : List ℕ) → (read_for most old).number ≢ 0 → compares most old new ≡ refused_of 1 (read_for most old)
   unfolding compares
-  prints-first old new n = rw (ne_eqb (readFor most old).number 0 n) refl
+  prints-first old new n = rw (ne_eqb (read_for most old).number 0 n) refl
 
   -- of a second job refused as w, after this verdict of the first
   abbrev pub after : Verdict → Verdict → List ℕ
-  after v w = cond (isDone v) (refusedOf 2 w) (refusedOf 1 v)
+  after v w = cond (is_done v) (refused_of 2 w) (refused_of 1 v)
 
-  pub prints-second : (old new : List ℕ) → (readFor most new).number ≢ 0 → compares most old new ≡ after (readFor most old) (readFor most new)
+  pub prints-second : (old new : List ℕ) → (read_for most new).number ≢ 0 → compares most old new ≡ after (read_for most old) (read_for most new)
   unfolding compares
-  prints-second old new n = rw (ne_eqb (readFor most new).number 0 n) refl
+  prints-second old new n = rw (ne_eqb (read_for most new).number 0 n) refl
 
-  pub prints-lines : (old new : List ℕ) → (readFor most old).number ≡ 0 → (readFor most new).number ≡ 0 → compares most old new ≡ differenceLines (differences (job_of old) (job_of new))
+  pub prints-lines : (old new : List ℕ) → (read_for most old).number ≡ 0 → (read_for most new).number ≡ 0 → compares most old new ≡ difference_lines (differences (job_of old) (job_of new))
   unfolding compares
-  prints-lines old new ok fine = rw (eq-eqb (readFor most old).number 0 ok, eq-eqb (readFor most new).number 0 fine) refl
+  prints-lines old new ok fine = rw (eq-eqb (read_for most old).number 0 ok, eq-eqb (read_for most new).number 0 fine) refl
 
-  cut_off : (old new : List ℕ) (k : ℕ) → mostBytes most < k → compares most (take k old) (take k new) ≡ compares most old new
+  cut_off : (old new : List ℕ) (k : ℕ) → most_bytes most < k → compares most (take k old) (take k new) ≡ compares most old new
   cut_off old new k h =
-      cut-same most k old (λ (bytes : List ℕ). compares most bytes (take k new)) (refusedOf 1) (λ bytes. prints-first bytes (take k new)) h
-      ∙ cut-same most k new (compares most old) (after (readFor most old)) (prints-second old) h
+      cut-same most k old (λ (bytes : List ℕ). compares most bytes (take k new)) (refused_of 1) (λ bytes. prints-first bytes (take k new)) h
+      ∙ cut-same most k new (compares most old) (after (read_for most old)) (prints-second old) h
 
-  says_nothing : (old new : List ℕ) → allBelow 256 old → allBelow 256 new → compares most old new ≡ [] → old ≡ new
-  says_nothing old new p q e = elim (ℕ_discrete (readFor most old).number 0) [
-    | no n ↦ absurd (refused-some 1 (readFor most old) (sym (prints-first old new n) ∙ e))
-    | yes ok ↦ elim (ℕ_discrete (readFor most new).number 0) [
-      | no n ↦ absurd (refused-some 2 (readFor most new) (rw (prints-second old new n, eq-eqb (readFor most old).number 0 ok) at e))
+  says_nothing : (old new : List ℕ) → AllBelow 256 old → AllBelow 256 new → compares most old new ≡ [] → old ≡ new
+  says_nothing old new p q e = elim (ℕ_discrete (read_for most old).number 0) [
+    | no n ↦ absurd (refused-some 1 (read_for most old) (sym (prints-first old new n) ∙ e))
+    | yes ok ↦ elim (ℕ_discrete (read_for most new).number 0) [
+      | no n ↦ absurd (refused-some 2 (read_for most new) (rw (prints-second old new n, eq-eqb (read_for most old).number 0 ok) at e))
       | yes fine ↦ equal-bytes most old new [] ok fine p q (lines_none (differences (job_of old) (job_of new)) (sym (prints-lines old new ok fine) ∙ e))
     ]
   ]
@@ -269,6 +269,6 @@ compare-holds most old new room = record {
   silent = says_nothing most old new;
   quiet = λ ok e.
       prints-lines most old new ok (rw e at ok)
-      ∙ ap differenceLines (none_alike (job_of old) (job_of new) (ap job_of e)) ∙ unfold differenceLines in refl;
+      ∙ ap difference_lines (none_alike (job_of old) (job_of new) (ap job_of e)) ∙ unfold difference_lines in refl;
   longer = cut_off most old new;
 }

@@ -13,7 +13,7 @@ use lib.ListN.{length, get_or, take, length-append, get_or-append, length-map}
 use lib.Seq.{get_or_at}
 use borrow.Author.Tests.{eq-eqb, ne_eqb, ltb-true, ltb-false}
 use Rattle.rules.specs.Lists.{bit, total, count, largest, up_to}
-use Rattle.rules.specs.Split.{onSide, countOn, times, holds}
+use Rattle.rules.specs.Split.{on_side, count_on, times, holds}
 
 pub hit-eq : {a b : ℕ} → a ≡ b → bit (eqb a b) ≡ 1
 hit-eq {a} {b} e = ap bit (eq-eqb a b e)
@@ -96,14 +96,14 @@ total-map w h [] = refl
 total-map w h (x ∷ l) = ap (λ n. w (h x) + n) (total-map w h l)
 
 -- one more number, as a loop has it
-pub total-upTo : (w : ℕ → ℕ) (n : ℕ) → total w (up_to (suc n)) ≡ total w (up_to n) + w n
+pub total-up_to : (w : ℕ → ℕ) (n : ℕ) → total w (up_to (suc n)) ≡ total w (up_to n) + w n
 unfolding up_to total
-total-upTo w n = total-append w (up_to n) (n ∷ []) ∙ ap (λ (k : ℕ). total w (up_to n) + k) (add-zero (w n))
+total-up_to w n = total-append w (up_to n) (n ∷ []) ∙ ap (λ (k : ℕ). total w (up_to n) + k) (add-zero (w n))
 
 -- a weight that is below another at every number below n
 pub total-below : (w v : ℕ → ℕ) (n : ℕ) → ((x : ℕ) → x < n → v x ≤ w x) → total v (up_to n) ≤ total w (up_to n)
 total-below w v zero h = unfold up_to total in omega arith
-total-below w v (suc n) h = omega (arith, total-upTo w n, total-upTo v n, h n (omega arith), total-below w v n (λ x l. h x (omega arith)))
+total-below w v (suc n) h = omega (arith, total-up_to w n, total-up_to v n, h n (omega arith), total-below w v n (λ x l. h x (omega arith)))
 
 pub count-le {ℓ} : {A : Type ℓ} (p : A → Bool) (l : List A) → count p l ≤ length l
 unfolding count total
@@ -111,15 +111,15 @@ count-le p [] = omega arith
 count-le p (x ∷ l) = omega (arith, count-le p l, bit_le (p x))
 
 -- a recipe has no more files on a side than files
-pub countOn-le : (sides : List ℕ) (u : ℕ) (r : List ℕ) → countOn sides u r ≤ length r
-unfolding countOn
-countOn-le sides u r = count-le (onSide sides u) r
+pub count_on-le : (sides : List ℕ) (u : ℕ) (r : List ℕ) → count_on sides u r ≤ length r
+unfolding count_on
+count_on-le sides u r = count-le (on_side sides u) r
 
 -- some number below n passes the test, where their count is not 0
 pub count-some : (p : ℕ → Bool) (n : ℕ) → count p (up_to n) ≢ 0 → (i : ℕ) × (i < n) × (p i ≡ true)
 unfolding count
 count-some p zero h = absurd (h (unfold up_to total in refl))
-count-some p (suc n) h = go (p n) refl (total-upTo (λ x. bit (p x)) n) (count-some p n)
+count-some p (suc n) h = go (p n) refl (total-up_to (λ x. bit (p x)) n) (count-some p n)
   where
     go : (b : Bool) → p n ≡ b → total (λ x. bit (p x)) (up_to (suc n)) ≡ total (λ x. bit (p x)) (up_to n) + bit (p n)
         → (count p (up_to n) ≢ 0 → (i : ℕ) × (i < n) × (p i ≡ true)) → (i : ℕ) × (i < suc n) × (p i ≡ true)
@@ -131,8 +131,8 @@ pub count-here : (p : ℕ → Bool) (n i : ℕ) → i < n → p i ≡ true → c
 unfolding count
 count-here p zero i h e = absurd (omega arith)
 count-here p (suc n) i h e = elim (ℕ_discrete i n) [
-  | yes q ↦ let z : bit (p n) ≡ 1 = rw (← q, e) refl in λ k. omega (arith, total-upTo (λ x. bit (p x)) n)
-  | no m ↦ let r : count p (up_to n) ≢ 0 = count-here p n i (omega arith) e in λ k. unfold count in r (omega (arith, total-upTo (λ x. bit (p x)) n))
+  | yes q ↦ let z : bit (p n) ≡ 1 = rw (← q, e) refl in λ k. omega (arith, total-up_to (λ x. bit (p x)) n)
+  | no m ↦ let r : count p (up_to n) ≢ 0 = count-here p n i (omega arith) e in λ k. unfold count in r (omega (arith, total-up_to (λ x. bit (p x)) n))
 ]
 
 pub total-take {ℓ} : {A : Type ℓ} (w : A → ℕ) (d : A) (l : List A) (i : ℕ) → i < length l → total w (take (suc i) l) ≡ total w (take i l) + w (get_or l i d)
@@ -181,45 +181,45 @@ times-once (y ∷ r) h x = elim (ℕ_discrete y x) [
 pub times_above : (x n : ℕ) → n ≤ x → times x (up_to n) ≡ 0
 unfolding times count
 times_above x zero h = unfold up_to total in refl
-times_above x (suc n) h = omega (arith, total-upTo (λ y. bit (eqb y x)) n, times_above x n (omega arith), hit-ne {a = n} {b = x} (omega arith))
+times_above x (suc n) h = omega (arith, total-up_to (λ y. bit (eqb y x)) n, times_above x n (omega arith), hit-ne {a = n} {b = x} (omega arith))
 
 pub times_below : (x n : ℕ) → x < n → times x (up_to n) ≡ 1
 unfolding times count
 times_below x zero h = absurd (omega arith)
 times_below x (suc n) h = elim (ℕ_discrete n x) [
-  | yes e ↦ omega (arith, total-upTo (λ y. bit (eqb y x)) n, times_above x n (omega arith), hit-eq e)
-  | no k ↦ omega (arith, total-upTo (λ y. bit (eqb y x)) n, times_below x n (omega arith), hit-ne k)
+  | yes e ↦ omega (arith, total-up_to (λ y. bit (eqb y x)) n, times_above x n (omega arith), hit-eq e)
+  | no k ↦ omega (arith, total-up_to (λ y. bit (eqb y x)) n, times_below x n (omega arith), hit-ne k)
 ]
 
 -- ---- lists by index
 
-pub length-upTo : (n : ℕ) → length (up_to n) ≡ n
+pub length-up_to : (n : ℕ) → length (up_to n) ≡ n
 unfolding up_to
-length-upTo zero = refl
-length-upTo (suc n) = omega (arith, length-append (up_to n) (n ∷ []), length-upTo n)
+length-up_to zero = refl
+length-up_to (suc n) = omega (arith, length-append (up_to n) (n ∷ []), length-up_to n)
 
-pub getD-upTo : (n y : ℕ) → y < n → get_or (up_to n) y 0 ≡ y
+pub get_d-up_to : (n y : ℕ) → y < n → get_or (up_to n) y 0 ≡ y
 unfolding up_to
-getD-upTo zero y h = absurd (omega arith)
-getD-upTo (suc n) y h = elim (ℕ_discrete y n) [
-  | yes e ↦ rw e (get_or_at (up_to n) n [] 0 n (length-upTo n))
-  | no k ↦ get_or-append (up_to n) (n ∷ []) 0 y (rw (length-upTo n) (omega arith)) ∙ getD-upTo n y (omega arith)
+get_d-up_to zero y h = absurd (omega arith)
+get_d-up_to (suc n) y h = elim (ℕ_discrete y n) [
+  | yes e ↦ rw e (get_or_at (up_to n) n [] 0 n (length-up_to n))
+  | no k ↦ get_or-append (up_to n) (n ∷ []) 0 y (rw (length-up_to n) (omega arith)) ∙ get_d-up_to n y (omega arith)
 ]
 
-pub times-upTo : (x n : ℕ) → times x (up_to n) ≤ 1
-times-upTo x n = times-once (up_to n) (λ i j a b e. omega (arith, length-upTo n, getD-upTo n j (omega (arith, length-upTo n)), getD-upTo n i (omega (arith, length-upTo n)))) x
+pub times-up_to : (x n : ℕ) → times x (up_to n) ≤ 1
+times-up_to x n = times-once (up_to n) (λ i j a b e. omega (arith, length-up_to n, get_d-up_to n j (omega (arith, length-up_to n)), get_d-up_to n i (omega (arith, length-up_to n)))) x
 
-pub getD-mapped {ℓ κ} : {A : Type ℓ} {B : Type κ} (h : A → B) (l : List A) (y : ℕ) (a : A) (b : B) → y < length l → get_or (map h l) y b ≡ h (get_or l y a)
-getD-mapped h [] y a b p = absurd (omega arith)
-getD-mapped h (x ∷ l) zero a b p = refl
-getD-mapped h (x ∷ l) (suc y) a b p = getD-mapped h l y a b (omega arith)
+pub get_d-mapped {ℓ κ} : {A : Type ℓ} {B : Type κ} (h : A → B) (l : List A) (y : ℕ) (a : A) (b : B) → y < length l → get_or (map h l) y b ≡ h (get_or l y a)
+get_d-mapped h [] y a b p = absurd (omega arith)
+get_d-mapped h (x ∷ l) zero a b p = refl
+get_d-mapped h (x ∷ l) (suc y) a b p = get_d-mapped h l y a b (omega arith)
 
 -- entry y of a list that is given by its entries
-pub getD-tabled {ℓ} : {A : Type ℓ} (h : ℕ → A) (n y : ℕ) (d : A) → y < n → get_or (map h (up_to n)) y d ≡ h y
-getD-tabled h n y d p = getD-mapped h (up_to n) y 0 d (rw (length-upTo n) p) ∙ ap h (getD-upTo n y p)
+pub get_d-tabled {ℓ} : {A : Type ℓ} (h : ℕ → A) (n y : ℕ) (d : A) → y < n → get_or (map h (up_to n)) y d ≡ h y
+get_d-tabled h n y d p = get_d-mapped h (up_to n) y 0 d (rw (length-up_to n) p) ∙ ap h (get_d-up_to n y p)
 
 pub length-tabled {ℓ} : {A : Type ℓ} (h : ℕ → A) (n : ℕ) → length (map h (up_to n)) ≡ n
-length-tabled h n = length-map (up_to n) h ∙ length-upTo n
+length-tabled h n = length-map (up_to n) h ∙ length-up_to n
 
 pub tabled-more {ℓ} : {A : Type ℓ} (h : ℕ → A) (n : ℕ) → map h (up_to (n + 1)) ≡ map h (up_to n) ++ (h n ∷ [])
 tabled-more h n = ap (λ (k : ℕ). map h (up_to k)) (add-one n) ∙ unfold up_to in map-append h (up_to n) (n ∷ [])
@@ -230,26 +230,26 @@ total-const c [] = omega arith
 total-const c (x ∷ l) = omega (arith, total-const c l)
 
 -- the sum of w at j, j + 1, .., n of them
-unfoldable pub sumFrom : (ℕ → ℕ) → ℕ → ℕ → ℕ
-sumFrom w j zero = 0
-sumFrom w j (suc n) = w j + sumFrom w (suc j) n
+unfoldable pub sum_from : (ℕ → ℕ) → ℕ → ℕ → ℕ
+sum_from w j zero = 0
+sum_from w j (suc n) = w j + sum_from w (suc j) n
 
-sumFrom-last : (w : ℕ → ℕ) (j n : ℕ) → sumFrom w j (suc n) ≡ sumFrom w j n + w (j + n)
-unfolding sumFrom
-sumFrom-last w j zero = omega (arith, ap w (add-zero j))
-sumFrom-last w j (suc n) = omega (arith, sumFrom-last w (suc j) n, ap w (suc-add j n ∙ sym (add-suc j n)))
+sum_from-last : (w : ℕ → ℕ) (j n : ℕ) → sum_from w j (suc n) ≡ sum_from w j n + w (j + n)
+unfolding sum_from
+sum_from-last w j zero = omega (arith, ap w (add-zero j))
+sum_from-last w j (suc n) = omega (arith, sum_from-last w (suc j) n, ap w (suc-add j n ∙ sym (add-suc j n)))
 
-pub sumFrom-upTo : (w : ℕ → ℕ) (n : ℕ) → sumFrom w 0 n ≡ total w (up_to n)
-sumFrom-upTo w zero = unfold sumFrom up_to total in refl
-sumFrom-upTo w (suc n) = omega (arith, sumFrom-last w 0 n, sumFrom-upTo w n, total-upTo w n, ap w (zero-add n))
+pub sum_from-up_to : (w : ℕ → ℕ) (n : ℕ) → sum_from w 0 n ≡ total w (up_to n)
+sum_from-up_to w zero = unfold sum_from up_to total in refl
+sum_from-up_to w (suc n) = omega (arith, sum_from-last w 0 n, sum_from-up_to w n, total-up_to w n, ap w (zero-add n))
 
-sumFrom-list {ℓ} : {A : Type ℓ} (w : A → ℕ) (d : A) (l : List A) (v : ℕ → ℕ) (j : ℕ) → ((i : ℕ) → v (j + i) ≡ w (get_or l i d)) → sumFrom v j (length l) ≡ total w l
-unfolding sumFrom total
-sumFrom-list w d [] v j h = refl
-sumFrom-list w d (x ∷ l) v j h = ap₂ ◌+◌ (ap v (sym (add-zero j)) ∙ h 0) (sumFrom-list w d l v (suc j) (λ i. ap v (suc-add j i ∙ sym (add-suc j i)) ∙ h (suc i)))
+sum_from-list {ℓ} : {A : Type ℓ} (w : A → ℕ) (d : A) (l : List A) (v : ℕ → ℕ) (j : ℕ) → ((i : ℕ) → v (j + i) ≡ w (get_or l i d)) → sum_from v j (length l) ≡ total w l
+unfolding sum_from total
+sum_from-list w d [] v j h = refl
+sum_from-list w d (x ∷ l) v j h = ap₂ ◌+◌ (ap v (sym (add-zero j)) ∙ h 0) (sum_from-list w d l v (suc j) (λ i. ap v (suc-add j i ∙ sym (add-suc j i)) ∙ h (suc i)))
 
 pub total-index {ℓ} : {A : Type ℓ} (w : A → ℕ) (d : A) (l : List A) → total (λ i. w (get_or l i d)) (up_to (length l)) ≡ total w l
-total-index w d l = sym (sumFrom-upTo (λ i. w (get_or l i d)) (length l)) ∙ sumFrom-list w d l (λ i. w (get_or l i d)) 0 (λ i. ap (λ k. w (get_or l k d)) (zero-add i))
+total-index w d l = sym (sum_from-up_to (λ i. w (get_or l i d)) (length l)) ∙ sum_from-list w d l (λ i. w (get_or l i d)) 0 (λ i. ap (λ k. w (get_or l k d)) (zero-add i))
 
 -- over the entries of a list, and over a list that is given by its entries
 pub count_entries : (p : ℕ → Bool) (l : List ℕ) → count (λ i. p (get_or l i 0)) (up_to (length l)) ≡ count p l
@@ -274,7 +274,7 @@ module _ {w : ℕ → ℕ} {b n i x : ℕ} (s : Summed w b n i x) where
   pub summed-more : (y : ℕ) → i < n → y ≡ x + w i → w i ≤ b → Summed w b n (i + 1) y
   summed-more y h e l = record {
     stop = omega arith;
-    is = e ∙ ap (λ (k : ℕ). k + w i) s.is ∙ sym (total-upTo w i) ∙ ap (λ (k : ℕ). total w (up_to k)) (sym (add-one i));
+    is = e ∙ ap (λ (k : ℕ). k + w i) s.is ∙ sym (total-up_to w i) ∙ ap (λ (k : ℕ). total w (up_to k)) (sym (add-one i));
     small = omega (arith, s.small, mul-add b i 1, mul-one b);
   }
 
@@ -303,14 +303,14 @@ largest-append w [] b = sym (zero-max (largest w b))
 largest-append w (x ∷ a) b = ap (max (w x)) (largest-append w a b) ∙ sym (max_assoc (w x) (largest w a) (largest w b))
 
 -- one number more, as a loop has it
-pub largest-upTo : (w : ℕ → ℕ) (n : ℕ) → largest w (up_to (suc n)) ≡ max (largest w (up_to n)) (w n)
+pub largest-up_to : (w : ℕ → ℕ) (n : ℕ) → largest w (up_to (suc n)) ≡ max (largest w (up_to n)) (w n)
 unfolding largest up_to
-largest-upTo w n = largest-append w (up_to n) (n ∷ []) ∙ ap (max (largest w (up_to n))) (max-zero (w n))
+largest-up_to w n = largest-append w (up_to n) (n ∷ []) ∙ ap (max (largest w (up_to n))) (max-zero (w n))
 
 -- no number is larger
 pub largest-has : (w : ℕ → ℕ) (n i : ℕ) → i < n → w i ≤ largest w (up_to n)
 largest-has w zero i h = absurd (omega arith)
-largest-has w (suc n) i h = rw (largest-upTo w n) (elim (ℕ_discrete i n) [
+largest-has w (suc n) i h = rw (largest-up_to w n) (elim (ℕ_discrete i n) [
   | yes e ↦ le_trans (omega (arith, ap w e)) (le-max_right (largest w (up_to n)) (w n))
   | no m ↦ le_trans (largest-has w n i (omega arith)) (le-max_left (largest w (up_to n)) (w n))
 ])

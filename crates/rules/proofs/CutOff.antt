@@ -13,20 +13,20 @@ use borrow.Author.Tests.{le-ltb, ne_eqb}
 use Rattle.rules.specs.declared.Verdict.{Verdict}
 use Rattle.rules.specs.declared.Header.{Header}
 use Rattle.rules.specs.Job.{Limits}
-use Rattle.rules.specs.Check.{refuseIf, ◌orElse◌, badK, overMost, checkCounts, checkContents}
-use Rattle.rules.specs.Stored.{block_check, word, block_at, valueIn, headerOf, blocksFor, blockCount, kind_of, valuesIn, laidOut, blockVerdict, blocksVerdict, job_of, Room, roomy, hasCap, layoutVerdict, readVerdict}
-use Rattle.rules.specs.Report.{refusal, allRoom, allRun, prints}
+use Rattle.rules.specs.Check.{refuse_if, ◌or_else◌, bad_k, over_most, check_counts, check_contents}
+use Rattle.rules.specs.Stored.{block_check, word, block_at, value_in, header_of, blocks_for, block_count, kind_of, values_in, laid_out, block_verdict, blocks_verdict, job_of, Room, roomy, has_cap, layout_verdict, read_verdict}
+use Rattle.rules.specs.Report.{refusal, all_room, all_run, prints}
 use Rattle.rules.specs.Trace.{traces}
 use Rattle.rules.specs.Writing.{resettles}
-use Rattle.rules.specs.Theorems.{mostBytes, Longer}
+use Rattle.rules.specs.Theorems.{most_bytes, Longer}
 use Rattle.rules.proofs.Verdicts.{chain-stop, chain_same, passes-both}
 use Rattle.rules.proofs.SoundJob.{few-of, counts-pass}
 
 -- blocks grow with what they hold
-pub blocks-grow : (a b : ℕ) → a ≤ b → (blocksFor 126 a ≤ blocksFor 126 b) × (blocksFor 253 a ≤ blocksFor 253 b)
+pub blocks-grow : (a b : ℕ) → a ≤ b → (blocks_for 126 a ≤ blocks_for 126 b) × (blocks_for 253 a ≤ blocks_for 253 b)
 blocks-grow a b h = (omega arith, omega arith)
 
-module _ (most : Limits) (k : ℕ) (input : List ℕ) (more : mostBytes most < k) (long : k < length input) where
+module _ (most : Limits) (k : ℕ) (input : List ℕ) (more : most_bytes most < k) (long : k < length input) where
   abbrev cut_off : List ℕ
   cut_off = take k input
 
@@ -36,24 +36,24 @@ module _ (most : Limits) (k : ℕ) (input : List ℕ) (more : mostBytes most < k
   first_block : block_at cut_off 0 ≡ block_at input 0
   first_block = take-take 512 k input (omega arith)
 
-  header-same : headerOf cut_off ≡ headerOf input
-  unfolding headerOf
+  header-same : header_of cut_off ≡ header_of input
+  unfolding header_of
   header-same = ap (λ (b : List ℕ). record {
-    files = valueIn b 0;
-    recipes = valueIn b 1;
-    pins = valueIn b 2;
-    num = valueIn b 3;
-    den = valueIn b 4;
-    cap = valueIn b 5;
-    k = cond (eqb (get_or b 3 0) 7) (valueIn b 6) 1;
+    files = value_in b 0;
+    recipes = value_in b 1;
+    pins = value_in b 2;
+    num = value_in b 3;
+    den = value_in b 4;
+    cap = value_in b 5;
+    k = cond (eqb (get_or b 3 0) 7) (value_in b 6) 1;
   }) first_block
 
-  zeroth-same : (h : Header) → blockVerdict h cut_off 0 ≡ blockVerdict h input 0
-  unfolding blockVerdict
-  zeroth-same h = ap (λ (block : List ℕ). refuseIf (not (eqb (word block 510) (block_check block))) 21 0 or_else refuseIf (not (laidOut block 0 (kind_of h 0) (valuesIn h 0))) 22 0) first_block
+  zeroth-same : (h : Header) → block_verdict h cut_off 0 ≡ block_verdict h input 0
+  unfolding block_verdict
+  zeroth-same h = ap (λ (block : List ℕ). refuse_if (not (eqb (word block 510) (block_check block))) 21 0 or_else refuse_if (not (laid_out block 0 (kind_of h 0) (values_in h 0))) 22 0) first_block
 
   -- what the most lets through is shorter
-  blocks-short : (h : Header) → overMost most h.files h.recipes h.pins ≡ false → 512 * blockCount h < k
+  blocks-short : (h : Header) → over_most most h.files h.recipes h.pins ≡ false → 512 * block_count h < k
   blocks-short h z =
       let few = few-of most h.files h.recipes h.pins z in
       omega (
@@ -65,95 +65,95 @@ module _ (most : Limits) (k : ℕ) (input : List ℕ) (more : mostBytes most < k
       )
 
   -- a longer input is not as the header makes it
-  unlike : (h : Header) (bytes : List ℕ) (w : Verdict) → 512 * blockCount h < length bytes → (refuseIf (not (eqb (length bytes) (512 * blockCount h))) 20 0 or_else w) ≡ refuseIf true 20 0
-  unlike h bytes w l = rw (ne_eqb (length bytes) (512 * blockCount h) (λ e. omega (arith, e))) refl
+  unlike : (h : Header) (bytes : List ℕ) (w : Verdict) → 512 * block_count h < length bytes → (refuse_if (not (eqb (length bytes) (512 * block_count h))) 20 0 or_else w) ≡ refuse_if true 20 0
+  unlike h bytes w l = rw (ne_eqb (length bytes) (512 * block_count h) (λ e. omega (arith, e))) refl
 
-  -- the order of layoutVerdict, with the header's figures apart from the bytes
+  -- the order of layout_verdict, with the header's figures apart from the bytes
   abbrev layout-by : Header → List ℕ → Room → Verdict
   layout-by h bytes room =
-      refuseIf (ltb (length bytes) 512) 20 0
-      or_else blockVerdict h bytes 0
-      or_else refuseIf (badK h.k) 22 0
-      or_else refuseIf (hasCap h) 23 0
-      or_else checkCounts most h.files h.recipes h.pins
-      or_else refuseIf (not (roomy h room)) 3 0
-      or_else refuseIf (not (eqb (length bytes) (512 * blockCount h))) 20 0
-      or_else blocksVerdict h bytes 1 (blockCount h - 1)
+      refuse_if (ltb (length bytes) 512) 20 0
+      or_else block_verdict h bytes 0
+      or_else refuse_if (bad_k h.k) 22 0
+      or_else refuse_if (has_cap h) 23 0
+      or_else check_counts most h.files h.recipes h.pins
+      or_else refuse_if (not (roomy h room)) 3 0
+      or_else refuse_if (not (eqb (length bytes) (512 * block_count h))) 20 0
+      or_else blocks_verdict h bytes 1 (block_count h - 1)
 
-  enough : refuseIf (ltb (length cut_off) 512) 20 0 ≡ refuseIf (ltb (length input) 512) 20 0
+  enough : refuse_if (ltb (length cut_off) 512) 20 0 ≡ refuse_if (ltb (length input) 512) 20 0
   enough = rw (le-ltb (length cut_off) 512 (omega (arith, cut-length)), le-ltb (length input) 512 (omega arith)) refl
 
   links : (h : Header) (room : Room) → layout-by h cut_off room ≡ layout-by h input room
   links h room =
-      let wide = refuseIf (badK h.k) 22 0 in
-      let cap = refuseIf (hasCap h) 23 0 in
-      let counts = checkCounts most h.files h.recipes h.pins in
-      let lent = refuseIf (not (roomy h room)) 3 0 in
-      let last : List ℕ → Verdict = λ bytes. refuseIf (not (eqb (length bytes) (512 * blockCount h))) 20 0 or_else blocksVerdict h bytes 1 (blockCount h - 1) in
+      let wide = refuse_if (bad_k h.k) 22 0 in
+      let cap = refuse_if (has_cap h) 23 0 in
+      let counts = check_counts most h.files h.recipes h.pins in
+      let lent = refuse_if (not (roomy h room)) 3 0 in
+      let last : List ℕ → Verdict = λ bytes. refuse_if (not (eqb (length bytes) (512 * block_count h))) 20 0 or_else blocks_verdict h bytes 1 (block_count h - 1) in
       let ends : counts.number ≡ 0 → last cut_off ≡ last input
       = λ z.
       let l = blocks-short h (counts-pass most h.files h.recipes h.pins z).1 in
-      unlike h cut_off (blocksVerdict h cut_off 1 (blockCount h - 1)) (omega (arith, l, cut-length)) ∙ sym (unlike h input (blocksVerdict h input 1 (blockCount h - 1)) (omega (arith, l))) in
+      unlike h cut_off (blocks_verdict h cut_off 1 (block_count h - 1)) (omega (arith, l, cut-length)) ∙ sym (unlike h input (blocks_verdict h input 1 (block_count h - 1)) (omega (arith, l))) in
       let figures : (wide or_else cap or_else counts or_else lent or_else last cut_off) ≡ (wide or_else cap or_else counts or_else lent or_else last input)
       = chain_same wide (cap or_else counts or_else lent or_else last cut_off) (cap or_else counts or_else lent or_else last input)
       (λ _. chain_same cap (counts or_else lent or_else last cut_off) (counts or_else lent or_else last input)
       (λ _. chain_same counts (lent or_else last cut_off) (lent or_else last input) (λ z. chain_same lent (last cut_off) (last input) (λ _. ends z)))) in
       ap₂ (λ (v w : Verdict). v or_else w) enough (ap₂ (λ (v w : Verdict). v or_else w) (zeroth-same h) figures)
 
-  layout-same : (room : Room) → layoutVerdict most cut_off room ≡ layoutVerdict most input room
-  unfolding layoutVerdict blockVerdict checkCounts blocksVerdict
-  layout-same room = ap (λ (h : Header). layout-by h cut_off room) header-same ∙ links (headerOf input) room
+  layout-same : (room : Room) → layout_verdict most cut_off room ≡ layout_verdict most input room
+  unfolding layout_verdict block_verdict check_counts blocks_verdict
+  layout-same room = ap (λ (h : Header). layout-by h cut_off room) header-same ∙ links (header_of input) room
 
   -- and it is refused
-  layout-no : (room : Room) → (layoutVerdict most input room).number ≢ 0
-  unfolding layoutVerdict blockVerdict checkCounts blocksVerdict
+  layout-no : (room : Room) → (layout_verdict most input room).number ≢ 0
+  unfolding layout_verdict block_verdict check_counts blocks_verdict
   layout-no room ok =
-      let h : Header = headerOf input in
-      let b = passes-both (refuseIf (ltb (length input) 512) 20 0) _ ok in
-      let c = passes-both (blockVerdict h input 0) _ b.1 in
-      let w = passes-both (refuseIf (badK h.k) 22 0) _ c.1 in
-      let x = passes-both (refuseIf (hasCap h) 23 0) _ w.1 in
-      let d = passes-both (checkCounts most h.files h.recipes h.pins) _ x.1 in
-      let f = passes-both (refuseIf (not (roomy h room)) 3 0) _ d.1 in
+      let h : Header = header_of input in
+      let b = passes-both (refuse_if (ltb (length input) 512) 20 0) _ ok in
+      let c = passes-both (block_verdict h input 0) _ b.1 in
+      let w = passes-both (refuse_if (bad_k h.k) 22 0) _ c.1 in
+      let x = passes-both (refuse_if (has_cap h) 23 0) _ w.1 in
+      let d = passes-both (check_counts most h.files h.recipes h.pins) _ x.1 in
+      let f = passes-both (refuse_if (not (roomy h room)) 3 0) _ d.1 in
       let l = blocks-short h (counts-pass most h.files h.recipes h.pins d.0).1 in
-      omega (arith, ap (λ (v : Verdict). v.number) (unlike h input (blocksVerdict h input 1 (blockCount h - 1)) (omega (arith, l))), f.1)
+      omega (arith, ap (λ (v : Verdict). v.number) (unlike h input (blocks_verdict h input 1 (block_count h - 1)) (omega (arith, l))), f.1)
 
-  layout-refused : (bytes : List ℕ) (room : Room) → (layoutVerdict most bytes room).number ≢ 0 → readVerdict most bytes room ≡ layoutVerdict most bytes room
-  unfolding readVerdict layoutVerdict checkContents
-  layout-refused bytes room n = sym (chain-stop (checkContents (job_of bytes)) refl n)
+  layout-refused : (bytes : List ℕ) (room : Room) → (layout_verdict most bytes room).number ≢ 0 → read_verdict most bytes room ≡ layout_verdict most bytes room
+  unfolding read_verdict layout_verdict check_contents
+  layout-refused bytes room n = sym (chain-stop (check_contents (job_of bytes)) refl n)
 
-  read_same : (room : Room) → readVerdict most cut_off room ≡ readVerdict most input room
+  read_same : (room : Room) → read_verdict most cut_off room ≡ read_verdict most input room
   read_same room =
       layout-refused cut_off room (λ z. layout-no room (sym (ap (λ (v : Verdict). v.number) (layout-same room)) ∙ z)) ∙ layout-same room ∙ sym (layout-refused input room (layout-no room))
 
-  pub read_no : (room : Room) → (readVerdict most input room).number ≢ 0
+  pub read_no : (room : Room) → (read_verdict most input room).number ≢ 0
   read_no room z = layout-no room (sym (ap (λ (v : Verdict). v.number) (layout-refused input room (layout-no room))) ∙ z)
 
 -- a refusal is all that is printed of an input that is refused
-pub prints-no : (edition : ℕ) (most : Limits) (bytes : List ℕ) → (readVerdict most bytes (allRoom most)).number ≢ 0 → prints edition most bytes ≡ refusal (readVerdict most bytes (allRoom most))
+pub prints-no : (edition : ℕ) (most : Limits) (bytes : List ℕ) → (read_verdict most bytes (all_room most)).number ≢ 0 → prints edition most bytes ≡ refusal (read_verdict most bytes (all_room most))
 unfolding prints
-prints-no edition most bytes n = rw (ne_eqb (readVerdict most bytes (allRoom most)).number 0 n, prints) refl
+prints-no edition most bytes n = rw (ne_eqb (read_verdict most bytes (all_room most)).number 0 n, prints) refl
 
-pub traces-no : (edition : ℕ) (most : Limits) (bytes : List ℕ) → (readVerdict most bytes (allRoom most)).number ≢ 0 → traces edition most bytes ≡ refusal (readVerdict most bytes (allRoom most))
+pub traces-no : (edition : ℕ) (most : Limits) (bytes : List ℕ) → (read_verdict most bytes (all_room most)).number ≢ 0 → traces edition most bytes ≡ refusal (read_verdict most bytes (all_room most))
 unfolding traces
-traces-no edition most bytes n = rw (ne_eqb (readVerdict most bytes (allRoom most)).number 0 n, traces) refl
+traces-no edition most bytes n = rw (ne_eqb (read_verdict most bytes (all_room most)).number 0 n, traces) refl
 
-pub resettles-no : (edition : ℕ) (most : Limits) (bytes : List ℕ) → (readVerdict most bytes (allRoom most)).number ≢ 0
-    → resettles edition most bytes ≡ record { output = []; errors = refusal (readVerdict most bytes (allRoom most)) }
+pub resettles-no : (edition : ℕ) (most : Limits) (bytes : List ℕ) → (read_verdict most bytes (all_room most)).number ≢ 0
+    → resettles edition most bytes ≡ record { output = []; errors = refusal (read_verdict most bytes (all_room most)) }
 unfolding resettles
 resettles-no edition most bytes n =
-    let v : Verdict = readVerdict most bytes (allRoom most) or_else (allRun edition most (job_of bytes)).answer.figures.verdict in
-    let e : readVerdict most bytes (allRoom most) ≡ v = chain-stop (allRun edition most (job_of bytes)).answer.figures.verdict refl n in
+    let v : Verdict = read_verdict most bytes (all_room most) or_else (all_run edition most (job_of bytes)).answer.figures.verdict in
+    let e : read_verdict most bytes (all_room most) ≡ v = chain-stop (all_run edition most (job_of bytes)).answer.figures.verdict refl n in
     rw (ne_eqb v.number 0 (λ z. n (ap (λ (w : Verdict). w.number) e ∙ z)), resettles) (ap (λ (w : Verdict). record { output = []; errors = refusal w }) (sym e))
 
 -- what a program tells of a refused input, it tells of the input cut off
 pub cut-same : {A : Type 0} (most : Limits) (k : ℕ) (input : List ℕ) (tell : List ℕ → A) (line : Verdict → A)
-    → ((bytes : List ℕ) → (readVerdict most bytes (allRoom most)).number ≢ 0 → tell bytes ≡ line (readVerdict most bytes (allRoom most)))
-    → mostBytes most < k → tell (take k input) ≡ tell input
+    → ((bytes : List ℕ) → (read_verdict most bytes (all_room most)).number ≢ 0 → tell bytes ≡ line (read_verdict most bytes (all_room most)))
+    → most_bytes most < k → tell (take k input) ≡ tell input
 cut-same most k input tell line told more = elim (dec_lt k (length input)) [
   | yes long ↦
-      let same = read_same most k input more long (allRoom most) in
-      let n = read_no most k input more long (allRoom most) in
+      let same = read_same most k input more long (all_room most) in
+      let n = read_no most k input more long (all_room most) in
       told (take k input) (λ z. n (sym (ap (λ (v : Verdict). v.number) same) ∙ z)) ∙ ap line same ∙ sym (told input n)
   | no n ↦ ap tell (take_all k input (omega arith))
 ]

@@ -12,12 +12,12 @@ use lib.ListN.{length, get_or, take, get_or-eq_default}
 use lib.Seq.{get_or-set_same, get_or-set_other}
 use borrow.Author.Tests.{ltb-true, lt-ltb, le-ltb}
 use Rattle.rules.specs.Lists.{bit, total, count, those, up_to}
-use Rattle.rules.specs.Job.{Job, Limits, fileCount, recipeCount, files, view, recipes}
-use Rattle.rules.specs.Split.{other, side_of, times, holds, gain, isFree}
-use Rattle.rules.specs.Move.{State, start, lockOf, free, moved, stepsBy, scansOf, Change, changesOf, changed}
-use Rattle.rules.specs.Pass.{startGains, gainsAfter}
-use Rattle.rules.specs.Fronts.{Buckets, without, toFront, enteredFirst, startBuckets, reenters, movedOn}
-use Rattle.rules.specs.FrontsHold.{Standing, put, entries, bucketsAt, entriesTo}
+use Rattle.rules.specs.Job.{Job, Limits, file_count, recipe_count, files, view, recipes}
+use Rattle.rules.specs.Split.{other, side_of, times, holds, gain, is_free}
+use Rattle.rules.specs.Move.{State, start, lock_of, free, moved, steps_by, scans_of, Change, changes_of, changed}
+use Rattle.rules.specs.Pass.{start_gains, gains_after}
+use Rattle.rules.specs.Fronts.{Buckets, without, to_front, entered_first, start_buckets, reenters, moved_on}
+use Rattle.rules.specs.FrontsHold.{Standing, put, entries, buckets_at, entries_to}
 use Rattle.rules.specs.Theorems.{Distinct, Sound}
 use Rattle.rules.proofs.Tests.{and-false}
 use Rattle.rules.proofs.Count.{hit-eq, hit-ne, times_none, times_above, times_below, length-tabled}
@@ -32,76 +32,76 @@ use Rattle.rules.proofs.Latest.{times-kept, times-gone, left-gone, left-others, 
 
 -- ---- the files that enter at the start
 
-enters-others : (ys fs : List ℕ) (x : ℕ) → times x ys ≡ 0 → times x (stepsBy toFront fs ys) ≡ times x fs
-unfolding stepsBy
+enters-others : (ys fs : List ℕ) (x : ℕ) → times x ys ≡ 0 → times x (steps_by to_front fs ys) ≡ times x fs
+unfolding steps_by
 enters-others [] fs x h = refl
 enters-others (y ∷ ys) fs x h =
     let q : bit (eqb y x) + times x ys ≡ 0 = unfold times count total in h in
     elim (ℕ_discrete y x) [
       | yes e ↦ absurd (omega (arith, hit-eq e))
-      | no n ↦ enters-others ys (toFront fs y) x (omega arith) ∙ entered-others fs y x (λ e. n (sym e))
+      | no n ↦ enters-others ys (to_front fs y) x (omega arith) ∙ entered-others fs y x (λ e. n (sym e))
     ]
 
-enters-once : (ys fs : List ℕ) (x : ℕ) → 1 ≤ times x ys → times x (stepsBy toFront fs ys) ≡ 1
-unfolding stepsBy
+enters-once : (ys fs : List ℕ) (x : ℕ) → 1 ≤ times x ys → times x (steps_by to_front fs ys) ≡ 1
+unfolding steps_by
 enters-once [] fs x h = let q : 1 ≤ 0 = unfold times count total in h in absurd (omega arith)
 enters-once (y ∷ ys) fs x h =
     let q : 1 ≤ bit (eqb y x) + times x ys = unfold times count total in h in
     elim (ℕ_discrete (times x ys) 0) [
-      | no n ↦ enters-once ys (toFront fs y) x (omega (arith, n))
+      | no n ↦ enters-once ys (to_front fs y) x (omega (arith, n))
       | yes z ↦ elim (ℕ_discrete y x) [
-        | yes e ↦ enters-others ys (toFront fs y) x z ∙ ap (λ (g : ℕ). times x (toFront fs g)) e ∙ entered-once fs x
+        | yes e ↦ enters-others ys (to_front fs y) x z ∙ ap (λ (g : ℕ). times x (to_front fs g)) e ∙ entered-once fs x
         | no n ↦ absurd (omega (arith, hit-ne n))
       ]
     ]
 
 -- those below n, one file after the other
-unfoldable pub enteredBelow : Job → ℕ → List ℕ
-enteredBelow job n = stepsBy toFront [] (those (isFree job) (up_to n))
+unfoldable pub entered_below : Job → ℕ → List ℕ
+entered_below job n = steps_by to_front [] (those (is_free job) (up_to n))
 
 module _ (job : Job) where
-  pub entered_all : enteredBelow job (fileCount job) ≡ enteredFirst job
-  unfolding enteredBelow enteredFirst files
+  pub entered_all : entered_below job (file_count job) ≡ entered_first job
+  unfolding entered_below entered_first files
   entered_all = refl
 
-  pub entered_below : (n x : ℕ) → times x (enteredBelow job n) ≡ bit (ltb x n && isFree job x)
-  unfolding enteredBelow
-  entered_below n x = go (isFree job x) refl
+  pub entered_below_lem : (n x : ℕ) → times x (entered_below job n) ≡ bit (ltb x n && is_free job x)
+  unfolding entered_below
+  entered_below_lem n x = go (is_free job x) refl
     where
-      go : (t : Bool) → isFree job x ≡ t → times x (stepsBy toFront [] (those (isFree job) (up_to n))) ≡ bit (ltb x n && t)
+      go : (t : Bool) → is_free job x ≡ t → times x (steps_by to_front [] (those (is_free job) (up_to n))) ≡ bit (ltb x n && t)
       go true e = elim (dec_lt x n) [
-        | yes l ↦ enters-once (those (isFree job) (up_to n)) [] x (omega (arith, times-kept (isFree job) x e (up_to n), times_below x n l)) ∙ sym (rw (lt-ltb x n l) refl)
-        | no m ↦ enters-others (those (isFree job) (up_to n)) [] x (times-kept (isFree job) x e (up_to n) ∙ times_above x n (omega arith)) ∙ (unfold times count total in sym (rw (le-ltb x n (omega arith)) refl))
+        | yes l ↦ enters-once (those (is_free job) (up_to n)) [] x (omega (arith, times-kept (is_free job) x e (up_to n), times_below x n l)) ∙ sym (rw (lt-ltb x n l) refl)
+        | no m ↦ enters-others (those (is_free job) (up_to n)) [] x (times-kept (is_free job) x e (up_to n) ∙ times_above x n (omega arith)) ∙ (unfold times count total in sym (rw (le-ltb x n (omega arith)) refl))
       ]
-      go false e = enters-others (those (isFree job) (up_to n)) [] x (times-gone (isFree job) x e (up_to n)) ∙ (unfold times count total in sym (ap bit (and-false (ltb x n))))
+      go false e = enters-others (those (is_free job) (up_to n)) [] x (times-gone (is_free job) x e (up_to n)) ∙ (unfold times count total in sym (ap bit (and-false (ltb x n))))
 
   -- file n enters at the front of those below it, if it is free
-  pub entered-more : (n : ℕ) → enteredBelow job (suc n) ≡ cond (isFree job n) (n ∷ enteredBelow job n) (enteredBelow job n)
-  unfolding enteredBelow up_to those
+  pub entered-more : (n : ℕ) → entered_below job (suc n) ≡ cond (is_free job n) (n ∷ entered_below job n) (entered_below job n)
+  unfolding entered_below up_to those
   entered-more n =
-      ap (stepsBy toFront []) (those-append (isFree job) (up_to n) (n ∷ []))
-      ∙ steps-append toFront [] (those (isFree job) (up_to n)) (those (isFree job) (n ∷ []))
-      ∙ go (isFree job n)
+      ap (steps_by to_front []) (those-append (is_free job) (up_to n) (n ∷ []))
+      ∙ steps-append to_front [] (those (is_free job) (up_to n)) (those (is_free job) (n ∷ []))
+      ∙ go (is_free job n)
     where
-      new : without (stepsBy toFront [] (those (isFree job) (up_to n))) n ≡ stepsBy toFront [] (those (isFree job) (up_to n))
-      new = without-absent (stepsBy toFront [] (those (isFree job) (up_to n))) n (entered_below n n ∙ rw (le-ltb n n (omega arith)) refl)
+      new : without (steps_by to_front [] (those (is_free job) (up_to n))) n ≡ steps_by to_front [] (those (is_free job) (up_to n))
+      new = without-absent (steps_by to_front [] (those (is_free job) (up_to n))) n (entered_below_lem n n ∙ rw (le-ltb n n (omega arith)) refl)
 
-      go : (t : Bool) → stepsBy toFront (stepsBy toFront [] (those (isFree job) (up_to n))) (cond t (n ∷ []) [])
-          ≡ cond t (n ∷ stepsBy toFront [] (those (isFree job) (up_to n))) (stepsBy toFront [] (those (isFree job) (up_to n)))
-      go true = unfold stepsBy in ap (λ (l : List ℕ). n ∷ l) new
-      go false = unfold stepsBy in refl
+      go : (t : Bool) → steps_by to_front (steps_by to_front [] (those (is_free job) (up_to n))) (cond t (n ∷ []) [])
+          ≡ cond t (n ∷ steps_by to_front [] (those (is_free job) (up_to n))) (steps_by to_front [] (those (is_free job) (up_to n)))
+      go true = unfold steps_by in ap (λ (l : List ℕ). n ∷ l) new
+      go false = unfold steps_by in refl
 
-  pub start-standing : (sides : List ℕ) → Standing job (startBuckets job sides)
-  start-standing sides f = ap (times f) (sym entered_all) ∙ entered_below (fileCount job) f
+  pub start-standing : (sides : List ℕ) → Standing job (start_buckets job sides)
+  start-standing sides f = ap (times f) (sym entered_all) ∙ entered_below_lem (file_count job) f
 
 -- ---- the changes of a move are of free files of the job
 
 module _ (most : Limits) (job : Job) (s : Sound most job) where
   -- a recipe's files are the job's
-  pub recipes-below : (j f : ℕ) → holds (get_or (recipes job) j []) f ≡ true → f < fileCount job
-  recipes-below j f h = elim (dec_lt f (fileCount job)) [
+  pub recipes-below : (j f : ℕ) → holds (get_or (recipes job) j []) f ≡ true → f < file_count job
+  recipes-below j f h = elim (dec_lt f (file_count job)) [
     | yes l ↦ l
-    | no n ↦ elim (dec_lt j (recipeCount job)) [
+    | no n ↦ elim (dec_lt j (recipe_count job)) [
       | yes l ↦
           absurd
           (omega (
@@ -118,28 +118,28 @@ module _ (most : Limits) (job : Job) (s : Sound most job) where
     ]
   ]
 
-  pub changes-free : (st : State) (f : ℕ) (d : Change) → Every d (λ c. (c.file < fileCount job) × (free (moved st f) c.file ≡ true)) (changesOf (recipes job) st f)
+  pub changes-free : (st : State) (f : ℕ) (d : Change) → Every d (λ c. (c.file < file_count job) × (free (moved st f) c.file ≡ true)) (changes_of (recipes job) st f)
   changes-free st f d i h =
       let c = scans-change (recipes job) (moved st f) (other (side_of st.sides f)) in
-      let q = c.held (scansOf (recipes job) st f) d i h in
-      (recipes-below q.0 _ q.1, c.free (scansOf (recipes job) st f) d i h)
+      let q = c.held (scans_of (recipes job) st f) d i h in
+      (recipes-below q.0 _ q.1, c.free (scans_of (recipes job) st f) d i h)
 
 -- ---- a move
 
 -- whoever enters again was there, so the same files stand there as before
 pub reenter-standing : (d : Change) (here : ℕ → Bool) (cs : List Change) (fs : List ℕ) → Every d (λ c. here c.file ≡ true) cs
-    → ((x : ℕ) → times x fs ≡ bit (here x)) → (x : ℕ) → times x (stepsBy reenters fs cs) ≡ bit (here x)
-unfolding stepsBy
+    → ((x : ℕ) → times x fs ≡ bit (here x)) → (x : ℕ) → times x (steps_by reenters fs cs) ≡ bit (here x)
+unfolding steps_by
 reenter-standing d here [] fs all e x = e x
 reenter-standing d here (c ∷ cs) fs all e x =
     reenter-standing d here cs (reenters fs c) (λ i h. all (suc i) (omega arith))
     (λ y. elim (ℕ_discrete y c.file) [
-      | yes q ↦ ap (λ (z : ℕ). times z (toFront fs c.file)) q ∙ entered-once fs c.file ∙ ap bit (sym (ap here q ∙ all 0 (omega arith)))
+      | yes q ↦ ap (λ (z : ℕ). times z (to_front fs c.file)) q ∙ entered-once fs c.file ∙ ap bit (sym (ap here q ∙ all 0 (omega arith)))
       | no n ↦ entered-others fs c.file y n ∙ e y
     ])
     x
 
-module _ (most : Limits) (job : Job) (s : Sound most job) (b : Buckets) (f : ℕ) (long : StateLong (fileCount job) b.state) (h : f < fileCount job) where
+module _ (most : Limits) (job : Job) (s : Sound most job) (b : Buckets) (f : ℕ) (long : StateLong (file_count job) b.state) (h : f < file_count job) where
   lock-own : free (moved b.state f) f ≡ false
   unfolding moved
   lock-own = rw (get_or-set_same b.state.locks f 1 0 (omega (arith, long.locks))) refl
@@ -149,54 +149,54 @@ module _ (most : Limits) (job : Job) (s : Sound most job) (b : Buckets) (f : ℕ
   lock-others x n = ap (λ (l : ℕ). eqb l 0) (get_or-set_other b.state.locks f x 1 0 n)
 
   -- the moved file leaves
-  pub left-standing : Standing job b → (x : ℕ) → times x (without b.entered f) ≡ bit (ltb x (fileCount job) && free (moved b.state f) x)
+  pub left-standing : Standing job b → (x : ℕ) → times x (without b.entered f) ≡ bit (ltb x (file_count job) && free (moved b.state f) x)
   left-standing e x = elim (ℕ_discrete x f) [
     | yes q ↦
         ap (λ (z : ℕ). times z (without b.entered f)) q ∙ left-gone b.entered f
-        ∙ ap bit (sym (ap₂ ◌&&◌ (lt-ltb x (fileCount job) (omega arith)) (ap (free (moved b.state f)) q ∙ lock-own)))
-    | no n ↦ left-others b.entered f x n ∙ e x ∙ ap (λ (t : Bool). bit (ltb x (fileCount job) && t)) (sym (lock-others x n))
+        ∙ ap bit (sym (ap₂ ◌&&◌ (lt-ltb x (file_count job) (omega arith)) (ap (free (moved b.state f)) q ∙ lock-own)))
+    | no n ↦ left-others b.entered f x n ∙ e x ∙ ap (λ (t : Bool). bit (ltb x (file_count job) && t)) (sym (lock-others x n))
   ]
 
-  pub moved-standing : Standing job b → Standing job (movedOn job b f)
-  unfolding movedOn
+  pub moved-standing : Standing job b → Standing job (moved_on job b f)
+  unfolding moved_on
   moved-standing e =
       let d : Change = record { file = 0; by = pos 0 } in
-      reenter-standing d (λ x. ltb x (fileCount job) && free (moved b.state f) x) (changesOf (recipes job) b.state f) (without b.entered f)
-      (λ i k. let q = changes-free most job s b.state f d i k in ap₂ ◌&&◌ (lt-ltb _ (fileCount job) q.0) q.1)
+      reenter-standing d (λ x. ltb x (file_count job) && free (moved b.state f) x) (changes_of (recipes job) b.state f) (without b.entered f)
+      (λ i k. let q = changes-free most job s b.state f d i k in ap₂ ◌&&◌ (lt-ltb _ (file_count job) q.0) q.1)
       (left-standing e)
 
 -- ---- whoever stands first entered last
 
-pub start-latest : (job : Job) → Latest (enteredFirst job) (stepsBy put [] (those (isFree job) (files job)))
-unfolding enteredFirst
-start-latest job = latest-all (those (isFree job) (files job)) [] [] (λ x y a b l. l)
+pub start-latest : (job : Job) → Latest (entered_first job) (steps_by put [] (those (is_free job) (files job)))
+unfolding entered_first
+start-latest job = latest-all (those (is_free job) (files job)) [] [] (λ x y a b l. l)
 
-moved-latest : (job : Job) (b : Buckets) (f : ℕ) (h : List ℕ) → Latest b.entered h → Latest (movedOn job b f).entered (stepsBy put h (map (λ c. c.file) (changesOf (recipes job) b.state f)))
-unfolding movedOn
+moved-latest : (job : Job) (b : Buckets) (f : ℕ) (h : List ℕ) → Latest b.entered h → Latest (moved_on job b f).entered (steps_by put h (map (λ c. c.file) (changes_of (recipes job) b.state f)))
+unfolding moved_on
 moved-latest job b f h l =
-    let xs : List ℕ = map (λ c. c.file) (changesOf (recipes job) b.state f) in
-    subst (λ (fs : List ℕ). Latest fs (stepsBy put h xs)) (sym (changed-enter (changesOf (recipes job) b.state f) (without b.entered f)))
+    let xs : List ℕ = map (λ c. c.file) (changes_of (recipes job) b.state f) in
+    subst (λ (fs : List ℕ). Latest fs (steps_by put h xs)) (sym (changed-enter (changes_of (recipes job) b.state f) (without b.entered f)))
     (latest-all xs (without b.entered f) h (latest-left b.entered h f l))
 
-after-latest : (job : Job) (b : Buckets) (ms h : List ℕ) → Latest b.entered h → Latest (stepsBy (movedOn job) b ms).entered (stepsBy put h (entries job b.state ms))
-unfolding stepsBy entries movedOn
+after-latest : (job : Job) (b : Buckets) (ms h : List ℕ) → Latest b.entered h → Latest (steps_by (moved_on job) b ms).entered (steps_by put h (entries job b.state ms))
+unfolding steps_by entries moved_on
 after-latest job b [] h l = l
 after-latest job b (f ∷ ms) h l =
-    let xs : List ℕ = map (λ c. c.file) (changesOf (recipes job) b.state f) in
-    subst (λ (g : List ℕ). Latest (stepsBy (movedOn job) (movedOn job b f) ms).entered g)
+    let xs : List ℕ = map (λ c. c.file) (changes_of (recipes job) b.state f) in
+    subst (λ (g : List ℕ). Latest (steps_by (moved_on job) (moved_on job b f) ms).entered g)
     (sym (steps-append put h xs (entries job (moved b.state f) ms)))
-    (after-latest job (movedOn job b f) ms (stepsBy put h xs) (moved-latest job b f h l))
+    (after-latest job (moved_on job b f) ms (steps_by put h xs) (moved-latest job b f h l))
 
-pub moves-latest : (job : Job) (sides ms : List ℕ) (k : ℕ) → Latest (bucketsAt job sides ms k).entered (stepsBy put [] (entriesTo job sides ms k))
+pub moves-latest : (job : Job) (sides ms : List ℕ) (k : ℕ) → Latest (buckets_at job sides ms k).entered (steps_by put [] (entries_to job sides ms k))
 moves-latest job sides ms k =
-    let xs : List ℕ = those (isFree job) (files job) in
-    subst (λ (g : List ℕ). Latest (bucketsAt job sides ms k).entered g) (sym (steps-append put [] xs (entries job (start job sides) (take k ms))))
-    (after-latest job (startBuckets job sides) (take k ms) (stepsBy put [] xs) (start-latest job))
+    let xs : List ℕ = those (is_free job) (files job) in
+    subst (λ (g : List ℕ). Latest (buckets_at job sides ms k).entered g) (sym (steps-append put [] xs (entries job (start job sides) (take k ms))))
+    (after-latest job (start_buckets job sides) (take k ms) (steps_by put [] xs) (start-latest job))
 
 -- ---- a file that no scan of a move changes keeps its gain
 
-changed-others : (cs : List Change) (g : List ℤ) (x : ℕ) → times x (map (λ c. c.file) cs) ≡ 0 → get_or (stepsBy changed g cs) x (pos 0) ≡ get_or g x (pos 0)
-unfolding stepsBy
+changed-others : (cs : List Change) (g : List ℤ) (x : ℕ) → times x (map (λ c. c.file) cs) ≡ 0 → get_or (steps_by changed g cs) x (pos 0) ≡ get_or g x (pos 0)
+unfolding steps_by
 changed-others [] g x h = refl
 changed-others (c ∷ cs) g x h =
     let q : bit (eqb c.file x) + times x (map (λ c. c.file) cs) ≡ 0 = unfold times count total in h in
@@ -205,12 +205,12 @@ changed-others (c ∷ cs) g x h =
       | no n ↦ changed-others cs (changed g c) x (omega arith) ∙ get_or-set_other g c.file x _ (pos 0) n
     ]
 
-pub gain-unchanged : (rs : List (List ℕ)) (dis : Distinct rs) (st : State) (f x : ℕ) → Moves st (moved st f) f → lockOf (moved st f) x ≡ 0
-    → times x (map (λ c. c.file) (changesOf rs st f)) ≡ 0 → gain (moved st f).sides rs x ≡ gain st.sides rs x
+pub gain-unchanged : (rs : List (List ℕ)) (dis : Distinct rs) (st : State) (f x : ℕ) → Moves st (moved st f) f → lock_of (moved st f) x ≡ 0
+    → times x (map (λ c. c.file) (changes_of rs st f)) ≡ 0 → gain (moved st f).sides rs x ≡ gain st.sides rs x
 gain-unchanged rs dis st f x m l h =
-    let g : List ℤ = startGains rs (suc x) st in
-    let long : length g ≡ suc x = unfold gainsAfter in length-tabled _ (suc x) in
+    let g : List ℤ = start_gains rs (suc x) st in
+    let long : length g ≡ suc x = unfold gains_after in length-tabled _ (suc x) in
     let fresh : get_or g x (pos 0) ≡ gain st.sides rs x = start-fresh rs dis (suc x) st x (omega arith) (was_free m x l) in
     sym (scanned-free rs dis st f m g x (omega arith) l fresh)
-    ∙ ap (λ (z : List ℤ). get_or z x (pos 0)) ((scans-change rs (moved st f) (other (side_of st.sides f))).all (scansOf rs st f) g)
-    ∙ changed-others (changesOf rs st f) g x h ∙ fresh
+    ∙ ap (λ (z : List ℤ). get_or z x (pos 0)) ((scans-change rs (moved st f) (other (side_of st.sides f))).all (scans_of rs st f) g)
+    ∙ changed-others (changes_of rs st f) g x h ∙ fresh

@@ -8,7 +8,7 @@ use native.Mathlib.Numerals.{add-one}
 use native.Mathlib.Omega.{arith}
 use lib.ListN.{length, get_or, set, take, drop, replicate, length-append, length-drop, length-replicate, get_or-replicate, drop_of_length-le, get_or-append, get_or-eq_default}
 use lib.Seq.{get_or-append-add, get_or-drop, drop-cons, drop-drop, drop-append-add, append_snoc, set-append_seam, take-append_seam, take-length, paste, ext_get_or}
-use Rattle.rules.specs.Lists.{allBelow, onto, padded, listed}
+use Rattle.rules.specs.Lists.{AllBelow, onto, padded, listed}
 use Rattle.rules.specs.Theorems.{Listed}
 
 pub get_d_past {ℓ} : {A : Type ℓ} (d : A) (xs ys : List A) (i : ℕ) → length xs ≤ i → get_or (xs ++ ys) i d ≡ get_or ys (i - length xs) d
@@ -17,7 +17,7 @@ get_d_past d xs ys i h =
     ap (λ (k : ℕ). get_or (xs ++ ys) k d) (sym e) ∙ get_or-append-add xs ys (i - length xs) d
 
 -- an entry beyond the list reads as 0, which is below m too
-pub below-any : (m : ℕ) (xs : List ℕ) → 0 < m → allBelow m xs → (i : ℕ) → get_or xs i 0 < m
+pub below-any : (m : ℕ) (xs : List ℕ) → 0 < m → AllBelow m xs → (i : ℕ) → get_or xs i 0 < m
 below-any m xs h below i = elim (dec_lt i (length xs)) [
   | yes l ↦ below i l
   | no n ↦ omega (arith, get_or-eq_default xs 0 {n = i} (omega arith))

@@ -1,17 +1,17 @@
 -- The jobs of specs/FrontsWorked.antt that are worked by hand. Assumes nothing.
 use mathlib.Core.Path.{refl}
-use Rattle.rules.specs.Lists.{total, count, those, largest, up_to, lowest, bestUpTo, diff}
-use Rattle.rules.specs.Job.{view_of, files, views, readIn, recipes}
-use Rattle.rules.specs.Split.{countOn, isCut, cut, times, alone, together, gain, unreadFiles, unreadRecipes, weight, smax, sizeOn, balanced}
-use Rattle.rules.specs.Check.{badPin, check}
-use Rattle.rules.specs.Move.{moved, stepsBy, sizeAfter, legal, distAfter, challenge, firstBelow, choose, movesBy, moves, fileOn, kindsIn, kindsOf, scansFrom, scans, endsFrom, visits, changesIn, changesBy}
-use Rattle.rules.specs.Pass.{gainsWhen, cutsAfter, cut_at, keeps, standing, gainsAfter, passOf}
-use Rattle.rules.specs.Run.{passesBy, mostPasses, passes}
-use Rattle.rules.specs.Fronts.{enteredFirst, movedOn, frontBelow, frontOf, chooseFront, frontTries}
+use Rattle.rules.specs.Lists.{total, count, those, largest, up_to, lowest, best_up_to, diff}
+use Rattle.rules.specs.Job.{view_of, files, views, read_in, recipes}
+use Rattle.rules.specs.Split.{count_on, is_cut, cut, times, alone, together, gain, unread_files, unread_recipes, weight, smax, size_on, balanced}
+use Rattle.rules.specs.Check.{bad_pin, check}
+use Rattle.rules.specs.Move.{moved, steps_by, size_after, legal, dist_after, challenge, first_below, choose, moves_by, moves, file_on, kinds_in, kinds_of, scans_from, scans, ends_from, visits, changes_in, changes_by}
+use Rattle.rules.specs.Pass.{gains_when, cuts_after, cut_at, keeps, standing, gains_after, pass_of}
+use Rattle.rules.specs.Run.{passes_by, most_passes, passes}
+use Rattle.rules.specs.Fronts.{entered_first, moved_on, front_below, front_of, choose_front, front_tries}
 use Rattle.rules.specs.FrontsWorked.{filled, FrontsWorked}
 
 pub worked : FrontsWorked
-unfolding total count those largest up_to lowest bestUpTo diff view_of files views readIn recipes countOn isCut cut times alone together gain unreadFiles unreadRecipes weight smax sizeOn balanced badPin check moved stepsBy sizeAfter legal distAfter challenge firstBelow choose movesBy moves fileOn kindsIn kindsOf scansFrom scans endsFrom visits changesIn changesBy gainsWhen cutsAfter cut_at keeps standing gainsAfter passOf passesBy mostPasses passes enteredFirst movedOn frontBelow frontOf chooseFront frontTries filled
+unfolding total count those largest up_to lowest best_up_to diff view_of files views read_in recipes count_on is_cut cut times alone together gain unread_files unread_recipes weight smax size_on balanced bad_pin check moved steps_by size_after legal dist_after challenge first_below choose moves_by moves file_on kinds_in kinds_of scans_from scans ends_from visits changes_in changes_by gains_when cuts_after cut_at keeps standing gains_after pass_of passes_by most_passes passes entered_first moved_on front_below front_of choose_front front_tries filled
 worked = record {
   checked = refl;
   moves = refl;

@@ -10,8 +10,8 @@ use lib.Dec.{eqb}
 use borrow.Author.Tests.{eq-eqb, ne_eqb}
 use Rattle.rules.specs.Lists.{total, count, those}
 use Rattle.rules.specs.Split.{times}
-use Rattle.rules.specs.Move.{stepsBy, Change}
-use Rattle.rules.specs.Fronts.{without, toFront, reenters}
+use Rattle.rules.specs.Move.{steps_by, Change}
+use Rattle.rules.specs.Fronts.{without, to_front, reenters}
 use Rattle.rules.specs.FrontsHold.{place_of, put}
 use Rattle.rules.proofs.Tests.{clash}
 use Rattle.rules.proofs.Count.{hit-eq, hit-ne, hit-self}
@@ -79,11 +79,11 @@ left-gone fs f = times-gone (λ g. not (eqb g f)) f (ap not (eq-eqb f f refl)) f
 pub left-others : (fs : List ℕ) (f x : ℕ) → x ≢ f → times x (without fs f) ≡ times x fs
 left-others fs f x n = times-kept (λ g. not (eqb g f)) x (ap not (ne_eqb x f n)) fs
 
-pub entered-once : (fs : List ℕ) (f : ℕ) → times f (toFront fs f) ≡ 1
+pub entered-once : (fs : List ℕ) (f : ℕ) → times f (to_front fs f) ≡ 1
 unfolding times count total
 entered-once fs f = omega (arith, hit-self f, left-gone fs f)
 
-pub entered-others : (fs : List ℕ) (f x : ℕ) → x ≢ f → times x (toFront fs f) ≡ times x fs
+pub entered-others : (fs : List ℕ) (f x : ℕ) → x ≢ f → times x (to_front fs f) ≡ times x fs
 unfolding times count total
 entered-others fs f x n = omega (arith, hit-ne (λ (e : f ≡ x). n (sym e)), left-others fs f x n)
 
@@ -135,9 +135,9 @@ latest-left fs h f l x y a b k =
     let n : y ≢ f = λ e. omega (arith, ap (λ (z : ℕ). times z (without fs f)) e, left-gone fs f) in
     l x y (omega (arith, left-others fs f x m)) (omega (arith, left-others fs f y n)) (without-order fs f x y m n k)
 
-pub latest-enters : (fs h : List ℕ) (f : ℕ) → Latest fs h → Latest (toFront fs f) (put h f)
+pub latest-enters : (fs h : List ℕ) (f : ℕ) → Latest fs h → Latest (to_front fs f) (put h f)
 latest-enters fs h f l x y a b k = elim (ℕ_discrete y f) [
-  | yes q ↦ absurd (omega (arith, ap (place_of (toFront fs f)) q, place-first f (without fs f)))
+  | yes q ↦ absurd (omega (arith, ap (place_of (to_front fs f)) q, place-first f (without fs f)))
   | no n ↦ elim (ℕ_discrete x f) [
     | yes q ↦ omega (arith, ap (place_of (f ∷ h)) q, place-first f h, place-later f y h n)
     | no m ↦
@@ -150,13 +150,13 @@ latest-enters fs h f l x y a b k = elim (ℕ_discrete y f) [
   ]
 ]
 
-pub latest-all : (xs fs h : List ℕ) → Latest fs h → Latest (stepsBy toFront fs xs) (stepsBy put h xs)
-unfolding stepsBy
+pub latest-all : (xs fs h : List ℕ) → Latest fs h → Latest (steps_by to_front fs xs) (steps_by put h xs)
+unfolding steps_by
 latest-all [] fs h l = l
-latest-all (x ∷ xs) fs h l = latest-all xs (toFront fs x) (put h x) (latest-enters fs h x l)
+latest-all (x ∷ xs) fs h l = latest-all xs (to_front fs x) (put h x) (latest-enters fs h x l)
 
 -- a file changed by a scan enters at the front
-pub changed-enter : (cs : List Change) (fs : List ℕ) → stepsBy reenters fs cs ≡ stepsBy toFront fs (map (λ c. c.file) cs)
-unfolding stepsBy
+pub changed-enter : (cs : List Change) (fs : List ℕ) → steps_by reenters fs cs ≡ steps_by to_front fs (map (λ c. c.file) cs)
+unfolding steps_by
 changed-enter [] fs = refl
-changed-enter (c ∷ cs) fs = changed-enter cs (toFront fs c.file)
+changed-enter (c ∷ cs) fs = changed-enter cs (to_front fs c.file)

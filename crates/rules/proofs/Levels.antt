@@ -10,11 +10,11 @@ use lib.Signed.{lt_z}
 use lib.ListN.{length}
 use borrow.Author.Tests.{eq-eqb, ne_eqb, eqb-true, lt-ltb, ltb-true, leb-true}
 use Rattle.rules.specs.Lists.{bit, total, count, those, diff}
-use Rattle.rules.specs.Job.{Job, isRead, enough, readIn, views, recipes}
-use Rattle.rules.specs.Split.{other, side_of, onSide, countOn, times, holds, recipesWith, alone, together, gain}
-use Rattle.rules.specs.Move.{State, lockOf, free, lockedOn}
+use Rattle.rules.specs.Job.{Job, is_read, enough, read_in, views, recipes}
+use Rattle.rules.specs.Split.{other, side_of, on_side, count_on, times, holds, recipes_with, alone, together, gain}
+use Rattle.rules.specs.Move.{State, lock_of, free, locked_on}
 use Rattle.rules.specs.Theorems.{Binary}
-use Rattle.rules.specs.Levels.{Binding, counted, unlimited, freeFiles, bindingOf, binding, adds, takes, bindsBy, level}
+use Rattle.rules.specs.Levels.{Binding, counted, unlimited, free_files, binding_of, binding, adds, takes, binds_by, level}
 use Rattle.rules.specs.LevelsHold.{BindingHolds, readable, LevelsHold}
 use Rattle.rules.proofs.Tests.{clash, and_both, and_yes, contra}
 use Rattle.rules.proofs.Count.{is0, is1, and-le, total-le, total-has, total-same, total-zero, total-map}
@@ -47,35 +47,35 @@ on-split true false = refl
 on-split false b = refl
 
 -- the free files and the locked ones are all that are there
-pub free-or-locked : (st : State) (u : ℕ) (r : List ℕ) → freeFiles st u r + lockedOn st u r ≡ countOn st.sides u r
-unfolding freeFiles lockedOn countOn count total
+pub free-or-locked : (st : State) (u : ℕ) (r : List ℕ) → free_files st u r + locked_on st u r ≡ count_on st.sides u r
+unfolding free_files locked_on count_on count total
 free-or-locked st u [] = refl
-free-or-locked st u (x ∷ r) = omega (arith, on-split (onSide st.sides u x) (free st x), free-or-locked st u r)
+free-or-locked st u (x ∷ r) = omega (arith, on-split (on_side st.sides u x) (free st x), free-or-locked st u r)
 
-pub binding-by : (st : State) (u : ℕ) (r : List ℕ) → binding st u r ≡ bindingOf (countOn st.sides u r) (lockedOn st u r)
+pub binding-by : (st : State) (u : ℕ) (r : List ℕ) → binding st u r ≡ binding_of (count_on st.sides u r) (locked_on st u r)
 unfolding binding
-binding-by st u r = go (eqb (lockedOn st u r) 0) refl
+binding-by st u r = go (eqb (locked_on st u r) 0) refl
   where
-    go : (b : Bool) → eqb (lockedOn st u r) 0 ≡ b → cond b (counted (freeFiles st u r)) unlimited ≡ cond b (counted (countOn st.sides u r)) unlimited
+    go : (b : Bool) → eqb (locked_on st u r) 0 ≡ b → cond b (counted (free_files st u r)) unlimited ≡ cond b (counted (count_on st.sides u r)) unlimited
     go true e =
-        let z : freeFiles st u r ≡ countOn st.sides u r = omega (arith, free-or-locked st u r, eqb-true (lockedOn st u r) 0 e) in
+        let z : free_files st u r ≡ count_on st.sides u r = omega (arith, free-or-locked st u r, eqb-true (locked_on st u r) 0 e) in
         ap counted z
     go false e = refl
 
 -- file by file
 pub binding-holds : (st : State) (u : ℕ) (r : List ℕ) → BindingHolds st u r
-unfolding lockedOn
+unfolding locked_on
 binding-holds st u r = record {
   locked = λ x h on n.
-      let some = count_held (λ y. onSide st.sides u y && not (free st y)) x r (and_both on (ap not (ne_eqb (lockOf st x) 0 n))) h in
-      let is : eqb (lockedOn st u r) 0 ≡ false = ne_eqb (lockedOn st u r) 0 (λ z. omega arith) in
-      binding-by st u r ∙ ap (λ (b : Bool). cond b (counted (countOn st.sides u r)) unlimited) is;
+      let some = count_held (λ y. on_side st.sides u y && not (free st y)) x r (and_both on (ap not (ne_eqb (lock_of st x) 0 n))) h in
+      let is : eqb (locked_on st u r) 0 ≡ false = ne_eqb (locked_on st u r) 0 (λ z. omega arith) in
+      binding-by st u r ∙ ap (λ (b : Bool). cond b (counted (count_on st.sides u r)) unlimited) is;
   free = λ all.
-      let none : lockedOn st u r ≡ 0
-      = count_none (λ y. onSide st.sides u y && not (free st y)) r (λ x h. contra (onSide st.sides u x && not (free st x)) (λ e.
-      let q = and_yes (onSide st.sides u x) (not (free st x)) e in
-      clash (sym q.1 ∙ ap not (eq-eqb (lockOf st x) 0 (all x h q.0))))) in
-      binding-by st u r ∙ ap (bindingOf (countOn st.sides u r)) none;
+      let none : locked_on st u r ≡ 0
+      = count_none (λ y. on_side st.sides u y && not (free st y)) r (λ x h. contra (on_side st.sides u x && not (free st x)) (λ e.
+      let q = and_yes (on_side st.sides u x) (not (free st x)) e in
+      clash (sym q.1 ∙ ap not (eq-eqb (lock_of st x) 0 (all x h q.0))))) in
+      binding-by st u r ∙ ap (binding_of (count_on st.sides u r)) none;
 }
 
 -- ---- numbers alone: O files of a side, LO of them locked, T and Lt of the other
@@ -84,7 +84,7 @@ some0 : (n : ℕ) → ltb 0 (suc n) ≡ true
 some0 n = lt-ltb 0 (suc n) (omega arith)
 
 -- with a free file there, and two files in all, level 1 adds where one is alone
-adds_one : (O LO T Lt : ℕ) → LO < O → Lt ≤ T → 2 ≤ O + T → adds 1 (bindingOf O LO) (bindingOf T Lt) ≡ eqb O 1
+adds_one : (O LO T Lt : ℕ) → LO < O → Lt ≤ T → 2 ≤ O + T → adds 1 (binding_of O LO) (binding_of T Lt) ≡ eqb O 1
 adds_one zero LO T Lt h k l = absurd (omega arith)
 adds_one (suc zero) (suc LO) T Lt h k l = absurd (omega arith)
 adds_one (suc zero) zero zero Lt h k l = absurd (omega arith)
@@ -94,7 +94,7 @@ adds_one (suc (suc O)) zero T Lt h k l = simp is1
 adds_one (suc (suc O)) (suc LO) T Lt h k l = simp (is0, is1)
 
 -- and takes where none is on the other side
-takes_one : (O LO T Lt : ℕ) → LO < O → Lt ≤ T → takes 1 (bindingOf O LO) (bindingOf T Lt) ≡ eqb T 0
+takes_one : (O LO T Lt : ℕ) → LO < O → Lt ≤ T → takes 1 (binding_of O LO) (binding_of T Lt) ≡ eqb T 0
 takes_one zero LO T Lt h k = absurd (omega arith)
 takes_one (suc O) zero T zero h k = simp some0
 takes_one (suc O) zero zero (suc Lt) h k = absurd (omega arith)
@@ -115,105 +115,105 @@ on_one zero (suc (suc u)) h k = absurd (omega arith)
 on_one (suc zero) (suc (suc u)) h k = absurd (omega arith)
 
 -- a recipe's files are on the two sides
-pub both-sides : (sides : List ℕ) → Binary sides → (u : ℕ) → u ≤ 1 → (r : List ℕ) → countOn sides u r + countOn sides (1 - u) r ≡ length r
-unfolding countOn count total
+pub both-sides : (sides : List ℕ) → Binary sides → (u : ℕ) → u ≤ 1 → (r : List ℕ) → count_on sides u r + count_on sides (1 - u) r ≡ length r
+unfolding count_on count total
 both-sides sides bin u h [] = refl
 both-sides sides bin u h (x ∷ r) = omega (arith, on_one (side_of sides x) u (bin x) h, both-sides sides bin u h r)
 
 -- a free file of r is counted on its side, and not among the locked ones
-own-free : (st : State) (f : ℕ) (r : List ℕ) → lockOf st f ≡ 0 → holds r f ≡ true → lockedOn st (side_of st.sides f) r < countOn st.sides (side_of st.sides f) r
-unfolding freeFiles
+own-free : (st : State) (f : ℕ) (r : List ℕ) → lock_of st f ≡ 0 → holds r f ≡ true → locked_on st (side_of st.sides f) r < count_on st.sides (side_of st.sides f) r
+unfolding free_files
 own-free st f r e h =
     let u : ℕ = side_of st.sides f in
-    omega (arith, free-or-locked st u r, count_held (λ x. onSide st.sides u x && free st x) f r (and_both (eq-eqb u u refl) (eq-eqb (lockOf st f) 0 e)) h)
+    omega (arith, free-or-locked st u r, count_held (λ x. on_side st.sides u x && free st x) f r (and_both (eq-eqb u u refl) (eq-eqb (lock_of st f) 0 e)) h)
 
 -- ---- level 1
 
-module _ (st : State) (bin : Binary st.sides) (f : ℕ) (e : lockOf st f ≡ 0) (r : List ℕ) (two : holds r f ≡ true → 2 ≤ length r) where
+module _ (st : State) (bin : Binary st.sides) (f : ℕ) (e : lock_of st f ≡ 0) (r : List ℕ) (two : holds r f ≡ true → 2 ≤ length r) where
   abbrev u : ℕ
   u = side_of st.sides f
 
   -- what a test on the two numbers says of a recipe of f
   by-counts : (test : Binding → Binding → Bool) (t : Bool)
-      → (holds r f ≡ true → test (bindingOf (countOn st.sides u r) (lockedOn st u r)) (bindingOf (countOn st.sides (1 - u) r) (lockedOn st (1 - u) r)) ≡ t)
-      → bindsBy test st f r ≡ (holds r f && t)
+      → (holds r f ≡ true → test (binding_of (count_on st.sides u r) (locked_on st u r)) (binding_of (count_on st.sides (1 - u) r) (locked_on st (1 - u) r)) ≡ t)
+      → binds_by test st f r ≡ (holds r f && t)
   by-counts test t h = go (holds r f) refl
     where
       go : (b : Bool) → holds r f ≡ b → (b && test (binding st u r) (binding st (1 - u) r)) ≡ (b && t)
       go true q = ap₂ test (binding-by st u r) (binding-by st (1 - u) r) ∙ h q
       go false q = refl
 
-  adds-alone : bindsBy (adds 1) st f r ≡ alone st.sides f r
+  adds-alone : binds_by (adds 1) st f r ≡ alone st.sides f r
   unfolding alone
-  adds-alone = by-counts (adds 1) (eqb (countOn st.sides u r) 1) (λ h.
-      adds_one (countOn st.sides u r) (lockedOn st u r) (countOn st.sides (1 - u) r) (lockedOn st (1 - u) r)
+  adds-alone = by-counts (adds 1) (eqb (count_on st.sides u r) 1) (λ h.
+      adds_one (count_on st.sides u r) (locked_on st u r) (count_on st.sides (1 - u) r) (locked_on st (1 - u) r)
       (own-free st f r e h) (locked-le st (1 - u) r) (omega (arith, two h, both-sides st.sides bin u (bin f) r)))
 
-  takes-together : bindsBy (takes 1) st f r ≡ together st.sides f r
+  takes-together : binds_by (takes 1) st f r ≡ together st.sides f r
   unfolding together
-  takes-together = by-counts (takes 1) (eqb (countOn st.sides (1 - u) r) 0) (λ h.
-      takes_one (countOn st.sides u r) (lockedOn st u r) (countOn st.sides (1 - u) r) (lockedOn st (1 - u) r)
+  takes-together = by-counts (takes 1) (eqb (count_on st.sides (1 - u) r) 0) (λ h.
+      takes_one (count_on st.sides u r) (locked_on st u r) (count_on st.sides (1 - u) r) (locked_on st (1 - u) r)
       (own-free st f r e h) (locked-le st (1 - u) r))
 
 -- a recipe of f as cut, gains and levels see it has two files
-read-two : (job : Job) (f : ℕ) (v : List ℕ) → holds (readIn job v) f ≡ true → 2 ≤ length (readIn job v)
-unfolding readIn
-read-two job f v h = go (enough (those (isRead job) v)) refl h
+read-two : (job : Job) (f : ℕ) (v : List ℕ) → holds (read_in job v) f ≡ true → 2 ≤ length (read_in job v)
+unfolding read_in
+read-two job f v h = go (enough (those (is_read job) v)) refl h
   where
-    go : (b : Bool) → enough (those (isRead job) v) ≡ b → holds (cond b (those (isRead job) v) []) f ≡ true → 2 ≤ length (cond b (those (isRead job) v) [])
-    go true q k = leb-true 2 (length (those (isRead job) v)) q
+    go : (b : Bool) → enough (those (is_read job) v) ≡ b → holds (cond b (those (is_read job) v) []) f ≡ true → 2 ≤ length (cond b (those (is_read job) v) [])
+    go true q k = leb-true 2 (length (those (is_read job) v)) q
     go false q k = absurd (unfold times count total in omega (arith, ltb-true 0 (times f []) k))
 
 -- two tests that agree on every recipe of a job count the same
-count-read : (job : Job) (p q : List ℕ → Bool) → ((v : List ℕ) → p (readIn job v) ≡ q (readIn job v)) → count p (recipes job) ≡ count q (recipes job)
+count-read : (job : Job) (p q : List ℕ → Bool) → ((v : List ℕ) → p (read_in job v) ≡ q (read_in job v)) → count p (recipes job) ≡ count q (recipes job)
 unfolding recipes count
 count-read job p q h =
-    total-map (λ r. bit (p r)) (readIn job) (views job)
-    ∙ total-same (λ v. bit (q (readIn job v))) (λ v. bit (p (readIn job v))) (λ v. ap bit (h v)) (views job)
-    ∙ sym (total-map (λ r. bit (q r)) (readIn job) (views job))
+    total-map (λ r. bit (p r)) (read_in job) (views job)
+    ∙ total-same (λ v. bit (q (read_in job v))) (λ v. bit (p (read_in job v))) (λ v. ap bit (h v)) (views job)
+    ∙ sym (total-map (λ r. bit (q r)) (read_in job) (views job))
 
-pub level-one : (job : Job) (st : State) → Binary st.sides → (f : ℕ) → lockOf st f ≡ 0 → level job st 1 f ≡ gain st.sides (recipes job) f
+pub level-one : (job : Job) (st : State) → Binary st.sides → (f : ℕ) → lock_of st f ≡ 0 → level job st 1 f ≡ gain st.sides (recipes job) f
 unfolding level gain
 level-one job st bin f e =
     ap₂ diff
-    (count-read job (bindsBy (adds 1) st f) (alone st.sides f) (λ v. adds-alone st bin f e (readIn job v) (read-two job f v)))
-    (count-read job (bindsBy (takes 1) st f) (together st.sides f) (λ v. takes-together st bin f e (readIn job v) (read-two job f v)))
+    (count-read job (binds_by (adds 1) st f) (alone st.sides f) (λ v. adds-alone st bin f e (read_in job v) (read-two job f v)))
+    (count-read job (binds_by (takes 1) st f) (together st.sides f) (λ v. takes-together st bin f e (read_in job v) (read-two job f v)))
 
 -- ---- every level
 
 module _ (job : Job) (st : State) (i f : ℕ) where
   -- a recipe left empty is no recipe of f
   count-readable : (test : Binding → Binding → Bool) (vs : List (List ℕ))
-      → count (bindsBy test st f) (map (readIn job) vs) ≡ count (bindsBy test st f) (those enough (map (those (isRead job)) vs))
-  unfolding count total those readIn times
+      → count (binds_by test st f) (map (read_in job) vs) ≡ count (binds_by test st f) (those enough (map (those (is_read job)) vs))
+  unfolding count total those read_in times
   count-readable test [] = refl
-  count-readable test (v ∷ vs) = go (enough (those (isRead job) v)) (count-readable test vs)
+  count-readable test (v ∷ vs) = go (enough (those (is_read job) v)) (count-readable test vs)
     where
       p : List ℕ → ℕ
-      p r = bit (bindsBy test st f r)
+      p r = bit (binds_by test st f r)
 
-      go : (b : Bool) → total p (map (readIn job) vs) ≡ total p (those enough (map (those (isRead job)) vs))
-          → p (cond b (those (isRead job) v) []) + total p (map (readIn job) vs)
-          ≡ total p (cond b (those (isRead job) v ∷ those enough (map (those (isRead job)) vs)) (those enough (map (those (isRead job)) vs)))
-      go true ih = ap (λ (n : ℕ). p (those (isRead job) v) + n) ih
+      go : (b : Bool) → total p (map (read_in job) vs) ≡ total p (those enough (map (those (is_read job)) vs))
+          → p (cond b (those (is_read job) v) []) + total p (map (read_in job) vs)
+          ≡ total p (cond b (those (is_read job) v ∷ those enough (map (those (is_read job)) vs)) (those enough (map (those (is_read job)) vs)))
+      go true ih = ap (λ (n : ℕ). p (those (is_read job) v) + n) ih
       go false ih = omega (arith, ih)
 
-  level-readable : level job st i f ≡ diff (count (bindsBy (adds i) st f) (readable job)) (count (bindsBy (takes i) st f) (readable job))
+  level-readable : level job st i f ≡ diff (count (binds_by (adds i) st f) (readable job)) (count (binds_by (takes i) st f) (readable job))
   unfolding level recipes
   level-readable = ap₂ diff (count-readable (adds i) (views job)) (count-readable (takes i) (views job))
 
-  binds-le : (test : Binding → Binding → Bool) → count (bindsBy test st f) (recipes job) ≤ recipesWith (recipes job) f
+  binds-le : (test : Binding → Binding → Bool) → count (binds_by test st f) (recipes job) ≤ recipes_with (recipes job) f
   unfolding count
   binds-le test =
-      total-le (λ r. bit (holds r f)) (λ r. bit (bindsBy test st f r))
+      total-le (λ r. bit (holds r f)) (λ r. bit (binds_by test st f r))
       (λ r. and-le (holds r f) (test (binding st (side_of st.sides f) r) (binding st (other (side_of st.sides f)) r))) (recipes job)
 
-  level-range : (lt_z (level job st i f) (diff 0 (recipesWith (recipes job) f)) ≡ false) × (lt_z (pos (recipesWith (recipes job) f)) (level job st i f) ≡ false)
+  level-range : (lt_z (level job st i f) (diff 0 (recipes_with (recipes job) f)) ≡ false) × (lt_z (pos (recipes_with (recipes job) f)) (level job st i f) ≡ false)
   unfolding level
   level-range =
-      let p : ℕ = recipesWith (recipes job) f in
-      let a : ℕ = count (bindsBy (adds i) st f) (recipes job) in
-      let b : ℕ = count (bindsBy (takes i) st f) (recipes job) in
+      let p : ℕ = recipes_with (recipes job) f in
+      let a : ℕ = count (binds_by (adds i) st f) (recipes job) in
+      let b : ℕ = count (binds_by (takes i) st f) (recipes job) in
       (diff-least a b 0 p (omega (arith, binds-le (takes i))), ap (λ z. lt_z z (diff a b)) (diff-pos p) ∙ diff-least p 0 a b (omega (arith, binds-le (adds i))))
 
 pub levels-hold : (job : Job) (st : State) → Binary st.sides → LevelsHold job st

@@ -1,17 +1,17 @@
 -- The jobs of specs/LevelsWorked.antt that are worked by hand. Assumes nothing.
 use mathlib.Core.Path.{refl}
-use Rattle.rules.specs.Lists.{total, count, those, largest, up_to, lowest, bestUpTo, diff}
-use Rattle.rules.specs.Job.{view_of, files, views, readIn, recipes}
-use Rattle.rules.specs.Split.{countOn, isCut, cut, times, alone, together, gain, unreadFiles, unreadRecipes, weight, smax, sizeOn, balanced}
-use Rattle.rules.specs.Check.{badPin, check}
-use Rattle.rules.specs.Move.{lockedOn, moved, stepsBy, sizeAfter, legal, distAfter, challenge, firstBelow, choose, movesBy, moves}
-use Rattle.rules.specs.Pass.{cutsAfter, cut_at, keeps, passOf}
-use Rattle.rules.specs.Run.{passesBy, mostPasses, passes}
-use Rattle.rules.specs.Levels.{freeFiles, binding, level, vector, greaterVector, chooseVector, vectorTries}
+use Rattle.rules.specs.Lists.{total, count, those, largest, up_to, lowest, best_up_to, diff}
+use Rattle.rules.specs.Job.{view_of, files, views, read_in, recipes}
+use Rattle.rules.specs.Split.{count_on, is_cut, cut, times, alone, together, gain, unread_files, unread_recipes, weight, smax, size_on, balanced}
+use Rattle.rules.specs.Check.{bad_pin, check}
+use Rattle.rules.specs.Move.{locked_on, moved, steps_by, size_after, legal, dist_after, challenge, first_below, choose, moves_by, moves}
+use Rattle.rules.specs.Pass.{cuts_after, cut_at, keeps, pass_of}
+use Rattle.rules.specs.Run.{passes_by, most_passes, passes}
+use Rattle.rules.specs.Levels.{free_files, binding, level, vector, greater_vector, choose_vector, vector_tries}
 use Rattle.rules.specs.LevelsWorked.{LevelsWorked}
 
 pub worked : LevelsWorked
-unfolding total count those largest up_to lowest bestUpTo diff view_of files views readIn recipes countOn isCut cut times alone together gain unreadFiles unreadRecipes weight smax sizeOn balanced badPin check lockedOn moved stepsBy sizeAfter legal distAfter challenge firstBelow choose movesBy moves cutsAfter cut_at keeps passOf passesBy mostPasses passes freeFiles binding level vector greaterVector chooseVector vectorTries
+unfolding total count those largest up_to lowest best_up_to diff view_of files views read_in recipes count_on is_cut cut times alone together gain unread_files unread_recipes weight smax size_on balanced bad_pin check locked_on moved steps_by size_after legal dist_after challenge first_below choose moves_by moves cuts_after cut_at keeps pass_of passes_by most_passes passes free_files binding level vector greater_vector choose_vector vector_tries
 worked = record {
   figure1·checked = refl;
   figure1·moved = refl;

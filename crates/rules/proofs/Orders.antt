@@ -10,20 +10,20 @@ use lib.Dec.{ltb}
 use lib.IntN.{ℤ}
 use lib.Signed.{lt_z}
 use borrow.Author.Tests.{not-true, ltb-true, ltb-false}
-use Rattle.rules.specs.Job.{Job, fileCount}
-use Rattle.rules.specs.Move.{State, legal, distAfter, greater, firstBelow}
-use Rattle.rules.specs.Levels.{betterBy}
+use Rattle.rules.specs.Job.{Job, file_count}
+use Rattle.rules.specs.Move.{State, legal, dist_after, greater, first_below}
+use Rattle.rules.specs.Levels.{better_by}
 use Rattle.rules.specs.LevelsHold.{ChosenBy}
-use Rattle.rules.proofs.Signed.{ltZ-true, ltZ-false}
+use Rattle.rules.proofs.Signed.{lt_z-true, lt_z-false}
 use Rattle.rules.proofs.Tests.{clash, or_no, and_yes, and_no, contra, contra'}
 use Rattle.rules.proofs.First.{Order, first_some, first-none}
 
 -- the greater number goes first
 pub greater-order : (G : ℕ → ℤ) → Order (greater G)
 greater-order G = record {
-  irrefl = λ a. contra (lt_z (G a) (G a)) (λ h. omega (arith, ltZ-true (G a) (G a) h));
-  trans = λ a b c p q. contra' (lt_z (G c) (G a)) (λ h. omega (arith, ltZ-false (G c) (G a) h, ltZ-true (G b) (G a) p, ltZ-true (G c) (G b) q));
-  weak = λ a b c p q. contra (lt_z (G c) (G a)) (λ h. omega (arith, ltZ-true (G c) (G a) h, ltZ-false (G b) (G a) p, ltZ-false (G c) (G b) q));
+  irrefl = λ a. contra (lt_z (G a) (G a)) (λ h. omega (arith, lt_z-true (G a) (G a) h));
+  trans = λ a b c p q. contra' (lt_z (G c) (G a)) (λ h. omega (arith, lt_z-false (G c) (G a) h, lt_z-true (G b) (G a) p, lt_z-true (G c) (G b) q));
+  weak = λ a b c p q. contra (lt_z (G c) (G a)) (λ h. omega (arith, lt_z-true (G c) (G a) h, lt_z-false (G b) (G a) p, lt_z-false (G c) (G b) q));
 }
 
 -- the less number goes first
@@ -100,14 +100,14 @@ module _ {p q : ℕ → ℕ → Bool} (P : Order p) (Q : Order q) where
 
 module _ (job : Job) (st : State) {goes : ℕ → ℕ → Bool} (ord : Order goes) where
   abbrev D : ℕ → ℕ
-  D = distAfter job st
+  D = dist_after job st
 
   abbrev choice : Option ℕ
-  choice = firstBelow (legal job st) (betterBy goes D) (fileCount job)
+  choice = first_below (legal job st) (better_by goes D) (file_count job)
 
   pub chosen_by : (f : ℕ) → choice ≡ some f → ChosenBy job st goes f
   chosen_by f e =
-      let r = first_some (legal job st) (betterBy goes D) (then-order ord (less-order D)) (fileCount job) f e in
+      let r = first_some (legal job st) (better_by goes D) (then-order ord (less-order D)) (file_count job) f e in
       record {
         below = r.below;
         lawful = r.fine;
@@ -119,8 +119,8 @@ module _ (job : Job) (st : State) {goes : ℕ → ℕ → Bool} (ord : Order goe
             (sym (ap (λ (b : Bool). b || (not (goes g f) && ltb (D f) (D g))) z) ∙ r.lower g h k)).1;
       }
 
-  pub nothing-by : choice ≡ none → (g : ℕ) → g < fileCount job → legal job st g ≡ false
-  nothing-by e = first-none (legal job st) (betterBy goes D) (fileCount job) e
+  pub nothing-by : choice ≡ none → (g : ℕ) → g < file_count job → legal job st g ≡ false
+  nothing-by e = first-none (legal job st) (better_by goes D) (file_count job) e
 
   -- there is only one such file
   pub only-by : (f g : ℕ) → ChosenBy job st goes f → ChosenBy job st goes g → f ≡ g
@@ -148,7 +148,7 @@ module _ (job : Job) (st : State) {goes : ℕ → ℕ → Bool} (ord : Order goe
       go none e = clash (sym p.lawful ∙ nothing-by e f p.below)
       go (some g) e = ap some (only-by g f (chosen_by g e) p)
 
-  pub stuck-by : ((g : ℕ) → g < fileCount job → legal job st g ≡ false) → choice ≡ none
+  pub stuck-by : ((g : ℕ) → g < file_count job → legal job st g ≡ false) → choice ≡ none
   stuck-by h = go choice refl
     where
       go : (o : Option ℕ) → choice ≡ o → o ≡ none

@@ -3,26 +3,26 @@ use mathlib.Core.Path.{◌≡◌, refl, ap, ◌∙◌}
 use Prim.Native.Nat.{ℕ}
 use mathlib.Core.Bool.{Bool, true}
 use mathlib.Core.List.{List}
-use Rattle.rules.specs.Job.{Job, Limits, files, views, readIn, recipes, Lent}
-use Rattle.rules.specs.Split.{unreadFiles, unreadRecipes, weight, smax, sizeOn, sizeA, balanced}
-use Rattle.rules.specs.Check.{done, check, checkJob}
-use Rattle.rules.specs.Move.{sizeAfter, legal, distAfter, choose, moves}
-use Rattle.rules.specs.Pass.{Pass, passOf, tries, pass, leaves}
-use Rattle.rules.specs.Writing.{withSides}
+use Rattle.rules.specs.Job.{Job, Limits, files, views, read_in, recipes, Lent}
+use Rattle.rules.specs.Split.{unread_files, unread_recipes, weight, smax, size_on, size_a, balanced}
+use Rattle.rules.specs.Check.{done, check, check_job}
+use Rattle.rules.specs.Move.{size_after, legal, dist_after, choose, moves}
+use Rattle.rules.specs.Pass.{Pass, pass_of, tries, pass, leaves}
+use Rattle.rules.specs.Writing.{with_sides}
 use Rattle.rules.specs.Theorems.{Sound, Accepted, Sides}
 use Rattle.rules.proofs.Proved.{accepted}
 use Rattle.rules.proofs.Checking.{check-holds}
 
 module _ (job : Job) (sides : List ℕ) where
   abbrev next : Job
-  next = withSides job sides
+  next = with_sides job sides
 
   pub same-recipes : recipes next ≡ recipes job
-  unfolding views recipes readIn
+  unfolding views recipes read_in
   same-recipes = refl
 
-  pub same_size : (u : ℕ) (x : List ℕ) → sizeOn next u x ≡ sizeOn job u x
-  unfolding sizeOn files
+  pub same_size : (u : ℕ) (x : List ℕ) → size_on next u x ≡ size_on job u x
+  unfolding size_on files
   same_size u x = refl
 
   same-balance : (a : ℕ) → balanced next a ≡ balanced job a
@@ -30,17 +30,17 @@ module _ (job : Job) (sides : List ℕ) where
   same-balance a = refl
 
   -- the pass that tries these moves, whoever chose them
-  pub same-passOf : (x ms : List ℕ) → passOf next x ms ≡ passOf job x ms
-  unfolding passOf sizeOn files views recipes readIn unreadFiles unreadRecipes
-  same-passOf x ms = refl
+  pub same-pass_of : (x ms : List ℕ) → pass_of next x ms ≡ pass_of job x ms
+  unfolding pass_of size_on files views recipes read_in unread_files unread_recipes
+  same-pass_of x ms = refl
 
   -- and those of edition 1
   pub same-tries : tries next ≡ tries job
-  unfolding moves choose legal distAfter sizeAfter balanced weight smax sizeOn files views recipes readIn
+  unfolding moves choose legal dist_after size_after balanced weight smax size_on files views recipes read_in
   same-tries = refl
 
   pub same-pass : (x : List ℕ) → pass next x ≡ pass job x
-  same-pass x = same-passOf x (tries next x) ∙ ap (λ (try : List ℕ → List ℕ). passOf job x (try x)) same-tries
+  same-pass x = same-pass_of x (tries next x) ∙ ap (λ (try : List ℕ → List ℕ). pass_of job x (try x)) same-tries
 
   pub same-leaves : (edition : ℕ) (l : Lent) (p : Pass) → leaves edition next l p ≡ leaves edition job l p
   unfolding leaves
@@ -49,17 +49,17 @@ module _ (job : Job) (sides : List ℕ) where
   -- sides 0 or 1, as many as there are files
   pub sound-again : {most : Limits} → Sound most job → Sides job sides → Sound most next
   sound-again s w = record {
-    someFile = s.someFile;
-    someRecipe = s.someRecipe;
-    fewFiles = s.fewFiles;
-    fewRecipes = s.fewRecipes;
-    fewPins = s.fewPins;
-    sidesLong = w.long;
-    marksLong = s.marksLong;
+    some_file = s.some_file;
+    some_recipe = s.some_recipe;
+    few_files = s.few_files;
+    few_recipes = s.few_recipes;
+    few_pins = s.few_pins;
+    sides_long = w.long;
+    marks_long = s.marks_long;
     first = s.first;
     two = s.two;
     last = s.last;
-    pinsBelow = s.pinsBelow;
+    pins_below = s.pins_below;
     apart = s.apart;
     sizes = s.sizes;
     binary = w.binary;
@@ -67,11 +67,11 @@ module _ (job : Job) (sides : List ℕ) where
   }
 
   -- from such sides, balanced, the same job passes its check again
-  pub check-again : (most : Limits) (lent : Bool) → (check most job lent).number ≡ 0 → Sides job sides → balanced job (sizeA job sides) ≡ true → checkJob most next ≡ done
-  unfolding views recipes readIn weight smax files
+  pub check-again : (most : Limits) (lent : Bool) → (check most job lent).number ≡ 0 → Sides job sides → balanced job (size_a job sides) ≡ true → check_job most next ≡ done
+  unfolding views recipes read_in weight smax files
   check-again most lent ok w b =
       let a : Accepted most job = accepted most job lent ok in
-      (check-holds most next true).acceptedPasses
+      (check-holds most next true).accepted_passes
       (record {
         sound = sound-again a.sound w;
         distinct = a.distinct;
@@ -79,6 +79,6 @@ module _ (job : Job) (sides : List ℕ) where
         wide = a.wide;
         free = a.free;
         filled = a.filled;
-        balanced = same-balance (sizeA next sides) ∙ ap (balanced job) (same_size 0 sides) ∙ b;
+        balanced = same-balance (size_a next sides) ∙ ap (balanced job) (same_size 0 sides) ∙ b;
       })
       refl

@@ -13,21 +13,21 @@ use lib.ListN.{length, get_or, take, length-map, get_or-append}
 use lib.Seq.{take-suc, take_all, take-length, take-append-le, take-append_seam}
 use borrow.Author.Tests.{eqb-true, eqb-false, eq-eqb, ne_eqb}
 use Rattle.rules.specs.declared.Verdict.{Verdict}
-use Rattle.rules.specs.Lists.{bit, count, up_to, lowest, someBelow}
-use Rattle.rules.specs.Job.{Job, Limits, fileCount, pinCount, recipeCount, files, views, recipes, Lent, scratchFor, fits}
-use Rattle.rules.specs.Split.{other, side_of, cut, times, unreadFiles, unreadRecipes, sizeA, balanced}
-use Rattle.rules.specs.Check.{refuseIf, ◌orElse◌, badK, all_rows, contentRows, soundRows, checkCounts, checkLists, checkLengths, checkFree, checkStart, checkContents, checkSound, checkGoal, checkRest, check, isEdition, lentRows, checkEdition, checkLent, measure}
-use Rattle.rules.specs.Move.{stepsBy, State, start, lockOf, free, moved, after, Frees, sizeAfter, legal, Scan, scansOf, scans, endsFrom, visits, changesOf, changed}
-use Rattle.rules.specs.Pass.{cut_at, keeps, gainsAfter, startGains, Pass, passOf, tries, leaves}
-use Rattle.rules.specs.Run.{passBy, mostPasses, passes, last_of, firstPass, run_by, lastPass, figuresOf, runFiguresOf, leftBy, passEnds, runEnds}
-use Rattle.rules.specs.Writing.{checkWritten}
-use Rattle.rules.specs.Theorems.{Sound, Accepted, Sides, stateAt, MovesHold, replayedTo, ScansHold, Left, scansTold, replayedBy, Replayed, Lawful, PassHoldsBy, LawfulTry, startSides, RunHoldsBy, PassHolds, RunHolds, Answers}
+use Rattle.rules.specs.Lists.{bit, count, up_to, lowest, some_below}
+use Rattle.rules.specs.Job.{Job, Limits, file_count, pin_count, recipe_count, files, views, recipes, Lent, scratch_for, fits}
+use Rattle.rules.specs.Split.{other, side_of, cut, times, unread_files, unread_recipes, size_a, balanced}
+use Rattle.rules.specs.Check.{refuse_if, ◌or_else◌, bad_k, all_rows, content_rows, sound_rows, check_counts, check_lists, check_lengths, check_free, check_start, check_contents, check_sound, check_goal, check_rest, check, is_edition, lent_rows, check_edition, check_lent, measure}
+use Rattle.rules.specs.Move.{steps_by, State, start, lock_of, free, moved, after, Frees, size_after, legal, Scan, scans_of, scans, ends_from, visits, changes_of, changed}
+use Rattle.rules.specs.Pass.{cut_at, keeps, gains_after, start_gains, Pass, pass_of, tries, leaves}
+use Rattle.rules.specs.Run.{pass_by, most_passes, passes, last_of, first_pass, run_by, last_pass, figures_of, run_figures_of, left_by, pass_ends, run_ends}
+use Rattle.rules.specs.Writing.{check_written}
+use Rattle.rules.specs.Theorems.{Sound, Accepted, Sides, state_at, MovesHold, replayed_to, ScansHold, Left, scans_told, replayed_by, Replayed, Lawful, PassHoldsBy, LawfulTry, start_sides, RunHoldsBy, PassHolds, RunHolds, Answers}
 use Rattle.rules.proofs.Tests.{and_yes, not-no}
 use Rattle.rules.proofs.Verdicts.{zero_of, passes-both, both-pass, not-refused, Plain}
 use Rattle.rules.proofs.Refusals.{lacks, first-given, plain_rows, lent-chain}
 use Rattle.rules.proofs.Count.{total-map, length-tabled, count-some}
 use Rattle.rules.proofs.Entries.{beyond, listed_more, listed-holds, shown-few}
-use Rattle.rules.proofs.GainKept.{frees-take, after-binary, keptUp, kept-length, kept_more, gain-kept-at, gains-kept, gains-pinned, gains-chosen, replay-within, replay-listed, told_more, cut-kept, start-fresh}
+use Rattle.rules.proofs.GainKept.{frees-take, after-binary, kept_up, kept-length, kept_more, gain-kept-at, gains-kept, gains-pinned, gains-chosen, replay-within, replay-listed, told_more, cut-kept, start-fresh}
 use Rattle.rules.proofs.Changes.{scans-change}
 use Rattle.rules.proofs.FourScans.{recipe-scans, all-scans, all-visits}
 use Rattle.rules.proofs.Sizes.{sizes-kept, gain-range}
@@ -41,15 +41,15 @@ use Rattle.rules.proofs.Runs.{keeps-le, keeps-least, keeps-shortest, pass-falls,
 -- ---- an accepted job
 
 pub accepted : (most : Limits) (job : Job) (lent : Bool) → (check most job lent).number ≡ 0 → Accepted most job
-unfolding check checkSound checkRest checkGoal checkFree checkStart files
+unfolding check check_sound check_rest check_goal check_free check_start files
 accepted most job lent ok =
-    let a = passes-both (checkSound most job lent) (checkRest most job) ok in
+    let a = passes-both (check_sound most job lent) (check_rest most job) ok in
     let s = sound most job lent a.0 in
-    let none = eqb (count (λ f. eqb (get_or job.marks f 0) 0) (up_to (fileCount job))) 0 in
-    let start = balanced job (sizeA job job.sides) in
-    let b = passes-both (checkGoal most job) (refuseIf (not start) 9 0) a.1 in
+    let none = eqb (count (λ f. eqb (get_or job.marks f 0) 0) (up_to (file_count job))) 0 in
+    let start = balanced job (size_a job job.sides) in
+    let b = passes-both (check_goal most job) (refuse_if (not start) 9 0) a.1 in
     let c = goal-pass most job b.0 in
-    let t = count-some (λ f. eqb (get_or job.marks f 0) 0) (fileCount job) (eqb-false (count (λ f. eqb (get_or job.marks f 0) 0) (up_to (fileCount job))) 0 (not-refused none 7 0 c.1)) in
+    let t = count-some (λ f. eqb (get_or job.marks f 0) 0) (file_count job) (eqb-false (count (λ f. eqb (get_or job.marks f 0) 0) (up_to (file_count job))) 0 (not-refused none 7 0 c.1)) in
     record {
       sound = s;
       distinct = recipes-distinct most job s;
@@ -63,60 +63,60 @@ accepted most job lent ok =
 -- ---- any moves of files then free
 
 module _ (most : Limits) (job : Job) (s : Sound most job) where
-  start-long : (sides : List ℕ) → Sides job sides → StateLong (fileCount job) (start job sides)
-  start-long sides w = record { sides = w.long; locks = s.marksLong }
+  start-long : (sides : List ℕ) → Sides job sides → StateLong (file_count job) (start job sides)
+  start-long sides w = record { sides = w.long; locks = s.marks_long }
 
   pub scans-hold : (sides ms : List ℕ) → Sides job sides → Frees (start job sides) ms → ScansHold job sides ms
-  unfolding passOf
+  unfolding pass_of
   scans-hold sides ms w l =
       let st : State = start job sides in
       let rs : List (List ℕ) = recipes job in
       let dis = recipes-distinct most job s in
-      let g : List ℤ = startGains rs (fileCount job) st in
-      let long : length g ≡ fileCount job = unfold gainsAfter in length-tabled _ (fileCount job) in
+      let g : List ℤ = start_gains rs (file_count job) st in
+      let long : length g ≡ file_count job = unfold gains_after in length-tabled _ (file_count job) in
       record {
         fresh = λ k f h e.
             ap (λ (x : List ℤ). get_or x f (pos 0)) (replay-listed k rs st ms g)
-            ∙ gain-kept-at rs dis k st ms l w.binary g (start-fresh rs dis (fileCount job) st) f (rw (kept-length rs dis st (take k ms) g, long) h) e;
+            ∙ gain-kept-at rs dis k st ms l w.binary g (start-fresh rs dis (file_count job) st) f (rw (kept-length rs dis st (take k ms) g, long) h) e;
         locked = λ k f h p e.
             ap (λ (x : List ℤ). get_or x f (pos 0)) (replay-listed (suc k) rs st ms g)
             ∙ kept_more rs dis st ms l w.binary g k f h (rw long p) (omega (arith, e))
             ∙ sym (ap (λ (x : List ℤ). get_or x f (pos 0)) (replay-listed k rs st ms g));
         changed = λ k h.
-            let now : State = stateAt job sides ms k in
+            let now : State = state_at job sides ms k in
             let f : ℕ = get_or ms k 0 in
             replay-listed (suc k) rs st ms g
-            ∙ ap (λ (x : List ℕ). keptUp rs st x g) (take-suc ms k 0 h)
+            ∙ ap (λ (x : List ℕ). kept_up rs st x g) (take-suc ms k 0 h)
             ∙ kept-snoc rs st (take k ms) f g
-            ∙ (scans-change rs (moved now f) (other (side_of now.sides f))).all (scansOf rs now f) (keptUp rs st (take k ms) g)
-            ∙ ap (λ (x : List ℤ). stepsBy changed x (changesOf rs now f)) (sym (replay-listed k rs st ms g));
+            ∙ (scans-change rs (moved now f) (other (side_of now.sides f))).all (scans_of rs now f) (kept_up rs st (take k ms) g)
+            ∙ ap (λ (x : List ℤ). steps_by changed x (changes_of rs now f)) (sym (replay-listed k rs st ms g));
         gains =
             replay-listed (length ms) rs st ms g
-            ∙ ap (λ (x : List ℕ). keptUp rs st x g) (take-length ms)
-            ∙ gains-kept rs dis (fileCount job) st ms l w.binary;
+            ∙ ap (λ (x : List ℕ). kept_up rs st x g) (take-length ms)
+            ∙ gains-kept rs dis (file_count job) st ms l w.binary;
         four = recipe-scans rs dis st ms l w.binary;
         scans = rw (← recipes-length most job s) (all-scans rs dis st ms l w.binary);
         visits = rw (← views-total most job s) (all-visits rs dis st ms l w.binary (views job) (views-length most job s ∙ sym (recipes-length most job s)));
       }
 
   pub moves-hold : (sides ms : List ℕ) → Sides job sides → Frees (start job sides) ms → MovesHold job sides ms
-  unfolding passOf cut_at
+  unfolding pass_of cut_at
   moves-hold sides ms w l =
       let st : State = start job sides in
       let rs : List (List ℕ) = recipes job in
       let dis = recipes-distinct most job s in
       let c = scans-hold sides ms w l in
       record {
-        all = unfold gainsAfter in length-tabled _ (fileCount job);
-        pinned = λ f h e. gains-pinned rs (fileCount job) st ms f h e;
-        chosen = gains-chosen rs (fileCount job) l s.marksLong;
+        all = unfold gains_after in length-tabled _ (file_count job);
+        pinned = λ f h e. gains-pinned rs (file_count job) st ms f h e;
+        chosen = gains-chosen rs (file_count job) l s.marks_long;
         afresh = λ f h e. sym (ap (λ (x : List ℤ). get_or x f (pos 0)) c.gains) ∙ c.fresh (length ms) f h e;
-        range = λ k f. gain-range (stateAt job sides ms k).sides rs f;
+        range = λ k f. gain-range (state_at job sides ms k).sides rs f;
         cuts = λ k. rw (gains-take rs k st ms) (cut-kept rs dis st (take k ms) (frees-take k l) w.binary);
         present = λ k h. cuts-at rs st ms k h;
         sizes = λ k. sizes-kept job st (take k ms) (frees-take k l) w.binary;
         once = λ f. frees-once f l;
-        few = omega (arith, frees-few l, s.marksLong);
+        few = omega (arith, frees-few l, s.marks_long);
         prefix = keeps-le rs st ms;
         least = λ k h. keeps-least rs st ms k h;
         shortest = λ k h. keeps-shortest rs st ms k h;
@@ -134,66 +134,66 @@ module _ (most : Limits) (job : Job) (s : Sound most job) where
 
   -- beyond what the pass lists, the replay reads nothing of them
   replay-left : (edition : ℕ) → eqb edition 3 ≡ false → (sides ms : List ℕ) (l : Lent) (k : ℕ) → k ≤ length ms
-      → replayedBy job sides (leaves edition job l (passOf job sides ms)) k ≡ replayedTo job sides ms k
-  unfolding leaves passOf
+      → replayed_by job sides (leaves edition job l (pass_of job sides ms)) k ≡ replayed_to job sides ms k
+  unfolding leaves pass_of
   replay-left edition e sides ms l k h =
       let st : State = start job sides in
       let rs : List (List ℕ) = recipes job in
       let cs : List Scan = scans rs st ms in
-      let c : ℕ = fileCount job in
-      let n : ℕ = 4 * recipeCount job in
+      let c : ℕ = file_count job in
+      let n : ℕ = 4 * recipe_count job in
       rw (
         e,
         listed_more c 0 ms l.tried,
         take-append-le k ms (beyond c 0 ms l.tried) h,
-        listed_more c 0 (endsFrom rs 0 st ms) l.ends,
+        listed_more c 0 (ends_from rs 0 st ms) l.ends,
         listed_more n 0 (map (λ s. s.recipe) cs) l.recipes,
         listed_more n 0 (map (λ s. s.kind) cs) l.kinds,
         told_more cs (beyond n 0 (map (λ s. s.recipe) cs) l.recipes) (beyond n 0 (map (λ s. s.kind) cs) l.kinds),
-        replay-within k rs st ms (beyond c 0 (endsFrom rs 0 st ms) l.ends) (scansTold (beyond n 0 (map (λ s. s.recipe) cs) l.recipes) (beyond n 0 (map (λ s. s.kind) cs) l.kinds)) (startGains rs c st),
-        replay-listed k rs st ms (startGains rs c st),
+        replay-within k rs st ms (beyond c 0 (ends_from rs 0 st ms) l.ends) (scans_told (beyond n 0 (map (λ s. s.recipe) cs) l.recipes) (beyond n 0 (map (λ s. s.kind) cs) l.kinds)) (start_gains rs c st),
+        replay-listed k rs st ms (start_gains rs c st),
       )
 
-  pub left : (edition : ℕ) (sides ms : List ℕ) (l : Lent) → fits edition job l ≡ true → MovesHold job sides ms → ScansHold job sides ms → Left edition job l (passOf job sides ms)
-  unfolding leaves passOf
+  pub left : (edition : ℕ) (sides ms : List ℕ) (l : Lent) → fits edition job l ≡ true → MovesHold job sides ms → ScansHold job sides ms → Left edition job l (pass_of job sides ms)
+  unfolding leaves pass_of
   left edition sides ms l ok m c =
       let r = long-enough edition job l ok in
       record {
         gains = refl;
-        tried = listed-holds (fileCount job) 0 ms l.tried m.few r.tried;
-        gained = listed-holds (fileCount job) (pos 0) _ l.gained (rw (gains-length (recipes job) (start job sides) ms) m.few) r.gained;
-        cuts = listed-holds (fileCount job) 0 _ l.cuts (rw (cuts-length (recipes job) (start job sides) ms) m.few) r.cuts;
-        ends = listed-holds (fileCount job) 0 _ l.ends (shown-few (eqb edition 3) (endsFrom (recipes job) 0 (start job sides) ms) (rw (ends-length (recipes job) 0 (start job sides) ms) m.few)) r.scansSoFar;
-        recipes = listed-holds (4 * recipeCount job) 0 _ l.recipes (rw length-map (shown-few (eqb edition 3) (scans (recipes job) (start job sides) ms) c.scans)) r.scannedRecipes;
-        kinds = listed-holds (4 * recipeCount job) 0 _ l.kinds (rw length-map (shown-few (eqb edition 3) (scans (recipes job) (start job sides) ms) c.scans)) r.scannedKinds;
-        scratch = listed-holds (scratchFor edition job) 0 [] l.scratch (omega arith) r.scratch;
+        tried = listed-holds (file_count job) 0 ms l.tried m.few r.tried;
+        gained = listed-holds (file_count job) (pos 0) _ l.gained (rw (gains-length (recipes job) (start job sides) ms) m.few) r.gained;
+        cuts = listed-holds (file_count job) 0 _ l.cuts (rw (cuts-length (recipes job) (start job sides) ms) m.few) r.cuts;
+        ends = listed-holds (file_count job) 0 _ l.ends (shown-few (eqb edition 3) (ends_from (recipes job) 0 (start job sides) ms) (rw (ends-length (recipes job) 0 (start job sides) ms) m.few)) r.scans_so_far;
+        recipes = listed-holds (4 * recipe_count job) 0 _ l.recipes (rw length-map (shown-few (eqb edition 3) (scans (recipes job) (start job sides) ms) c.scans)) r.scanned_recipes;
+        kinds = listed-holds (4 * recipe_count job) 0 _ l.kinds (rw length-map (shown-few (eqb edition 3) (scans (recipes job) (start job sides) ms) c.scans)) r.scanned_kinds;
+        scratch = listed-holds (scratch_for edition job) 0 [] l.scratch (omega arith) r.scratch;
       }
 
   -- of as many recipes as there are scans the list left holds those of the scans
-  recipes-left : (edition : ℕ) → eqb edition 3 ≡ false → (sides ms : List ℕ) (l : Lent) → take (length (passOf job sides ms).scanned) (leaves edition job l (passOf job sides ms)).recipes ≡ map (λ c. c.recipe) (passOf job sides ms).scanned
+  recipes-left : (edition : ℕ) → eqb edition 3 ≡ false → (sides ms : List ℕ) (l : Lent) → take (length (pass_of job sides ms).scanned) (leaves edition job l (pass_of job sides ms)).recipes ≡ map (λ c. c.recipe) (pass_of job sides ms).scanned
   unfolding leaves
   recipes-left edition e sides ms l =
-      let cs : List Scan = (passOf job sides ms).scanned in
-      let n : ℕ = 4 * recipeCount job in
+      let cs : List Scan = (pass_of job sides ms).scanned in
+      let n : ℕ = 4 * recipe_count job in
       let js : List ℕ = map (λ c. c.recipe) cs in
       rw (e, listed_more n 0 js l.recipes) (ap (λ (k : ℕ). take k (js ++ beyond n 0 js l.recipes)) (sym (length-map cs (λ c. c.recipe))) ∙ take-append_seam js (beyond n 0 js l.recipes))
 
   pub replayed : (edition : ℕ) → edition ≢ 3 → (sides ms : List ℕ) (l : Lent) → ScansHold job sides ms → Replayed edition job l sides ms
-  unfolding leaves passOf visits times count
+  unfolding leaves pass_of visits times count
   replayed edition other sides ms l c =
       let e : eqb edition 3 ≡ false = ne_eqb edition 3 other in
       let st : State = start job sides in
       let rs : List (List ℕ) = recipes job in
-      let ends : List ℕ = endsFrom rs 0 st ms in
+      let ends : List ℕ = ends_from rs 0 st ms in
       let cs : List Scan = scans rs st ms in
-      let after : List ℕ = beyond (fileCount job) 0 ends l.ends in
+      let after : List ℕ = beyond (file_count job) 0 ends l.ends in
       let few : length ms < suc (length ends) = omega (arith, ends-length rs 0 st ms) in
-      let same : (k : ℕ) → k ≤ length ms → replayedBy job sides (leaves edition job l (passOf job sides ms)) k ≡ replayedTo job sides ms k = replay-left edition e sides ms l in
+      let same : (k : ℕ) → k ≤ length ms → replayed_by job sides (leaves edition job l (pass_of job sides ms)) k ≡ replayed_to job sides ms k = replay-left edition e sides ms l in
       record {
         same = same;
         fresh = λ k f h p e. ap (λ (x : List ℤ). get_or x f (pos 0)) (same k h) ∙ c.fresh k f p e;
         gains = same (length ms) (omega arith) ∙ c.gains;
-        last = rw (e, listed_more (fileCount job) 0 ends l.ends) (get_or-append (0 ∷ ends) after 0 (length ms) few ∙ ends_last rs 0 st ms ∙ zero-add (length cs));
+        last = rw (e, listed_more (file_count job) 0 ends l.ends) (get_or-append (0 ∷ ends) after 0 (length ms) few ∙ ends_last rs 0 st ms ∙ zero-add (length cs));
         visits = rw (recipes-left edition e sides ms l) (sym (total-map (λ j. length (get_or (views job) j [])) (λ c. c.recipe) cs));
         four = λ j. rw (recipes-left edition e sides ms l, total-map (λ x. bit (eqb x j)) (λ c. c.recipe) cs) (c.four j);
       }
@@ -205,38 +205,38 @@ module _ (most : Limits) (job : Job) (s : Sound most job) where
   lawful-frees sides ms w l =
       frees_each (start job sides) ms (start-long sides w)
       (λ i h.
-      let st : State = stateAt job sides ms i in
+      let st : State = state_at job sides ms i in
       let f : ℕ = get_or ms i 0 in
-      (l.below i h, eqb-true (lockOf st f) 0 (and_yes (free st f) (balanced job (sizeAfter job st f)) (l.legal i h)).0))
+      (l.below i h, eqb-true (lock_of st f) 0 (and_yes (free st f) (balanced job (size_after job st f)) (l.legal i h)).0))
 
   -- from a balanced start, after every move
-  keeps-balance : (sides ms : List ℕ) → Lawful job sides ms → balanced job (sizeA job sides) ≡ true
-      → (k : ℕ) → balanced job (sizeA job (stateAt job sides ms k).sides) ≡ true
-  unfolding legal sizeAfter
-  keeps-balance sides ms l b zero = unfold stepsBy in b
+  keeps-balance : (sides ms : List ℕ) → Lawful job sides ms → balanced job (size_a job sides) ≡ true
+      → (k : ℕ) → balanced job (size_a job (state_at job sides ms k).sides) ≡ true
+  unfolding legal size_after
+  keeps-balance sides ms l b zero = unfold steps_by in b
   keeps-balance sides ms l b (suc k) = elim (dec_lt k (length ms)) [
     | yes h ↦
-        let st : State = stateAt job sides ms k in
+        let st : State = state_at job sides ms k in
         let f : ℕ = get_or ms k 0 in
-        let e : stateAt job sides ms (suc k) ≡ moved st f
+        let e : state_at job sides ms (suc k) ≡ moved st f
         = ap (λ (l : List ℕ). after (start job sides) l) (take-suc ms k 0 h) ∙ after-snoc (start job sides) (take k ms) f in
-        ap (λ (x : State). balanced job (sizeA job x.sides)) e ∙ (and_yes (free st f) (balanced job (sizeA job (moved st f).sides)) (l.legal k h)).1
+        ap (λ (x : State). balanced job (size_a job x.sides)) e ∙ (and_yes (free st f) (balanced job (size_a job (moved st f).sides)) (l.legal k h)).1
     | no n ↦
         let e : take (suc k) ms ≡ take k ms = take_all (suc k) ms (omega arith) ∙ sym (take_all k ms (omega arith)) in
-        ap (λ (l : List ℕ). balanced job (sizeA job (after (start job sides) l).sides)) e ∙ keeps-balance sides ms l b k
+        ap (λ (l : List ℕ). balanced job (size_a job (after (start job sides) l).sides)) e ∙ keeps-balance sides ms l b k
   ]
 
   pub pass-holds-by : (sides ms : List ℕ) → Sides job sides → Lawful job sides ms → PassHoldsBy job sides ms
   pass-holds-by sides ms w l = record {
     moves = moves-hold sides ms w (lawful-frees sides ms w l);
     balance = keeps-balance sides ms l;
-    returns = λ b. unfold passOf in keeps-balance sides ms l b (keeps (recipes job) (start job sides) ms);
+    returns = λ b. unfold pass_of in keeps-balance sides ms l b (keeps (recipes job) (start job sides) ms);
   }
 
   -- ---- a run, whoever chose its moves
 
   pub given-sides : Sides job job.sides
-  given-sides = record { long = s.sidesLong; binary = s.binary }
+  given-sides = record { long = s.sides_long; binary = s.binary }
 
   module _ (try : List ℕ → List ℕ) (lawful : LawfulTry job try) where
     holds_by : (sides : List ℕ) → Sides job sides → PassHoldsBy job sides (try sides)
@@ -249,51 +249,51 @@ module _ (most : Limits) (job : Job) (s : Sound most job) where
     unmoved-start : Unmoved job.sides
     unmoved-start = (given-sides, λ f e. refl)
 
-    unmoved-next : (sides : List ℕ) → Unmoved sides → Unmoved (passBy job try sides).sidesAfter
+    unmoved-next : (sides : List ℕ) → Unmoved sides → Unmoved (pass_by job try sides).sides_after
     unmoved-next sides w = let m = (holds_by sides w.0).moves in (m.next, λ f e. m.remains f e ∙ w.1 f e)
 
     -- and balanced ones
     abbrev Level : List ℕ → Type 0
-    Level sides = Sides job sides × (balanced job (sizeA job sides) ≡ true)
+    Level sides = Sides job sides × (balanced job (size_a job sides) ≡ true)
 
-    level-next : (sides : List ℕ) → Level sides → Level (passBy job try sides).sidesAfter
+    level-next : (sides : List ℕ) → Level sides → Level (pass_by job try sides).sides_after
     level-next sides w = let p = holds_by sides w.0 in (p.moves.next, rw (← pass-size job try sides) (p.returns w.1))
 
     pub run-holds-by : RunHoldsBy job try
     unfolding passes
     run-holds-by =
-        let one : Pass = passBy job try job.sides in
+        let one : Pass = pass_by job try job.sides in
         let ps : List Pass = passes job try in
-        let came : Passes job try (mostPasses job) job.sides ps = passes-come job try (mostPasses job) job.sides in
+        let came : Passes job try (most_passes job) job.sides ps = passes-come job try (most_passes job) job.sides in
         let some : 1 ≤ length ps = come-some job try came (turns-some job) in
-        let from : (d : Pass) (i : ℕ) → i < length ps → get_or ps i d ≡ passBy job try (startSides job try i) = come-start job try came in
-        let there : (i : ℕ) → Unmoved (startSides job try i) = each_start job try Unmoved unmoved-next unmoved-start in
+        let from : (d : Pass) (i : ℕ) → i < length ps → get_or ps i d ≡ pass_by job try (start_sides job try i) = come-start job try came in
+        let there : (i : ℕ) → Unmoved (start_sides job try i) = each_start job try Unmoved unmoved-next unmoved-start in
         let last = come-last job try Unmoved unmoved-next came unmoved-start one (job.sides, unmoved-start, refl) in
         record {
           some = some;
           first = λ d. come-first job try came d some;
           each = λ d i h. come-next job try came d i h;
-          sides = λ d i h. rw (from d i h) (unmoved-next (startSides job try i) (there i)).0;
+          sides = λ d i h. rw (from d i h) (unmoved-next (start_sides job try i) (there i)).0;
           from = from;
           begins = λ i. (there i).0;
-          held = λ i. holds_by (startSides job try i) (there i).0;
+          held = λ i. holds_by (start_sides job try i) (there i).0;
           lessened = λ d i h. come-less job try came d i h;
           few = come-few job try came;
           settled = run-settles job try;
           cut =
-              ap (λ (p : Pass). p.cutAfter) last.2 ∙ sym (pass-to job try last.0)
-              ∙ sym (ap (λ (p : Pass). cut p.sidesAfter (recipes job)) last.2);
+              ap (λ (p : Pass). p.cut_after) last.2 ∙ sym (pass-to job try last.0)
+              ∙ sym (ap (λ (p : Pass). cut p.sides_after (recipes job)) last.2);
           size =
-              ap (λ (p : Pass). p.sizeAfter) last.2 ∙ pass-size job try last.0
-              ∙ sym (ap (λ (p : Pass). sizeA job p.sidesAfter) last.2);
+              ap (λ (p : Pass). p.size_after) last.2 ∙ pass-size job try last.0
+              ∙ sym (ap (λ (p : Pass). size_a job p.sides_after) last.2);
           next = rw last.2 (unmoved-next last.0 last.1).0;
           returns = λ b.
               let t = come-last job try Level level-next came (given-sides, b) one (job.sides, (given-sides, b), refl) in
-              ap (λ (p : Pass). balanced job p.sizeAfter) t.2 ∙ (holds_by t.0 t.1.0).returns t.1.1;
-          balance = λ b i k h. let t = each_start job try Level level-next (given-sides, b) i in (holds_by (startSides job try i) t.0).balance t.1 k;
-          stays = λ i k f h e. (holds_by (startSides job try i) (there i).0).moves.stays k f e ∙ (there i).1 f e;
-          remains = λ d i f h e. ap (λ (p : Pass). side_of p.sidesAfter f) (from d i h) ∙ (unmoved-next (startSides job try i) (there i)).1 f e;
-          pinned = λ f e. ap (λ (p : Pass). side_of p.sidesAfter f) last.2 ∙ (unmoved-next last.0 last.1).1 f e;
+              ap (λ (p : Pass). balanced job p.size_after) t.2 ∙ (holds_by t.0 t.1.0).returns t.1.1;
+          balance = λ b i k h. let t = each_start job try Level level-next (given-sides, b) i in (holds_by (start_sides job try i) t.0).balance t.1 k;
+          stays = λ i k f h e. (holds_by (start_sides job try i) (there i).0).moves.stays k f e ∙ (there i).1 f e;
+          remains = λ d i f h e. ap (λ (p : Pass). side_of p.sides_after f) (from d i h) ∙ (unmoved-next (start_sides job try i) (there i)).1 f e;
+          pinned = λ f e. ap (λ (p : Pass). side_of p.sides_after f) last.2 ∙ (unmoved-next last.0 last.1).1 f e;
         }
 
   -- ---- edition 1
@@ -313,7 +313,7 @@ module _ (most : Limits) (job : Job) (s : Sound most job) where
     any = pass-holds-by sides (tries job sides) w (tries-lawful sides w);
     scans = scans-hold sides (tries job sides) w (tries-free sides w);
     each = pass-each job (start job sides) (start-long sides w);
-    only = λ i f h c. chosen-one job (stateAt job sides (tries job sides) i) f (get_or (tries job sides) i 0) c (pass-each job (start job sides) (start-long sides w) i h);
+    only = λ i f h c. chosen-one job (state_at job sides (tries job sides) i) f (get_or (tries job sides) i 0) c (pass-each job (start job sides) (start-long sides w) i h);
     ended = rw (take-length (tries job sides)) (pass-end job (start job sides) (start-long sides w));
   }
 
@@ -326,55 +326,55 @@ pub plain-check : (most : Limits) (job : Job) (lent : Bool) → Plain (check mos
 unfolding check lacks
 plain-check most job lent = plain_rows (all_rows most job lent) refl
 
-pub plain-contents : (job : Job) → Plain (checkContents job)
-unfolding checkContents lacks
-plain-contents job = plain_rows (contentRows job) refl
+pub plain-contents : (job : Job) → Plain (check_contents job)
+unfolding check_contents lacks
+plain-contents job = plain_rows (content_rows job) refl
 
-pub plain-sound : (most : Limits) (job : Job) (lent : Bool) → Plain (checkSound most job lent)
-unfolding checkSound lacks
-plain-sound most job lent = plain_rows (soundRows most job lent) refl
+pub plain-sound : (most : Limits) (job : Job) (lent : Bool) → Plain (check_sound most job lent)
+unfolding check_sound lacks
+plain-sound most job lent = plain_rows (sound_rows most job lent) refl
 
-pub lent-sound : (most : Limits) (job : Job) (lent : Bool) → (checkSound most job lent).number ≡ 0 → lent ≡ true
-unfolding checkSound checkLengths checkCounts checkLists checkContents
+pub lent-sound : (most : Limits) (job : Job) (lent : Bool) → (check_sound most job lent).number ≡ 0 → lent ≡ true
+unfolding check_sound check_lengths check_counts check_lists check_contents
 lent-sound most job lent ok =
-    let a = passes-both (checkLengths most job lent) (checkContents job) ok in
-    let b = passes-both (checkCounts most (fileCount job) (recipeCount job) (pinCount job)) (checkLists job lent) a.0 in
-    let long = eqb (length job.sides) (fileCount job) && eqb (length job.marks) (fileCount job) in
+    let a = passes-both (check_lengths most job lent) (check_contents job) ok in
+    let b = passes-both (check_counts most (file_count job) (recipe_count job) (pin_count job)) (check_lists job lent) a.0 in
+    let long = eqb (length job.sides) (file_count job) && eqb (length job.marks) (file_count job) in
     (and_yes long lent (not-no (long && lent) (not-refused (not (long && lent)) 2 0 b.1))).1
 
 pub lent_fits : (most : Limits) (job : Job) (lent : Bool) → (check most job lent).number ≡ 0 → lent ≡ true
-unfolding check checkSound checkRest
-lent_fits most job lent ok = lent-sound most job lent (passes-both (checkSound most job lent) (checkRest most job) ok).0
+unfolding check check_sound check_rest
+lent_fits most job lent ok = lent-sound most job lent (passes-both (check_sound most job lent) (check_rest most job) ok).0
 
 -- what passes 1 to 10 can be written
-pub check-writes : (most : Limits) (job : Job) (lent : Bool) → (check most job lent).number ≡ 0 → (checkWritten most job lent).number ≡ 0
-unfolding check checkSound checkRest checkGoal checkStart checkWritten
+pub check-writes : (most : Limits) (job : Job) (lent : Bool) → (check most job lent).number ≡ 0 → (check_written most job lent).number ≡ 0
+unfolding check check_sound check_rest check_goal check_start check_written
 check-writes most job lent ok =
-    let a = passes-both (checkSound most job lent) (checkRest most job) ok in
-    let k = (ratio-pass most job (goal-pass most job (passes-both (checkGoal most job) (checkStart job) a.1).0).0).1 in
-    both-pass (checkSound most job lent) (refuseIf (badK job.k) 7 0) a.0 (ap (λ (b : Bool). (refuseIf b 7 0).number) (fine-k job.k k))
+    let a = passes-both (check_sound most job lent) (check_rest most job) ok in
+    let k = (ratio-pass most job (goal-pass most job (passes-both (check_goal most job) (check_start job) a.1).0).0).1 in
+    both-pass (check_sound most job lent) (refuse_if (bad_k job.k) 7 0) a.0 (ap (λ (b : Bool). (refuse_if b 7 0).number) (fine-k job.k k))
 
 -- let through, the edition is one that there is, and the check of the job lets through
-pub lent-passes : (edition : ℕ) (most : Limits) (job : Job) (l : Lent) → (checkLent edition most job l).number ≡ 0
-    → (isEdition edition ≡ true) × ((check most job (fits edition job l)).number ≡ 0)
+pub lent-passes : (edition : ℕ) (most : Limits) (job : Job) (l : Lent) → (check_lent edition most job l).number ≡ 0
+    → (is_edition edition ≡ true) × ((check most job (fits edition job l)).number ≡ 0)
 lent-passes edition most job l ok =
-    let b = passes-both (checkEdition edition) (check most job (fits edition job l)) (zero_of (lent-chain edition most job l) ok) in
-    (not-no (isEdition edition) (unfold checkEdition in not-refused (not (isEdition edition)) 31 0 b.0), b.1)
+    let b = passes-both (check_edition edition) (check most job (fits edition job l)) (zero_of (lent-chain edition most job l) ok) in
+    (not-no (is_edition edition) (unfold check_edition in not-refused (not (is_edition edition)) 31 0 b.0), b.1)
 
 pub answers : (edition : ℕ) (most : Limits) (job : Job) (l : Lent) → Answers edition most job l
-unfolding passEnds runEnds measure checkLent lacks
+unfolding pass_ends run_ends measure check_lent lacks
 answers edition most job l =
-    let v = checkLent edition most job l in
-    let u = checkSound most job true in
-    let plain : Plain v = plain_rows (lentRows edition most job l) refl in
+    let v = check_lent edition most job l in
+    let u = check_sound most job true in
+    let plain : Plain v = plain_rows (lent_rows edition most job l) refl in
     record {
-      table = first-given (lentRows edition most job l) refl;
+      table = first-given (lent_rows edition most job l) refl;
       place = plain;
       fitting = λ e. let b = lent-passes edition most job l e in (b.0, lent_fits most job (fits edition job l) b.1);
-      passRefused = λ n. rw (ne_eqb v.number 0 n, passEnds) refl;
-      runRefused = λ n. rw (ne_eqb v.number 0 n, runEnds) refl;
-      passDone = λ e. rw (eq-eqb v.number 0 e, passEnds) (ap (λ (x : Verdict). leftBy edition job l (figuresOf edition x (firstPass edition job) (firstPass edition job ∷ [])) (firstPass edition job)) (plain e));
-      runDone = λ e. rw (eq-eqb v.number 0 e, runEnds) (ap (λ (x : Verdict). leftBy edition job l (runFiguresOf edition x (firstPass edition job) (run_by edition job)) (lastPass edition job)) (plain e));
-      measureRefused = λ n. rw (ne_eqb u.number 0 n, measure) refl;
-      measureDone = λ e. rw (eq-eqb u.number 0 e, measure) (ap (λ (x : Verdict). record { verdict = x; cut = cut job.sides (recipes job); size = sizeA job job.sides; unread = unreadFiles job; holding = unreadRecipes job }) (plain-sound most job true e));
+      pass_refused = λ n. rw (ne_eqb v.number 0 n, pass_ends) refl;
+      run_refused = λ n. rw (ne_eqb v.number 0 n, run_ends) refl;
+      pass_done = λ e. rw (eq-eqb v.number 0 e, pass_ends) (ap (λ (x : Verdict). left_by edition job l (figures_of edition x (first_pass edition job) (first_pass edition job ∷ [])) (first_pass edition job)) (plain e));
+      run_done = λ e. rw (eq-eqb v.number 0 e, run_ends) (ap (λ (x : Verdict). left_by edition job l (run_figures_of edition x (first_pass edition job) (run_by edition job)) (last_pass edition job)) (plain e));
+      measure_refused = λ n. rw (ne_eqb u.number 0 n, measure) refl;
+      measure_done = λ e. rw (eq-eqb u.number 0 e, measure) (ap (λ (x : Verdict). record { verdict = x; cut = cut job.sides (recipes job); size = size_a job job.sides; unread = unread_files job; holding = unread_recipes job }) (plain-sound most job true e));
     }

@@ -9,8 +9,8 @@ use lib.Dec.{ltb, eqb}
 use lib.ListN.{length, get_or, take}
 use borrow.Author.Tests.{ne_eqb, le-leb}
 use Rattle.rules.specs.Lists.{bit, total, count, those}
-use Rattle.rules.specs.Job.{Job, isRead, enough, readIn, views}
-use Rattle.rules.specs.Split.{countOn, isCut, times, unreadRecipes}
+use Rattle.rules.specs.Job.{Job, is_read, enough, read_in, views}
+use Rattle.rules.specs.Split.{count_on, is_cut, times, unread_recipes}
 use Rattle.rules.specs.Theorems.{Distinct}
 use Rattle.rules.proofs.Count.{total-same}
 
@@ -34,15 +34,15 @@ those-times p x (y ∷ r) = go (p y) (those-times p x r)
     go true h = omega (arith, h)
     go false h = omega (arith, h)
 
-pub read-times : (job : Job) (x : ℕ) (r : List ℕ) → times x (readIn job r) ≤ times x r
-unfolding readIn
-read-times job x r = go (enough (those (isRead job) r))
+pub read-times : (job : Job) (x : ℕ) (r : List ℕ) → times x (read_in job r) ≤ times x r
+unfolding read_in
+read-times job x r = go (enough (those (is_read job) r))
   where
-    go : (b : Bool) → times x (cond b (those (isRead job) r) []) ≤ times x r
-    go true = those-times (isRead job) x r
+    go : (b : Bool) → times x (cond b (those (is_read job) r) []) ≤ times x r
+    go true = those-times (is_read job) x r
     go false = unfold times count total in omega arith
 
-pub read-distinct : (job : Job) (rs : List (List ℕ)) → Distinct rs → Distinct (map (readIn job) rs)
+pub read-distinct : (job : Job) (rs : List (List ℕ)) → Distinct rs → Distinct (map (read_in job) rs)
 read-distinct job [] d j x = unfold times count total in omega arith
 read-distinct job (r ∷ rs) d zero x = omega (arith, read-times job x r, d 0 x)
 read-distinct job (r ∷ rs) d (suc j) x = read-distinct job rs (λ i y. d (suc i) y) j x
@@ -59,13 +59,13 @@ count-those p q (y ∷ r) = go (q y) (count-those p q r)
     go false h = omega (arith, h)
 
 -- the readable files and the others are all
-pub read-or-not : (job : Job) (r : List ℕ) → length (those (isRead job) r) + countOn job.marks 2 r ≡ length r
-unfolding those countOn count total
+pub read-or-not : (job : Job) (r : List ℕ) → length (those (is_read job) r) + count_on job.marks 2 r ≡ length r
+unfolding those count_on count total
 read-or-not job [] = refl
 read-or-not job (y ∷ r) = go (eqb (get_or job.marks y 0) 2) (read-or-not job r)
   where
-    go : (b : Bool) → length (those (isRead job) r) + countOn job.marks 2 r ≡ length r
-        → length (cond (not b) (y ∷ those (isRead job) r) (those (isRead job) r)) + (bit b + countOn job.marks 2 r) ≡ suc (length r)
+    go : (b : Bool) → length (those (is_read job) r) + count_on job.marks 2 r ≡ length r
+        → length (cond (not b) (y ∷ those (is_read job) r) (those (is_read job) r)) + (bit b + count_on job.marks 2 r) ≡ suc (length r)
     go true h = omega (arith, h)
     go false h = omega (arith, h)
 
@@ -74,12 +74,12 @@ not-not true = refl
 not-not false = refl
 
 -- a recipe holds an unread file if a mark among its files is 2
-pub unread-recipes : (job : Job) → unreadRecipes job ≡ count (λ r. ltb 0 (countOn job.marks 2 r)) (views job)
-unfolding unreadRecipes countOn count
+pub unread-recipes : (job : Job) → unread_recipes job ≡ count (λ r. ltb 0 (count_on job.marks 2 r)) (views job)
+unfolding unread_recipes count_on count
 unread-recipes job =
     let two : ℕ → ℕ = λ f. bit (eqb (get_or job.marks f 0) 2) in
-    total-same (λ (r : List ℕ). bit (ltb 0 (total two r))) (λ (r : List ℕ). bit (ltb 0 (total (λ f. bit (not (isRead job f))) r)))
-    (λ r. ap (λ (n : ℕ). bit (ltb 0 n)) (total-same two (λ f. bit (not (isRead job f))) (λ f. ap bit (not-not (eqb (get_or job.marks f 0) 2))) r))
+    total-same (λ (r : List ℕ). bit (ltb 0 (total two r))) (λ (r : List ℕ). bit (ltb 0 (total (λ f. bit (not (is_read job f))) r)))
+    (λ r. ap (λ (n : ℕ). bit (ltb 0 n)) (total-same two (λ f. bit (not (is_read job f))) (λ f. ap bit (not-not (eqb (get_or job.marks f 0) 2))) r))
     (views job)
 
 pub those-append : (p : ℕ → Bool) (a b : List ℕ) → those p (a ++ b) ≡ those p a ++ those p b
@@ -104,8 +104,8 @@ those-more p (y ∷ r) (suc m) h = go (p y) (those-more p r m (omega arith))
     go false e = e
 
 -- a recipe with readable files in both vaults has two of them
-cut-two : (sides s : List ℕ) → cond (enough s) (isCut sides s) false ≡ isCut sides s
-unfolding isCut countOn count total
+cut-two : (sides s : List ℕ) → cond (enough s) (is_cut sides s) false ≡ is_cut sides s
+unfolding is_cut count_on count total
 cut-two sides [] = refl
 cut-two sides (x ∷ y ∷ s) = rw (le-leb 2 (suc (suc (length s))) (omega arith)) refl
 cut-two sides (x ∷ []) = elim (ℕ_discrete (get_or sides x 0) 0) [
@@ -113,10 +113,10 @@ cut-two sides (x ∷ []) = elim (ℕ_discrete (get_or sides x 0) 0) [
   | no n ↦ rw (ne_eqb (get_or sides x 0) 0 n) refl
 ]
 
-pub cut-read : (job : Job) (sides r : List ℕ) → isCut sides (readIn job r) ≡ isCut sides (those (isRead job) r)
-unfolding readIn
-cut-read job sides r = go (enough (those (isRead job) r)) ∙ cut-two sides (those (isRead job) r)
+pub cut-read : (job : Job) (sides r : List ℕ) → is_cut sides (read_in job r) ≡ is_cut sides (those (is_read job) r)
+unfolding read_in
+cut-read job sides r = go (enough (those (is_read job) r)) ∙ cut-two sides (those (is_read job) r)
   where
-    go : (b : Bool) → isCut sides (cond b (those (isRead job) r) []) ≡ cond b (isCut sides (those (isRead job) r)) false
+    go : (b : Bool) → is_cut sides (cond b (those (is_read job) r) []) ≡ cond b (is_cut sides (those (is_read job) r)) false
     go true = refl
-    go false = unfold isCut countOn count total in refl
+    go false = unfold is_cut count_on count total in refl

@@ -6,7 +6,7 @@ use native.Mathlib.Decide.{ℕ_discrete, dec_lt}
 use native.Mathlib.Omega.{arith}
 use lib.Dec.{ltb}
 use borrow.Author.Tests.{ltb-true, ltb-false, lt-ltb, le-ltb}
-use Rattle.rules.specs.Lists.{lowest, someBelow, displaces, bestUpTo}
+use Rattle.rules.specs.Lists.{lowest, some_below, displaces, best_up_to}
 use Rattle.rules.proofs.Tests.{clash, contra'}
 
 pub lowest-le : (p : ℕ → Bool) (n : ℕ) → lowest p n ≤ n
@@ -18,13 +18,13 @@ lowest-le p (suc n) = go (ltb (lowest p n) n || p n) (lowest-le p n)
     go true h = omega arith
     go false h = omega arith
 
-pub none_below : (p : ℕ → Bool) (n : ℕ) → someBelow p n ≡ false → (i : ℕ) → i < n → p i ≡ false
+pub none_below : (p : ℕ → Bool) (n : ℕ) → some_below p n ≡ false → (i : ℕ) → i < n → p i ≡ false
 unfolding lowest
 none_below p zero h i l = absurd (omega arith)
 none_below p (suc n) h i l = go (ltb (lowest p n) n) (p n) refl refl h (none_below p n)
   where
     go : (a b : Bool) → ltb (lowest p n) n ≡ a → p n ≡ b → ltb (cond (a || b) (lowest p n) (suc n)) (suc n) ≡ false
-        → (someBelow p n ≡ false → (i : ℕ) → i < n → p i ≡ false) → p i ≡ false
+        → (some_below p n ≡ false → (i : ℕ) → i < n → p i ≡ false) → p i ≡ false
     go true b ea eb k ih = clash (sym (lt-ltb (lowest p n) (suc n) (omega (arith, ltb-true (lowest p n) n ea))) ∙ k)
     go false true ea eb k ih = clash (sym (lt-ltb (lowest p n) (suc n) (omega (arith, lowest-le p n))) ∙ k)
     go false false ea eb k ih = elim (ℕ_discrete i n) [
@@ -75,17 +75,17 @@ lowest-none p n low = elim (dec_lt (lowest p n) n) [
   | no g ↦ omega (arith, lowest-le p n)
 ]
 
-pub some-here : (p : ℕ → Bool) (n i : ℕ) → i < n → p i ≡ true → someBelow p n ≡ true
-some-here p n i h e = contra' (someBelow p n) (λ z. clash (sym e ∙ none_below p n z i h))
+pub some-here : (p : ℕ → Bool) (n i : ℕ) → i < n → p i ≡ true → some_below p n ≡ true
+some-here p n i h e = contra' (some_below p n) (λ z. clash (sym e ∙ none_below p n z i h))
 
-pub some-none : (p : ℕ → Bool) (n : ℕ) → ((i : ℕ) → i < n → p i ≡ false) → someBelow p n ≡ false
+pub some-none : (p : ℕ → Bool) (n : ℕ) → ((i : ℕ) → i < n → p i ≡ false) → some_below p n ≡ false
 some-none p n low = le-ltb (lowest p n) n (omega (arith, lowest-none p n low))
 
 -- where only j can pass, some number below n passes if j does
-pub some_at : (p : ℕ → Bool) (n j : ℕ) → j < n → ((i : ℕ) → i < n → (i ≡ j → ⊥) → p i ≡ false) → someBelow p n ≡ p j
+pub some_at : (p : ℕ → Bool) (n j : ℕ) → j < n → ((i : ℕ) → i < n → (i ≡ j → ⊥) → p i ≡ false) → some_below p n ≡ p j
 some_at p n j h off = go (p j) refl
   where
-    go : (b : Bool) → p j ≡ b → someBelow p n ≡ p j
+    go : (b : Bool) → p j ≡ b → some_below p n ≡ p j
     go true e = some-here p n j h e ∙ sym e
     go false e = some-none p n (λ k l. elim (ℕ_discrete k j) [ yes q ↦ ap p q ∙ e | no z ↦ off k l z ]) ∙ sym e
 
@@ -115,10 +115,10 @@ module _ {p : ℕ → Bool} {n i : ℕ} (x : Passed p n i) where
   passed-end h = sym (lowest-none p n (λ k l. x.miss k (omega arith)))
 
   -- whether any passes
-  pub passed-some : i < n → p i ≡ true → true ≡ someBelow p n
+  pub passed-some : i < n → p i ≡ true → true ≡ some_below p n
   passed-some h e = sym (some-here p n i h e)
 
-  pub passed-no : n ≤ i → false ≡ someBelow p n
+  pub passed-no : n ≤ i → false ≡ some_below p n
   passed-no h = sym (some-none p n (λ k l. x.miss k (omega arith)))
 
 -- ---- the best prefix
@@ -132,40 +132,40 @@ displaces-no new old e = ltb-false new old e
 module _ (cost : ℕ → ℕ) where
   -- one more: it displaces the best so far, or not
   abbrev more : ℕ → Bool
-  more n = displaces (cost (suc n)) (cost (bestUpTo cost n))
+  more n = displaces (cost (suc n)) (cost (best_up_to cost n))
 
-  pub best-le : (n : ℕ) → bestUpTo cost n ≤ n
-  unfolding bestUpTo
+  pub best-le : (n : ℕ) → best_up_to cost n ≤ n
+  unfolding best_up_to
   best-le zero = omega arith
   best-le (suc n) = go (more n) (best-le n)
     where
-      go : (b : Bool) → bestUpTo cost n ≤ n → cond b (suc n) (bestUpTo cost n) ≤ suc n
+      go : (b : Bool) → best_up_to cost n ≤ n → cond b (suc n) (best_up_to cost n) ≤ suc n
       go true h = omega arith
       go false h = omega arith
 
   -- least of all
-  pub best-least : (n k : ℕ) → k ≤ n → cost (bestUpTo cost n) ≤ cost k
-  unfolding bestUpTo
+  pub best-least : (n k : ℕ) → k ≤ n → cost (best_up_to cost n) ≤ cost k
+  unfolding best_up_to
   best-least zero k h = let e : k ≡ 0 = omega arith in omega (arith, ap cost e)
   best-least (suc n) k h = go (more n) refl (best-least n)
     where
-      go : (b : Bool) → more n ≡ b → ((k : ℕ) → k ≤ n → cost (bestUpTo cost n) ≤ cost k) → cost (cond b (suc n) (bestUpTo cost n)) ≤ cost k
+      go : (b : Bool) → more n ≡ b → ((k : ℕ) → k ≤ n → cost (best_up_to cost n) ≤ cost k) → cost (cond b (suc n) (best_up_to cost n)) ≤ cost k
       go true e ih = elim (ℕ_discrete k (suc n)) [
         | yes q ↦ omega (arith, ap cost q)
-        | no z ↦ omega (arith, ih k (omega arith), displaces-yes (cost (suc n)) (cost (bestUpTo cost n)) e)
+        | no z ↦ omega (arith, ih k (omega arith), displaces-yes (cost (suc n)) (cost (best_up_to cost n)) e)
       ]
       go false e ih = elim (ℕ_discrete k (suc n)) [
-        | yes q ↦ omega (arith, ap cost q, displaces-no (cost (suc n)) (cost (bestUpTo cost n)) e)
+        | yes q ↦ omega (arith, ap cost q, displaces-no (cost (suc n)) (cost (best_up_to cost n)) e)
         | no z ↦ ih k (omega arith)
       ]
 
   -- and less than at every shorter one
-  pub best-shortest : (n k : ℕ) → k < bestUpTo cost n → cost (bestUpTo cost n) < cost k
-  unfolding bestUpTo
+  pub best-shortest : (n k : ℕ) → k < best_up_to cost n → cost (best_up_to cost n) < cost k
+  unfolding best_up_to
   best-shortest zero k h = absurd (omega arith)
   best-shortest (suc n) k h = go (more n) refl h (best-shortest n k)
     where
-      go : (b : Bool) → more n ≡ b → k < cond b (suc n) (bestUpTo cost n)
-          → (k < bestUpTo cost n → cost (bestUpTo cost n) < cost k) → cost (cond b (suc n) (bestUpTo cost n)) < cost k
-      go true e l ih = omega (arith, best-least n k (omega arith), displaces-yes (cost (suc n)) (cost (bestUpTo cost n)) e)
+      go : (b : Bool) → more n ≡ b → k < cond b (suc n) (best_up_to cost n)
+          → (k < best_up_to cost n → cost (best_up_to cost n) < cost k) → cost (cond b (suc n) (best_up_to cost n)) < cost k
+      go true e l ih = omega (arith, best-least n k (omega arith), displaces-yes (cost (suc n)) (cost (best_up_to cost n)) e)
       go false e l ih = ih l

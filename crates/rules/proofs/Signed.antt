@@ -67,17 +67,17 @@ ltb-same x y u v f g = go (ltb x y) refl
     go false e = e ∙ sym (le-ltb u v (g (ltb-false x y e)))
 
 -- the test of two signed numbers is a test of two sums
-pub ltZ-key : (a b : ℤ) → lt_z a b ≡ ltb (up a + down b) (up b + down a)
-ltZ-key (pos a) (pos b) = ltb-same a b (a + 0) (b + 0) (λ h. omega arith) (λ h. omega arith)
-ltZ-key (pos a) (negsuc b) = sym (le-ltb (a + suc b) 0 (omega arith))
-ltZ-key (negsuc a) (pos b) = sym (lt-ltb 0 (b + suc a) (omega arith))
-ltZ-key (negsuc a) (negsuc b) = ltb-same b a (0 + suc b) (0 + suc a) (λ h. omega arith) (λ h. omega arith)
+pub lt_z-key : (a b : ℤ) → lt_z a b ≡ ltb (up a + down b) (up b + down a)
+lt_z-key (pos a) (pos b) = ltb-same a b (a + 0) (b + 0) (λ h. omega arith) (λ h. omega arith)
+lt_z-key (pos a) (negsuc b) = sym (le-ltb (a + suc b) 0 (omega arith))
+lt_z-key (negsuc a) (pos b) = sym (lt-ltb 0 (b + suc a) (omega arith))
+lt_z-key (negsuc a) (negsuc b) = ltb-same b a (0 + suc b) (0 + suc a) (λ h. omega arith) (λ h. omega arith)
 
-pub ltZ-true : (a b : ℤ) → lt_z a b ≡ true → up a + down b < up b + down a
-ltZ-true a b e = ltb-true (up a + down b) (up b + down a) (sym (ltZ-key a b) ∙ e)
+pub lt_z-true : (a b : ℤ) → lt_z a b ≡ true → up a + down b < up b + down a
+lt_z-true a b e = ltb-true (up a + down b) (up b + down a) (sym (lt_z-key a b) ∙ e)
 
-pub ltZ-false : (a b : ℤ) → lt_z a b ≡ false → up b + down a ≤ up a + down b
-ltZ-false a b e = ltb-false (up a + down b) (up b + down a) (sym (ltZ-key a b) ∙ e)
+pub lt_z-false : (a b : ℤ) → lt_z a b ≡ false → up b + down a ≤ up a + down b
+lt_z-false a b e = ltb-false (up a + down b) (up b + down a) (sym (lt_z-key a b) ∙ e)
 
 sub-key : (a b : ℕ) → up (sub_ℕ a b) + b ≡ a + down (sub_ℕ a b)
 sub-key a b = go (ltb a b) refl
@@ -92,7 +92,7 @@ diff-key a zero = omega arith
 diff-key a (suc b) = sub-key a (suc b)
 
 pub diff-least : (a b c d : ℕ) → c + b ≤ a + d → lt_z (diff a b) (diff c d) ≡ false
-diff-least a b c d h = ltZ-key (diff a b) (diff c d) ∙ le-ltb (up (diff a b) + down (diff c d)) (up (diff c d) + down (diff a b)) (omega (arith, diff-key a b, diff-key c d))
+diff-least a b c d h = lt_z-key (diff a b) (diff c d) ∙ le-ltb (up (diff a b) + down (diff c d)) (up (diff c d) + down (diff a b)) (omega (arith, diff-key a b, diff-key c d))
 
 -- ---- how large a signed number is
 

@@ -8,14 +8,14 @@ use native.Mathlib.Nat.{add-zero}
 use lib.ListN.{length, get_or, length-append}
 use lib.Dec.{ltb, eqb}
 use borrow.Author.Tests.{le-ltb, le-leb, eq-eqb}
-use Rattle.rules.specs.Lists.{someBelow, total}
-use Rattle.rules.specs.Job.{Job, Limits, fileCount, recipeCount, recipes, Lent, fits}
+use Rattle.rules.specs.Lists.{some_below, total}
+use Rattle.rules.specs.Job.{Job, Limits, file_count, recipe_count, recipes, Lent, fits}
 use Rattle.rules.specs.Check.{done}
-use Rattle.rules.specs.Move.{State, moved, scansOf, scans, endsFrom, start}
-use Rattle.rules.specs.Pass.{Pass, passOf, leaves}
-use Rattle.rules.specs.Editions.{triesBy}
-use Rattle.rules.specs.Run.{firstPass, figuresOf}
-use Rattle.rules.specs.Trace.{Listing, listing, scansBefore, badEnd, holdsPass}
+use Rattle.rules.specs.Move.{State, moved, scans_of, scans, ends_from, start}
+use Rattle.rules.specs.Pass.{Pass, pass_of, leaves}
+use Rattle.rules.specs.Editions.{tries_by}
+use Rattle.rules.specs.Run.{first_pass, figures_of}
+use Rattle.rules.specs.Trace.{Listing, listing, scans_before, bad_end, holds_pass}
 use Rattle.rules.specs.Theorems.{Sound, MovesHold, ScansHold, Listed, Left}
 use Rattle.rules.proofs.Proved.{pass-holds-by, scans-hold, lawful-frees, left, given-sides}
 use Rattle.rules.proofs.Editions.{editions-hold}
@@ -24,26 +24,26 @@ use Rattle.rules.proofs.Steps.{ends-length}
 use Rattle.rules.proofs.Fits.{long-enough}
 
 -- where the scans of move i begin, if the first begin at n
-abbrev beginsAt : List ℕ → ℕ → ℕ → ℕ
-beginsAt ends n zero = n
-beginsAt ends n (suc i) = get_or ends i 0
+abbrev begins_at : List ℕ → ℕ → ℕ → ℕ
+begins_at ends n zero = n
+begins_at ends n (suc i) = get_or ends i 0
 
 -- the ends rise, and do not pass the scans
 ends-rise : (rs : List (List ℕ)) (n : ℕ) (st : State) (ms : List ℕ) (i : ℕ) → i < length ms
-    → (beginsAt (endsFrom rs n st ms) n i ≤ get_or (endsFrom rs n st ms) i 0) × (get_or (endsFrom rs n st ms) i 0 ≤ n + length (scans rs st ms))
-unfolding endsFrom scans
+    → (begins_at (ends_from rs n st ms) n i ≤ get_or (ends_from rs n st ms) i 0) × (get_or (ends_from rs n st ms) i 0 ≤ n + length (scans rs st ms))
+unfolding ends_from scans
 ends-rise rs n st [] i h = absurd (omega arith)
-ends-rise rs n st (f ∷ fs) zero h = (omega arith, omega (arith, length-append (scansOf rs st f) (scans rs (moved st f) fs)))
+ends-rise rs n st (f ∷ fs) zero h = (omega arith, omega (arith, length-append (scans_of rs st f) (scans rs (moved st f) fs)))
 ends-rise rs n st (f ∷ fs) (suc zero) h =
-    let r = ends-rise rs (n + length (scansOf rs st f)) (moved st f) fs zero (omega arith) in
-    (r.0, omega (arith, r.1, length-append (scansOf rs st f) (scans rs (moved st f) fs)))
+    let r = ends-rise rs (n + length (scans_of rs st f)) (moved st f) fs zero (omega arith) in
+    (r.0, omega (arith, r.1, length-append (scans_of rs st f) (scans rs (moved st f) fs)))
 ends-rise rs n st (f ∷ fs) (suc (suc i)) h =
-    let r = ends-rise rs (n + length (scansOf rs st f)) (moved st f) fs (suc i) (omega arith) in
-    (r.0, omega (arith, r.1, length-append (scansOf rs st f) (scans rs (moved st f) fs)))
+    let r = ends-rise rs (n + length (scans_of rs st f)) (moved st f) fs (suc i) (omega arith) in
+    (r.0, omega (arith, r.1, length-append (scans_of rs st f) (scans rs (moved st f) fs)))
 
 -- what holds of the first pass by an edition
 pub pass-made : (edition : ℕ) (most : Limits) (job : Job) → Sound most job
-    → MovesHold job job.sides (triesBy edition job job.sides) × ScansHold job job.sides (triesBy edition job job.sides)
+    → MovesHold job job.sides (tries_by edition job job.sides) × ScansHold job job.sides (tries_by edition job job.sides)
 pass-made edition most job s =
     let w = given-sides most job s in
     let lawful = (editions-hold most job s).lawful edition job.sides w in
@@ -51,76 +51,76 @@ pass-made edition most job s =
 
 module _ (edition : ℕ) (most : Limits) (job : Job) (s : Sound most job) (l : Lent) (ok : fits edition job l ≡ true) where
   abbrev one : Pass
-  one = firstPass edition job
+  one = first_pass edition job
 
-  these-hold : MovesHold job job.sides (triesBy edition job job.sides)
+  these-hold : MovesHold job job.sides (tries_by edition job job.sides)
   these-hold = (pass-made edition most job s).0
 
-  its-scans : ScansHold job job.sides (triesBy edition job job.sides)
+  its-scans : ScansHold job job.sides (tries_by edition job job.sides)
   its-scans = (pass-made edition most job s).1
 
   there : Left edition job l one
-  there = left most job s edition job.sides (triesBy edition job job.sides) l ok these-hold its-scans
+  there = left most job s edition job.sides (tries_by edition job job.sides) l ok these-hold its-scans
 
   abbrev told : Listing
   told = listing (leaves edition job l one)
 
   -- where the scans of its moves end
   abbrev ends : List ℕ
-  ends = endsFrom (recipes job) 0 (start job job.sides) (triesBy edition job job.sides)
+  ends = ends_from (recipes job) 0 (start job job.sides) (tries_by edition job job.sides)
 
   -- the ends that are told are those of the pass, or none
-  end-told : (i : ℕ) → i < length (triesBy edition job job.sides) → get_or told.ends i 0 ≡ get_or (cond (eqb edition 3) [] ends) i 0
-  unfolding passOf
+  end-told : (i : ℕ) → i < length (tries_by edition job job.sides) → get_or told.ends i 0 ≡ get_or (cond (eqb edition 3) [] ends) i 0
+  unfolding pass_of
   end-told i h = go (eqb edition 3) there.ends
     where
-      go : (third : Bool) → Listed (fileCount job) 0 (cond third [] ends) l.ends told.ends → get_or told.ends i 0 ≡ get_or (cond third [] ends) i 0
+      go : (third : Bool) → Listed (file_count job) 0 (cond third [] ends) l.ends told.ends → get_or told.ends i 0 ≡ get_or (cond third [] ends) i 0
       go true q = q.then 0 i (omega arith) (omega (arith, h, these-hold.few))
-      go false q = q.holds 0 i (rw (ends-length (recipes job) 0 (start job job.sides) (triesBy edition job job.sides)) h)
+      go false q = q.holds 0 i (rw (ends-length (recipes job) 0 (start job job.sides) (tries_by edition job job.sides)) h)
 
-  begin-told : (i : ℕ) → i < length (triesBy edition job job.sides) → scansBefore told i ≡ beginsAt (cond (eqb edition 3) [] ends) 0 i
+  begin-told : (i : ℕ) → i < length (tries_by edition job job.sides) → scans_before told i ≡ begins_at (cond (eqb edition 3) [] ends) 0 i
   begin-told zero h = refl
   begin-told (suc i) h = end-told i (omega arith)
 
   -- they rise, and do not pass the scans
-  shown-rise : (third : Bool) (i : ℕ) → i < length (triesBy edition job job.sides)
-      → (beginsAt (cond third [] ends) 0 i ≤ get_or (cond third [] ends) i 0)
-      × (get_or (cond third [] ends) i 0 ≤ 0 + length (scans (recipes job) (start job job.sides) (triesBy edition job job.sides)))
+  shown-rise : (third : Bool) (i : ℕ) → i < length (tries_by edition job job.sides)
+      → (begins_at (cond third [] ends) 0 i ≤ get_or (cond third [] ends) i 0)
+      × (get_or (cond third [] ends) i 0 ≤ 0 + length (scans (recipes job) (start job job.sides) (tries_by edition job job.sides)))
   shown-rise true zero h = (omega arith, omega arith)
   shown-rise true (suc i) h = (omega arith, omega arith)
-  shown-rise false i h = ends-rise (recipes job) 0 (start job job.sides) (triesBy edition job job.sides) i h
+  shown-rise false i h = ends-rise (recipes job) 0 (start job job.sides) (tries_by edition job job.sides) i h
 
-  few-scans : length (scans (recipes job) (start job job.sides) (triesBy edition job job.sides)) ≤ 4 * recipeCount job
-  unfolding passOf
+  few-scans : length (scans (recipes job) (start job job.sides) (tries_by edition job job.sides)) ≤ 4 * recipe_count job
+  unfolding pass_of
   few-scans = its-scans.scans
 
-  no-bad-end : (i : ℕ) → i < length (triesBy edition job job.sides) → badEnd told i ≡ false
+  no-bad-end : (i : ℕ) → i < length (tries_by edition job job.sides) → bad_end told i ≡ false
   no-bad-end i h =
       let r = shown-rise (eqb edition 3) i h in
       let e = end-told i h in
       let f = long-enough edition job l ok in
-      let rise : ltb (get_or told.ends i 0) (scansBefore told i) ≡ false = le-ltb (get_or told.ends i 0) (scansBefore told i) (omega (arith, e, begin-told i h, r.0)) in
-      let within : ltb (length told.recipes) (get_or told.ends i 0) ≡ false = le-ltb (length told.recipes) (get_or told.ends i 0) (omega (arith, e, r.1, few-scans, there.recipes.long, f.scannedRecipes)) in
-      let kinds : ltb (length told.kinds) (get_or told.ends i 0) ≡ false = le-ltb (length told.kinds) (get_or told.ends i 0) (omega (arith, e, r.1, few-scans, there.kinds.long, f.scannedKinds)) in
+      let rise : ltb (get_or told.ends i 0) (scans_before told i) ≡ false = le-ltb (get_or told.ends i 0) (scans_before told i) (omega (arith, e, begin-told i h, r.0)) in
+      let within : ltb (length told.recipes) (get_or told.ends i 0) ≡ false = le-ltb (length told.recipes) (get_or told.ends i 0) (omega (arith, e, r.1, few-scans, there.recipes.long, f.scanned_recipes)) in
+      let kinds : ltb (length told.kinds) (get_or told.ends i 0) ≡ false = le-ltb (length told.kinds) (get_or told.ends i 0) (omega (arith, e, r.1, few-scans, there.kinds.long, f.scanned_kinds)) in
       rw (rise, within, kinds) refl
 
-  tried-told : (figuresOf edition done one (one ∷ [])).tried ≡ length (triesBy edition job job.sides)
-  unfolding figuresOf total passOf
-  tried-told = add-zero (length (triesBy edition job job.sides))
+  tried-told : (figures_of edition done one (one ∷ [])).tried ≡ length (tries_by edition job job.sides)
+  unfolding figures_of total pass_of
+  tried-told = add-zero (length (tries_by edition job job.sides))
 
-  pub pass-told : holdsPass job.sizes (figuresOf edition done one (one ∷ [])) told ≡ true
+  pub pass-told : holds_pass job.sizes (figures_of edition done one (one ∷ [])) told ≡ true
   pass-told =
       let f = long-enough edition job l ok in
-      let n = length (triesBy edition job job.sides) in
-      let ends : someBelow (badEnd told) n ≡ false = some-none (badEnd told) n no-bad-end in
-      let gains : length told.gains ≡ fileCount job = ap length there.gains ∙ these-hold.all in
+      let n = length (tries_by edition job job.sides) in
+      let ends : some_below (bad_end told) n ≡ false = some-none (bad_end told) n no-bad-end in
+      let gains : length told.gains ≡ file_count job = ap length there.gains ∙ these-hold.all in
       rw (
         tried-told,
-        eq-eqb (length told.gains) (fileCount job) gains,
-        le-leb n (fileCount job) these-hold.few,
+        eq-eqb (length told.gains) (file_count job) gains,
+        le-leb n (file_count job) these-hold.few,
         le-leb n (length told.tried) (omega (arith, these-hold.few, there.tried.long, f.tried)),
         le-leb n (length told.gained) (omega (arith, these-hold.few, there.gained.long, f.gained)),
         le-leb n (length told.cuts) (omega (arith, these-hold.few, there.cuts.long, f.cuts)),
-        le-leb n (length told.ends) (omega (arith, these-hold.few, there.ends.long, f.scansSoFar)),
+        le-leb n (length told.ends) (omega (arith, these-hold.few, there.ends.long, f.scans_so_far)),
         ends,
       ) refl

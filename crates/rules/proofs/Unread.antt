@@ -10,18 +10,18 @@ use lib.Dec.{ltb, eqb}
 use lib.ListN.{length, get_or, get_or-eq_default}
 use borrow.Author.Tests.{ltb-true, ltb-false, lt-ltb, le-ltb, le-leb, ne_eqb}
 use Rattle.rules.specs.Lists.{bit, total, count, those, largest, up_to}
-use Rattle.rules.specs.Job.{Job, Limits, recipeCount, view_of, view, files, views, isRead, readIn, recipes}
-use Rattle.rules.specs.Split.{onSide, size_of, weighs, unreadFiles, unreadRecipes, weight, smax, sizeOn, countOn, isCut, cut, times}
-use Rattle.rules.specs.Move.{moved, stepsBy, fileOn, kindsIn, kindsOf, scansFrom, scans, visits}
-use Rattle.rules.specs.Report.{text, digitsIn, spaced, line, first_lines}
-use Rattle.rules.specs.Stored.{overSecond}
+use Rattle.rules.specs.Job.{Job, Limits, recipe_count, view_of, view, files, views, is_read, read_in, recipes}
+use Rattle.rules.specs.Split.{on_side, size_of, weighs, unread_files, unread_recipes, weight, smax, size_on, count_on, is_cut, cut, times}
+use Rattle.rules.specs.Move.{moved, steps_by, file_on, kinds_in, kinds_of, scans_from, scans, visits}
+use Rattle.rules.specs.Report.{text, digits_in, spaced, line, first_lines}
+use Rattle.rules.specs.Stored.{over_second}
 use Rattle.rules.specs.Unread.{AsBefore, NoneUnread, UnreadWorked}
 use Rattle.rules.specs.Theorems.{Sound}
 use Rattle.rules.proofs.Count.{count-here}
 use Rattle.rules.proofs.SoundJob.{view-length}
 
 pub worked : UnreadWorked
-unfolding total count those largest up_to view_of files views readIn recipes countOn isCut cut times unreadFiles unreadRecipes weight smax sizeOn moved stepsBy fileOn kindsIn kindsOf scansFrom scans visits text digitsIn spaced line first_lines
+unfolding total count those largest up_to view_of files views read_in recipes count_on is_cut cut times unread_files unread_recipes weight smax size_on moved steps_by file_on kinds_in kinds_of scans_from scans visits text digits_in spaced line first_lines
 worked = record { read = refl; weighed = refl; most = refl; sizes = (refl, refl); cuts = refl; visited = refl; unread = (refl, refl); told = refl; letter = refl }
 
 -- ---- where no file is unread
@@ -34,38 +34,38 @@ over-one m n = elim (dec_lt 2 m) [
 ]
 
 -- a second value with another mark is over 5 where it is over 3
-over-three : (v : ℕ) → v / 2 ≢ 2 → overSecond v ≡ ltb 3 v
+over-three : (v : ℕ) → v / 2 ≢ 2 → over_second v ≡ ltb 3 v
 over-three v n = elim (dec_lt 5 v) [
   | yes l ↦ lt-ltb 5 v l ∙ sym (lt-ltb 3 v (omega arith))
   | no l ↦ le-ltb 5 v (omega arith) ∙ sym (le-ltb 3 v (omega (arith, n)))
 ]
 
-module _ (job : Job) (read : (f : ℕ) → isRead job f ≡ true) where
-  none_in : (r : List ℕ) → count (λ f. not (isRead job f)) r ≡ 0
+module _ (job : Job) (read : (f : ℕ) → is_read job f ≡ true) where
+  none_in : (r : List ℕ) → count (λ f. not (is_read job f)) r ≡ 0
   unfolding count total
   none_in [] = refl
   none_in (f ∷ r) = rw (read f) (omega (arith, none_in r))
 
-  none_of : (rs : List (List ℕ)) → count (λ r. ltb 0 (count (λ f. not (isRead job f)) r)) rs ≡ 0
+  none_of : (rs : List (List ℕ)) → count (λ r. ltb 0 (count (λ f. not (is_read job f)) r)) rs ≡ 0
   unfolding count total
   none_of [] = refl
   none_of (r ∷ rs) = rw (none_in r) (omega (arith, none_of rs))
 
 -- with the marks of n files, of which none is unread, no recipe holds an unread file
-pub none-holding : (job : Job) (n : ℕ) → length job.marks ≤ n → count (λ f. not (isRead job f)) (up_to n) ≡ 0 → unreadRecipes job ≡ 0
-unfolding unreadRecipes
-none-holding job n h e = none_of job (λ f. go f (isRead job f) (ltb f n) refl refl) (views job)
+pub none-holding : (job : Job) (n : ℕ) → length job.marks ≤ n → count (λ f. not (is_read job f)) (up_to n) ≡ 0 → unread_recipes job ≡ 0
+unfolding unread_recipes
+none-holding job n h e = none_of job (λ f. go f (is_read job f) (ltb f n) refl refl) (views job)
   where
-    go : (f : ℕ) (b t : Bool) → isRead job f ≡ b → ltb f n ≡ t → isRead job f ≡ true
+    go : (f : ℕ) (b t : Bool) → is_read job f ≡ b → ltb f n ≡ t → is_read job f ≡ true
     go f true t q l = q
-    go f false true q l = absurd (count-here (λ x. not (isRead job x)) n f (ltb-true f n l) (ap not q) e)
+    go f false true q l = absurd (count-here (λ x. not (is_read job x)) n f (ltb-true f n l) (ap not q) e)
     go f false false q l = rw (get_or-eq_default job.marks 0 {n = f} (omega (arith, ltb-false f n l, h))) refl
 
 module _ (job : Job) (none : NoneUnread job) where
-  all_read : (f : ℕ) → isRead job f ≡ true
+  all_read : (f : ℕ) → is_read job f ≡ true
   all_read f = ap not (ne_eqb (get_or job.marks f 0) 2 (none f))
 
-  all-those : (r : List ℕ) → those (isRead job) r ≡ r
+  all-those : (r : List ℕ) → those (is_read job) r ≡ r
   unfolding those
   all-those [] = refl
   all-those (f ∷ r) = rw (all_read f, all-those r) refl
@@ -83,37 +83,37 @@ module _ (job : Job) (none : NoneUnread job) where
   total-all [] = refl
   total-all (f ∷ fs) = rw (weighs-all f, total-all fs) refl
 
-  none-unread : unreadFiles job ≡ 0
-  unfolding unreadFiles
+  none-unread : unread_files job ≡ 0
+  unfolding unread_files
   none-unread = none_in job all_read (files job)
 
   -- a recipe of two or more files is whole
-  part-whole : (r : List ℕ) → 2 ≤ length r → readIn job r ≡ r
-  unfolding readIn
+  part-whole : (r : List ℕ) → 2 ≤ length r → read_in job r ≡ r
+  unfolding read_in
   part-whole r h = rw (all-those r, le-leb 2 (length r) h) refl
 
   module _ (most : Limits) where
-    parts_whole : Sound most job → (n : ℕ) → n ≤ recipeCount job → map (readIn job) (map (view job) (up_to n)) ≡ map (view job) (up_to n)
+    parts_whole : Sound most job → (n : ℕ) → n ≤ recipe_count job → map (read_in job) (map (view job) (up_to n)) ≡ map (view job) (up_to n)
     unfolding up_to
     parts_whole s zero h = refl
     parts_whole s (suc n) h =
-        let last : readIn job (view job n) ≡ view job n = part-whole (view job n) (omega (arith, view-length most job s n h, s.two n h)) in
-        ap (map (readIn job)) (map-append (view job) (up_to n) (n ∷ []))
-        ∙ map-append (readIn job) (map (view job) (up_to n)) (view job n ∷ [])
+        let last : read_in job (view job n) ≡ view job n = part-whole (view job n) (omega (arith, view-length most job s n h, s.two n h)) in
+        ap (map (read_in job)) (map-append (view job) (up_to n) (n ∷ []))
+        ∙ map-append (read_in job) (map (view job) (up_to n)) (view job n ∷ [])
         ∙ ap₂ (λ (x : List (List ℕ)) (y : List ℕ). x ++ (y ∷ [])) (parts_whole s n (omega arith)) last
         ∙ sym (map-append (view job) (up_to n) (n ∷ []))
 
     pub as_before : AsBefore most job
-    unfolding recipes views weight sizeOn unreadRecipes first_lines
+    unfolding recipes views weight size_on unread_recipes first_lines
     as_before = record {
       file = λ f. ap (λ (b : Bool). eqb (size_of job f) 0 || ltb 1 (get_or job.sides f 0) || b) (over-one (get_or job.marks f 0) (none f));
       second = over-three;
-      recipes = λ s. parts_whole s (recipeCount job) (omega arith);
+      recipes = λ s. parts_whole s (recipe_count job) (omega arith);
       weighs = weighs-all;
       weight = total-all (files job);
-      size = λ u sides. totals-all (λ f. bit (onSide sides u f)) (files job);
+      size = λ u sides. totals-all (λ f. bit (on_side sides u f)) (files job);
       unread = none-unread;
-      holding = none_of job all_read (map (view job) (up_to (recipeCount job)));
+      holding = none_of job all_read (map (view job) (up_to (recipe_count job)));
       first = rw none-unread refl;
       letter = λ sides f. rw (all_read f) refl;
     }

@@ -9,9 +9,9 @@ use lib.Dec.{ltb, eqb}
 use lib.ListN.{length}
 use borrow.Author.Tests.{ltb-true, le-ltb, eqb-true, eqb-false, eq-eqb, ne_eqb}
 use Rattle.rules.specs.declared.Verdict.{Verdict}
-use Rattle.rules.specs.Lists.{lowest, someBelow}
-use Rattle.rules.specs.Job.{Job, Limits, fileCount, recipeCount, pinCount}
-use Rattle.rules.specs.Check.{done, isDone, refuseIf, ◌orElse◌, empty, overMost, checkContents, checkSound, measure}
+use Rattle.rules.specs.Lists.{lowest, some_below}
+use Rattle.rules.specs.Job.{Job, Limits, file_count, recipe_count, pin_count}
+use Rattle.rules.specs.Check.{done, is_done, refuse_if, ◌or_else◌, empty, over_most, check_contents, check_sound, measure}
 use Rattle.rules.specs.Theorems.{AtLowest}
 use Rattle.rules.proofs.Tests.{and_both}
 use Rattle.rules.proofs.Searches.{none_below, lowest-passes, below-lowest}
@@ -56,16 +56,16 @@ pub or-three : (u v w x : Verdict) → ((u or_else v or_else w) or_else x) ≡ (
 or-three u v w x = or_assoc u (v or_else w) x ∙ ap (λ (y : Verdict). u or_else y) (or_assoc v w x)
 
 -- a test that refuses, in a chain
-pub refuse-stop : {t : Bool} {r : Verdict} (n p : ℕ) (w : Verdict) → t ≡ true → r ≡ refuseIf true (suc n) p → r ≡ (refuseIf t (suc n) p or_else w)
-refuse-stop n p w e z = chain-stop w (z ∙ ap (λ (b : Bool). refuseIf b (suc n) p) (sym e)) (λ q. omega (arith, ap (λ (v : Verdict). v.number) z))
+pub refuse-stop : {t : Bool} {r : Verdict} (n p : ℕ) (w : Verdict) → t ≡ true → r ≡ refuse_if true (suc n) p → r ≡ (refuse_if t (suc n) p or_else w)
+refuse-stop n p w e z = chain-stop w (z ∙ ap (λ (b : Bool). refuse_if b (suc n) p) (sym e)) (λ q. omega (arith, ap (λ (v : Verdict). v.number) z))
 
-pub refuse-go : {t : Bool} {w r : Verdict} (n p : ℕ) → t ≡ false → r ≡ w → r ≡ (refuseIf t n p or_else w)
-refuse-go n p e z = chain-go {a = done} (ap (λ (b : Bool). refuseIf b n p) (sym e)) refl z
+pub refuse-go : {t : Bool} {w r : Verdict} (n p : ℕ) → t ≡ false → r ≡ w → r ≡ (refuse_if t n p or_else w)
+refuse-go n p e z = chain-go {a = done} (ap (λ (b : Bool). refuse_if b n p) (sym e)) refl z
 
 pub both-pass : (v w : Verdict) → v.number ≡ 0 → w.number ≡ 0 → (v or_else w).number ≡ 0
 both-pass v w a b = rw (eq-eqb v.number 0 a) b
 
-pub not-refused : (b : Bool) (n p : ℕ) → (refuseIf b (suc n) p).number ≡ 0 → b ≡ false
+pub not-refused : (b : Bool) (n p : ℕ) → (refuse_if b (suc n) p).number ≡ 0 → b ≡ false
 not-refused true n p h = absurd (omega arith)
 not-refused false n p h = refl
 
@@ -73,7 +73,7 @@ not-refused false n p h = refl
 abbrev pub Plain : Verdict → Type 0
 Plain v = v.number ≡ 0 → v ≡ done
 
-pub plain-if : (b : Bool) (n p : ℕ) → Plain (refuseIf b (suc n) p)
+pub plain-if : (b : Bool) (n p : ℕ) → Plain (refuse_if b (suc n) p)
 plain-if true n p h = absurd (omega arith)
 plain-if false n p h = refl
 
@@ -113,37 +113,37 @@ ends_there k v w n e = elim (ℕ_discrete v.number 0) [
 -- a number with a place
 pub at-lowest : (k : ℕ) (test : ℕ → Bool) (n : ℕ) → AtLowest (suc k) test n
 at-lowest k test n = record {
-  given = λ h. go (someBelow test n) refl h;
-  ungiven = λ h. none_below test n (not-refused (someBelow test n) k (lowest test n) h);
+  given = λ h. go (some_below test n) refl h;
+  ungiven = λ h. none_below test n (not-refused (some_below test n) k (lowest test n) h);
 }
   where
-    go : (b : Bool) → someBelow test n ≡ b → (refuseIf b (suc k) (lowest test n)).number ≢ 0
-        → ((refuseIf b (suc k) (lowest test n)).number ≡ suc k) × ((refuseIf b (suc k) (lowest test n)).place < n)
-        × (test (refuseIf b (suc k) (lowest test n)).place ≡ true) × ((i : ℕ) → i < (refuseIf b (suc k) (lowest test n)).place → test i ≡ false)
+    go : (b : Bool) → some_below test n ≡ b → (refuse_if b (suc k) (lowest test n)).number ≢ 0
+        → ((refuse_if b (suc k) (lowest test n)).number ≡ suc k) × ((refuse_if b (suc k) (lowest test n)).place < n)
+        × (test (refuse_if b (suc k) (lowest test n)).place ≡ true) × ((i : ℕ) → i < (refuse_if b (suc k) (lowest test n)).place → test i ≡ false)
     go true e h = let l = ltb-true (lowest test n) n e in (refl, l, lowest-passes test n l, below-lowest test n)
     go false e h = absurd (h refl)
 
 -- ---- the measure
 
-pub measure-verdict : (most : Limits) (job : Job) → (measure most job).verdict ≡ checkSound most job true
+pub measure-verdict : (most : Limits) (job : Job) → (measure most job).verdict ≡ check_sound most job true
 unfolding measure
-measure-verdict most job = go (isDone (checkSound most job true)) refl
+measure-verdict most job = go (is_done (check_sound most job true)) refl
   where
-    go : (b : Bool) → isDone (checkSound most job true) ≡ b → (measure most job).verdict ≡ checkSound most job true
+    go : (b : Bool) → is_done (check_sound most job true) ≡ b → (measure most job).verdict ≡ check_sound most job true
     go true e = rw (e, measure)
     go false e = rw (e, measure)
 
 -- of a job that passes 1 to 3
 module _ (most : Limits) (job : Job) where
-  pub sound-contents : 1 ≤ fileCount job → 1 ≤ recipeCount job → fileCount job ≤ most.files → recipeCount job ≤ most.recipes → pinCount job ≤ most.pins
-      → length job.sides ≡ fileCount job → length job.marks ≡ fileCount job → checkSound most job true ≡ checkContents job
-  unfolding checkSound checkContents
+  pub sound-contents : 1 ≤ file_count job → 1 ≤ recipe_count job → file_count job ≤ most.files → recipe_count job ≤ most.recipes → pin_count job ≤ most.pins
+      → length job.sides ≡ file_count job → length job.marks ≡ file_count job → check_sound most job true ≡ check_contents job
+  unfolding check_sound check_contents
   sound-contents c n few-files few-recipes few-pins sides marks =
-      let none : (eqb (fileCount job) 0 || eqb (recipeCount job) 0) ≡ false = simp (ne_eqb (fileCount job) 0 (λ e. omega arith), ne_eqb (recipeCount job) 0 (λ e. omega arith)) in
-      let over : (ltb most.files (fileCount job) || ltb most.recipes (recipeCount job) || ltb most.pins (pinCount job)) ≡ false =
-      simp (le-ltb most.files (fileCount job) few-files, le-ltb most.recipes (recipeCount job) few-recipes, le-ltb most.pins (pinCount job) few-pins) in
-      let long : (eqb (length job.sides) (fileCount job) && eqb (length job.marks) (fileCount job) && true) ≡ true =
-      and_both (and_both (eq-eqb (length job.sides) (fileCount job) sides) (eq-eqb (length job.marks) (fileCount job) marks)) refl in
-      let counts : done ≡ (refuseIf (empty (fileCount job) (recipeCount job)) 1 0 or_else refuseIf (overMost most (fileCount job) (recipeCount job) (pinCount job)) 2 0)
-      = refuse-go 1 0 none (ap (λ (b : Bool). refuseIf b 2 0) (sym over)) in
-      sym (chain-go {a = done} (chain-go {a = done} counts refl (ap (λ (b : Bool). refuseIf (not b) 3 0) (sym long))) refl refl)
+      let none : (eqb (file_count job) 0 || eqb (recipe_count job) 0) ≡ false = simp (ne_eqb (file_count job) 0 (λ e. omega arith), ne_eqb (recipe_count job) 0 (λ e. omega arith)) in
+      let over : (ltb most.files (file_count job) || ltb most.recipes (recipe_count job) || ltb most.pins (pin_count job)) ≡ false =
+      simp (le-ltb most.files (file_count job) few-files, le-ltb most.recipes (recipe_count job) few-recipes, le-ltb most.pins (pin_count job) few-pins) in
+      let long : (eqb (length job.sides) (file_count job) && eqb (length job.marks) (file_count job) && true) ≡ true =
+      and_both (and_both (eq-eqb (length job.sides) (file_count job) sides) (eq-eqb (length job.marks) (file_count job) marks)) refl in
+      let counts : done ≡ (refuse_if (empty (file_count job) (recipe_count job)) 1 0 or_else refuse_if (over_most most (file_count job) (recipe_count job) (pin_count job)) 2 0)
+      = refuse-go 1 0 none (ap (λ (b : Bool). refuse_if b 2 0) (sym over)) in
+      sym (chain-go {a = done} (chain-go {a = done} counts refl (ap (λ (b : Bool). refuse_if (not b) 3 0) (sym long))) refl refl)

@@ -9,9 +9,9 @@ use lib.Dec.{leb, ltb, eqb}
 use lib.ListN.{length, get_or, take, drop, replicate, length-append, length-take, length-drop, length-replicate, get_or-replicate, take-append-drop, get_or-append, get_or-eq_default}
 use lib.Seq.{ext_get_or, get_or-take, get_or-drop, get_or-append-add, take_at, take_all}
 use borrow.Author.Tests.{eqb-true, eq-eqb, ne_eqb, le-ltb, le-leb, lt-leb, not-true}
-use Rattle.rules.specs.Lists.{allBelow, someBelow, padded}
-use Rattle.rules.specs.Stored.{weigh, block_check, word, valueIn, laidOut}
-use Rattle.rules.specs.Writing.{twoBytes, valueBytes, contents, block_of}
+use Rattle.rules.specs.Lists.{AllBelow, some_below, padded}
+use Rattle.rules.specs.Stored.{weigh, block_check, word, value_in, laid_out}
+use Rattle.rules.specs.Writing.{two_bytes, value_bytes, contents, block_of}
 use Rattle.rules.proofs.Tests.{and_yes, and_no, and_both, and-false, not-no}
 use Rattle.rules.proofs.Searches.{none_below, some-none}
 use Rattle.rules.proofs.Entries.{padded-length, padded-in, padded-past}
@@ -20,7 +20,7 @@ use Rattle.rules.proofs.InTurn.{below-append}
 -- ---- words
 
 -- bytes are what their words are
-pub same-words : (n : ℕ) (xs ys : List ℕ) → length xs ≡ 2 * n → length ys ≡ 2 * n → allBelow 256 xs → allBelow 256 ys
+pub same-words : (n : ℕ) (xs ys : List ℕ) → length xs ≡ 2 * n → length ys ≡ 2 * n → AllBelow 256 xs → AllBelow 256 ys
     → ((i : ℕ) → i < n → word xs (2 * i) ≡ word ys (2 * i)) → xs ≡ ys
 same-words n xs ys lx ly bx by e =
     ext_get_or 0 xs ys (lx ∙ sym ly)
@@ -46,78 +46,78 @@ word-past xs ys n i e =
     (ap (λ (k : ℕ). get_or (xs ++ ys) (k + i) 0) (sym e) ∙ get_or-append-add xs ys i 0)
     (ap (λ (k : ℕ). get_or (xs ++ ys) k 0) p ∙ get_or-append-add xs ys (suc i) 0)
 
-word_two : (n : ℕ) (ys : List ℕ) → word (twoBytes n ++ ys) 0 ≡ n
+word_two : (n : ℕ) (ys : List ℕ) → word (two_bytes n ++ ys) 0 ≡ n
 word_two n ys = omega arith
 
-two-below : (n : ℕ) → n < 65536 → allBelow 256 (twoBytes n)
+two-below : (n : ℕ) → n < 65536 → AllBelow 256 (two_bytes n)
 two-below n h zero l = omega arith
 two-below n h (suc zero) l = omega arith
 two-below n h (suc (suc i)) l = absurd (omega arith)
 
 -- ---- values
 
-pub values_length : (vs : List ℕ) → length (valueBytes vs) ≡ 2 * length vs
-unfolding valueBytes
+pub values_length : (vs : List ℕ) → length (value_bytes vs) ≡ 2 * length vs
+unfolding value_bytes
 values_length [] = refl
 values_length (v ∷ vs) = omega (arith, values_length vs)
 
 -- one value more
-pub values-more : (vs : List ℕ) (v : ℕ) → valueBytes (vs ++ (v ∷ [])) ≡ valueBytes vs ++ twoBytes v
-unfolding valueBytes
+pub values-more : (vs : List ℕ) (v : ℕ) → value_bytes (vs ++ (v ∷ [])) ≡ value_bytes vs ++ two_bytes v
+unfolding value_bytes
 values-more [] v = refl
-values-more (x ∷ vs) v = ap (λ (t : List ℕ). twoBytes x ++ t) (values-more vs v)
+values-more (x ∷ vs) v = ap (λ (t : List ℕ). two_bytes x ++ t) (values-more vs v)
 
-values-word : (vs : List ℕ) (v : ℕ) → v < length vs → word (valueBytes vs) (2 * v) ≡ get_or vs v 0
-unfolding valueBytes
+values-word : (vs : List ℕ) (v : ℕ) → v < length vs → word (value_bytes vs) (2 * v) ≡ get_or vs v 0
+unfolding value_bytes
 values-word [] v h = absurd (omega arith)
-values-word (x ∷ vs) zero h = word_two x (valueBytes vs)
+values-word (x ∷ vs) zero h = word_two x (value_bytes vs)
 values-word (x ∷ vs) (suc v) h =
     let e : 2 * suc v ≡ 2 + 2 * v = omega arith in
-    ap (λ (k : ℕ). word (twoBytes x ++ valueBytes vs) k) e ∙ word-past (twoBytes x) (valueBytes vs) 2 (2 * v) refl ∙ values-word vs v (omega arith)
+    ap (λ (k : ℕ). word (two_bytes x ++ value_bytes vs) k) e ∙ word-past (two_bytes x) (value_bytes vs) 2 (2 * v) refl ∙ values-word vs v (omega arith)
 
-values-below : (vs : List ℕ) → allBelow 65536 vs → allBelow 256 (valueBytes vs)
-unfolding valueBytes
+values-below : (vs : List ℕ) → AllBelow 65536 vs → AllBelow 256 (value_bytes vs)
+unfolding value_bytes
 values-below [] p = λ i h. absurd (omega arith)
-values-below (v ∷ vs) p = below-append 256 (twoBytes v) (valueBytes vs) (two-below v (p 0 (omega arith))) (values-below vs (λ i h. p (suc i) (omega arith)))
+values-below (v ∷ vs) p = below-append 256 (two_bytes v) (value_bytes vs) (two-below v (p 0 (omega arith))) (values-below vs (λ i h. p (suc i) (omega arith)))
 
 -- unused ones are zero
-padded-word : (vs : List ℕ) → length vs ≤ 253 → (v : ℕ) → v < 253 → word (padded 506 0 (valueBytes vs)) (2 * v) ≡ get_or vs v 0
+padded-word : (vs : List ℕ) → length vs ≤ 253 → (v : ℕ) → v < 253 → word (padded 506 0 (value_bytes vs)) (2 * v) ≡ get_or vs v 0
 padded-word vs few v h =
     let long = values_length vs in
-    let fits : length (valueBytes vs) ≤ 506 = omega arith in
+    let fits : length (value_bytes vs) ≤ 506 = omega arith in
     elim (dec_lt v (length vs)) [
       | yes l ↦
-          ap₂ (λ (x y : ℕ). x + 256 * y) (padded-in 506 0 (valueBytes vs) fits 0 (2 * v) (omega arith)) (padded-in 506 0 (valueBytes vs) fits 0 (suc (2 * v)) (omega arith))
+          ap₂ (λ (x y : ℕ). x + 256 * y) (padded-in 506 0 (value_bytes vs) fits 0 (2 * v) (omega arith)) (padded-in 506 0 (value_bytes vs) fits 0 (suc (2 * v)) (omega arith))
           ∙ values-word vs v l
       | no l ↦
-          ap₂ (λ (x y : ℕ). x + 256 * y) (padded-past 506 0 (valueBytes vs) fits 0 (2 * v) (omega arith) (omega arith)) (padded-past 506 0 (valueBytes vs) fits 0 (suc (2 * v)) (omega arith) (omega arith))
+          ap₂ (λ (x y : ℕ). x + 256 * y) (padded-past 506 0 (value_bytes vs) fits 0 (2 * v) (omega arith) (omega arith)) (padded-past 506 0 (value_bytes vs) fits 0 (suc (2 * v)) (omega arith) (omega arith))
           ∙ sym (get_or-eq_default vs 0 {n = v} (omega arith))
     ]
 
 -- ---- the block of a number, a kind and values
 
-below-replicate : (n m : ℕ) → 0 < m → allBelow m (replicate n 0)
+below-replicate : (n m : ℕ) → 0 < m → AllBelow m (replicate n 0)
 below-replicate n m h i l = rw (get_or-replicate {A = ℕ} n i 0 0 (rw (← length-replicate {A = ℕ} n 0) l)) h
 
 module _ (b kind : ℕ) (vs : List ℕ) (few : length vs ≤ 253) where
   pub contents-length : length (contents b kind vs) ≡ 510
   unfolding contents
-  contents-length = omega (arith, padded-length 506 0 (valueBytes vs) (omega (arith, values_length vs)))
+  contents-length = omega (arith, padded-length 506 0 (value_bytes vs) (omega (arith, values_length vs)))
 
-  contents-value : (v : ℕ) → v < 253 → valueIn (contents b kind vs) v ≡ get_or vs v 0
+  contents-value : (v : ℕ) → v < 253 → value_in (contents b kind vs) v ≡ get_or vs v 0
   unfolding contents
   contents-value v h =
-      word-past (twoBytes b ++ (kind ∷ length vs ∷ [])) (padded 506 0 (valueBytes vs)) 4 (2 * v) refl
+      word-past (two_bytes b ++ (kind ∷ length vs ∷ [])) (padded 506 0 (value_bytes vs)) 4 (2 * v) refl
       ∙ padded-word vs few v h
 
   pub block-length : length (block_of b kind vs) ≡ 512
   unfolding block_of
-  block-length = omega (arith, contents-length, length-append (contents b kind vs) (twoBytes (block_check (contents b kind vs))))
+  block-length = omega (arith, contents-length, length-append (contents b kind vs) (two_bytes (block_check (contents b kind vs))))
 
   -- its first 510 bytes are its contents
   block-first : take 510 (block_of b kind vs) ≡ contents b kind vs
   unfolding block_of
-  block-first = take_at (contents b kind vs) (twoBytes (block_check (contents b kind vs))) 510 contents-length
+  block-first = take_at (contents b kind vs) (two_bytes (block_check (contents b kind vs))) 510 contents-length
 
   pub check-same : (block : List ℕ) → take 510 block ≡ contents b kind vs → block_check (contents b kind vs) ≡ block_check block
   unfolding block_check
@@ -126,7 +126,7 @@ module _ (b kind : ℕ) (vs : List ℕ) (few : length vs ≤ 253) where
   pub block-check : word (block_of b kind vs) 510 ≡ block_check (block_of b kind vs)
   unfolding block_of
   block-check =
-      word-past (contents b kind vs) (twoBytes (block_check (contents b kind vs))) 510 0 contents-length
+      word-past (contents b kind vs) (two_bytes (block_check (contents b kind vs))) 510 0 contents-length
       ∙ word_two (block_check (contents b kind vs)) []
       ∙ check-same (block_of b kind vs) block-first
 
@@ -143,51 +143,51 @@ module _ (b kind : ℕ) (vs : List ℕ) (few : length vs ≤ 253) where
   block-count = refl
 
   -- value v; unused ones are zero
-  pub block-value : (v : ℕ) → v < 253 → valueIn (block_of b kind vs) v ≡ get_or vs v 0
+  pub block-value : (v : ℕ) → v < 253 → value_in (block_of b kind vs) v ≡ get_or vs v 0
   unfolding block_of
-  block-value v h = word_in (contents b kind vs) (twoBytes (block_check (contents b kind vs))) (4 + 2 * v) (omega (arith, contents-length)) ∙ contents-value v h
+  block-value v h = word_in (contents b kind vs) (two_bytes (block_check (contents b kind vs))) (4 + 2 * v) (omega (arith, contents-length)) ∙ contents-value v h
 
-  module _ (number : b < 65536) (byte : kind < 256) (small : allBelow 65536 vs) where
-    contents-below : allBelow 256 (contents b kind vs)
+  module _ (number : b < 65536) (byte : kind < 256) (small : AllBelow 65536 vs) where
+    contents-below : AllBelow 256 (contents b kind vs)
     unfolding contents
     contents-below =
-        below-append 256 (twoBytes b) (kind ∷ length vs ∷ padded 506 0 (valueBytes vs)) (two-below b number)
-        (below-append 256 (kind ∷ length vs ∷ []) (padded 506 0 (valueBytes vs)) head
-        (unfold padded in below-append 256 (valueBytes vs) (replicate (506 - length (valueBytes vs)) 0) (values-below vs small) (below-replicate (506 - length (valueBytes vs)) 256 (omega arith))))
+        below-append 256 (two_bytes b) (kind ∷ length vs ∷ padded 506 0 (value_bytes vs)) (two-below b number)
+        (below-append 256 (kind ∷ length vs ∷ []) (padded 506 0 (value_bytes vs)) head
+        (unfold padded in below-append 256 (value_bytes vs) (replicate (506 - length (value_bytes vs)) 0) (values-below vs small) (below-replicate (506 - length (value_bytes vs)) 256 (omega arith))))
       where
-        head : allBelow 256 (kind ∷ length vs ∷ [])
+        head : AllBelow 256 (kind ∷ length vs ∷ [])
         head zero l = byte
         head (suc zero) l = omega arith
         head (suc (suc i)) l = absurd (omega arith)
 
-    pub block-below : allBelow 256 (block_of b kind vs)
+    pub block-below : AllBelow 256 (block_of b kind vs)
     unfolding block_of
-    block-below = below-append 256 (contents b kind vs) (twoBytes (block_check (contents b kind vs))) contents-below (two-below (block_check (contents b kind vs)) (unfold block_check in omega arith))
+    block-below = below-append 256 (contents b kind vs) (two_bytes (block_check (contents b kind vs))) contents-below (two-below (block_check (contents b kind vs)) (unfold block_check in omega arith))
 
   -- it is laid out, where a file's second value is not over 5
-  pub block-laid : (kind ≡ 2 → (f : ℕ) → 2 * f < length vs → get_or vs (2 * f + 1) 0 ≤ 5) → laidOut (block_of b kind vs) b kind (length vs) ≡ true
-  unfolding laidOut
+  pub block-laid : (kind ≡ 2 → (f : ℕ) → 2 * f < length vs → get_or vs (2 * f + 1) 0 ≤ 5) → laid_out (block_of b kind vs) b kind (length vs) ≡ true
+  unfolding laid_out
   block-laid thirds =
       let block : List ℕ = block_of b kind vs in
       let n : ℕ = length vs in
-      let left : ℕ → Bool = λ v. leb n v && not (eqb (valueIn block v) 0) in
-      let over : ℕ → Bool = λ f. ltb (2 * f) n && ltb 5 (valueIn block (2 * f + 1)) in
-      let unused : someBelow left 253 ≡ false = some-none left 253 (λ v h. elim (dec_lt v n) [
-        | yes l ↦ ap (λ (t : Bool). t && not (eqb (valueIn block v) 0)) (lt-leb n v l)
+      let left : ℕ → Bool = λ v. leb n v && not (eqb (value_in block v) 0) in
+      let over : ℕ → Bool = λ f. ltb (2 * f) n && ltb 5 (value_in block (2 * f + 1)) in
+      let unused : some_below left 253 ≡ false = some-none left 253 (λ v h. elim (dec_lt v n) [
+        | yes l ↦ ap (λ (t : Bool). t && not (eqb (value_in block v) 0)) (lt-leb n v l)
         | no l ↦
-            ap (λ (t : Bool). leb n v && not t) (eq-eqb (valueIn block v) 0 (block-value v h ∙ get_or-eq_default vs 0 {n = v} (omega arith)))
+            ap (λ (t : Bool). leb n v && not t) (eq-eqb (value_in block v) 0 (block-value v h ∙ get_or-eq_default vs 0 {n = v} (omega arith)))
             ∙ and-false (leb n v)
       ]) in
-      let seconds : (eqb kind 2 && someBelow over 126) ≡ false = elim (ℕ_discrete kind 2) [
+      let seconds : (eqb kind 2 && some_below over 126) ≡ false = elim (ℕ_discrete kind 2) [
         | yes k ↦
             ap (λ (t : Bool). eqb kind 2 && t) (some-none over 126 (λ f h. elim (dec_lt (2 * f) n) [
               | yes l ↦
-                  ap (λ (t : Bool). ltb (2 * f) n && t) (le-ltb 5 (valueIn block (2 * f + 1)) (omega (arith, block-value (2 * f + 1) (omega arith), thirds k f l)))
+                  ap (λ (t : Bool). ltb (2 * f) n && t) (le-ltb 5 (value_in block (2 * f + 1)) (omega (arith, block-value (2 * f + 1) (omega arith), thirds k f l)))
                   ∙ and-false (ltb (2 * f) n)
-              | no l ↦ ap (λ (t : Bool). t && ltb 5 (valueIn block (2 * f + 1))) (le-ltb (2 * f) n (omega arith))
+              | no l ↦ ap (λ (t : Bool). t && ltb 5 (value_in block (2 * f + 1))) (le-ltb (2 * f) n (omega arith))
             ]))
             ∙ and-false (eqb kind 2)
-        | no k ↦ ap (λ (t : Bool). t && someBelow over 126) (ne_eqb kind 2 k)
+        | no k ↦ ap (λ (t : Bool). t && some_below over 126) (ne_eqb kind 2 k)
       ] in
       and_both
       (and_both
@@ -203,13 +203,13 @@ pub record Carries (block : List ℕ) (b k : ℕ) (vs : List ℕ) : Type 0 where
   pub kind : get_or block 2 0 ≡ k
   pub count : get_or block 3 0 ≡ length vs
   pub few : length vs ≤ 253
-  pub values : (v : ℕ) → v < 253 → valueIn block v ≡ get_or vs v 0
+  pub values : (v : ℕ) → v < 253 → value_in block v ≡ get_or vs v 0
 
-module _ {block : List ℕ} {b kind : ℕ} {vs : List ℕ} (bytes : allBelow 256 block) (c : Carries block b kind vs) where
+module _ {block : List ℕ} {b kind : ℕ} {vs : List ℕ} (bytes : AllBelow 256 block) (c : Carries block b kind vs) where
   word_small : (i : ℕ) → suc i < 512 → word block i < 65536
   word_small i h = omega (arith, bytes i (omega arith), bytes (suc i) (omega arith))
 
-  values-small : allBelow 65536 vs
+  values-small : AllBelow 65536 vs
   values-small i h = rw (← c.values i (omega (arith, c.few))) (word_small (4 + 2 * i) (omega (arith, c.few)))
 
   contents-words : (i : ℕ) → i < 255 → word (contents b kind vs) (2 * i) ≡ word block (2 * i)
@@ -230,8 +230,8 @@ module _ {block : List ℕ} {b kind : ℕ} {vs : List ℕ} (bytes : allBelow 256
   unfolding block_of
   block-is right =
       let sum : ℕ = block_check (contents b kind vs) in
-      let tail : twoBytes sum ≡ drop 510 block
-      = same-words 1 (twoBytes sum) (drop 510 block) refl (length-drop 510 block ∙ omega arith) (two-below sum (unfold block_check in omega arith))
+      let tail : two_bytes sum ≡ drop 510 block
+      = same-words 1 (two_bytes sum) (drop 510 block) refl (length-drop 510 block ∙ omega arith) (two-below sum (unfold block_check in omega arith))
       (λ i h. rw (get_or-drop 510 block i 0) (bytes (510 + i) (omega (arith, length-drop 510 block))))
       (λ i h.
       let z : i ≡ 0 = omega arith in
@@ -244,14 +244,14 @@ pub record LaidOut (block : List ℕ) (b k n : ℕ) : Type 0 where
   pub number : word block 0 ≡ b
   pub kind : get_or block 2 0 ≡ k
   pub count : get_or block 3 0 ≡ n
-  pub unused : (v : ℕ) → n ≤ v → v < 253 → valueIn block v ≡ 0
+  pub unused : (v : ℕ) → n ≤ v → v < 253 → value_in block v ≡ 0
 
-pub laid_out : (block : List ℕ) (b kind n : ℕ) → laidOut block b kind n ≡ true → LaidOut block b kind n
-unfolding laidOut
-laid_out block b kind n e =
-    let t4 = and_yes _ (not (eqb kind 2 && someBelow (λ f. ltb (2 * f) n && ltb 5 (valueIn block (2 * f + 1))) 126)) e in
-    let left : ℕ → Bool = λ v. leb n v && not (eqb (valueIn block v) 0) in
-    let t3 = and_yes _ (not (someBelow left 253)) t4.0 in
+pub laid_out_lem : (block : List ℕ) (b kind n : ℕ) → laid_out block b kind n ≡ true → LaidOut block b kind n
+unfolding laid_out
+laid_out_lem block b kind n e =
+    let t4 = and_yes _ (not (eqb kind 2 && some_below (λ f. ltb (2 * f) n && ltb 5 (value_in block (2 * f + 1))) 126)) e in
+    let left : ℕ → Bool = λ v. leb n v && not (eqb (value_in block v) 0) in
+    let t3 = and_yes _ (not (some_below left 253)) t4.0 in
     let t2 = and_yes _ (eqb (get_or block 3 0) n) t3.0 in
     let t1 = and_yes (eqb (word block 0) b) (eqb (get_or block 2 0) kind) t2.0 in
     record {
@@ -259,6 +259,6 @@ laid_out block b kind n e =
       kind = eqb-true (get_or block 2 0) kind t1.1;
       count = eqb-true (get_or block 3 0) n t2.1;
       unused = λ v h l.
-          let off : left v ≡ false = none_below left 253 (not-true (someBelow left 253) t3.1) v l in
-          eqb-true (valueIn block v) 0 (not-no (eqb (valueIn block v) 0) (and_no (leb n v) (not (eqb (valueIn block v) 0)) off (le-leb n v h)));
+          let off : left v ≡ false = none_below left 253 (not-true (some_below left 253) t3.1) v l in
+          eqb-true (value_in block v) 0 (not-no (eqb (value_in block v) 0) (and_no (leb n v) (not (eqb (value_in block v) 0)) off (le-leb n v h)));
     }

@@ -3,9 +3,9 @@ use Rattle.std.specs.Prelude.{ℕ, zero, suc, ◌*◌, Bool, not, cond, ◌&&◌
 use Rattle.std.proofs.Math.Option.{Option, none, some}
 use Rattle.std.specs.Int.Signed.{lt_z}
 use Rattle.rules.specs.Lists.{those, diff}
-use Rattle.rules.specs.Job.{Job, fileCount, recipeCount, files, recipes}
-use Rattle.rules.specs.Split.{onSide, gain, isFree}
-use Rattle.rules.specs.Move.{State, start, moved, stepsBy, legal, distAfter, better, movesBy, Change, changesOf}
+use Rattle.rules.specs.Job.{Job, file_count, recipe_count, files, recipes}
+use Rattle.rules.specs.Split.{on_side, gain, is_free}
+use Rattle.rules.specs.Move.{State, start, moved, steps_by, legal, dist_after, better, moves_by, Change, changes_of}
 
 -- ---- the buckets
 
@@ -19,25 +19,25 @@ abbrev pub without : List ℕ → ℕ → List ℕ
 without fs f = those (λ g. not (eqb g f)) fs
 
 -- f enters at the front, wherever it was
-abbrev pub toFront : List ℕ → ℕ → List ℕ
-toFront fs f = f ∷ without fs f
+abbrev pub to_front : List ℕ → ℕ → List ℕ
+to_front fs f = f ∷ without fs f
 
 -- free files enter at the front in rising number
-unfoldable pub enteredFirst : Job → List ℕ
-enteredFirst job = stepsBy toFront [] (those (isFree job) (files job))
+unfoldable pub entered_first : Job → List ℕ
+entered_first job = steps_by to_front [] (those (is_free job) (files job))
 
-abbrev pub startBuckets : Job → List ℕ → Buckets
-startBuckets job sides = record { state = start job sides; entered = enteredFirst job }
+abbrev pub start_buckets : Job → List ℕ → Buckets
+start_buckets job sides = record { state = start job sides; entered = entered_first job }
 
 -- a file changed by a scan enters the front of its new bucket
 abbrev pub reenters : List ℕ → Change → List ℕ
-reenters fs c = toFront fs c.file
+reenters fs c = to_front fs c.file
 
 -- the move of f: it leaves, and then the files that its scans change enter, scan by scan, pins in order; one changed twice enters twice
-unfoldable pub movedOn : Job → Buckets → ℕ → Buckets
-movedOn job b f = record {
+unfoldable pub moved_on : Job → Buckets → ℕ → Buckets
+moved_on job b f = record {
   state = moved b.state f;
-  entered = stepsBy reenters (without b.entered f) (changesOf (recipes job) b.state f);
+  entered = steps_by reenters (without b.entered f) (changes_of (recipes job) b.state f);
 }
 
 -- ---- the front of a vault
@@ -46,50 +46,50 @@ movedOn job b f = record {
 abbrev pub equal : ℤ → ℤ → Bool
 equal x y = not (lt_z x y) && not (lt_z y x)
 
-abbrev pub gainIn : Job → Buckets → ℕ → ℤ
-gainIn job b f = gain b.state.sides (recipes job) f
+abbrev pub gain_in : Job → Buckets → ℕ → ℤ
+gain_in job b f = gain b.state.sides (recipes job) f
 
-abbrev pub inVault : Buckets → ℕ → ℕ → Bool
-inVault b u f = onSide b.state.sides u f
+abbrev pub in_vault : Buckets → ℕ → ℕ → Bool
+in_vault b u f = on_side b.state.sides u f
 
 -- the bucket of vault u and gain g, its front file first
 abbrev pub bucket : Job → Buckets → ℕ → ℤ → List ℕ
-bucket job b u g = those (λ f. inVault b u f && equal (gainIn job b f) g) b.entered
+bucket job b u g = those (λ f. in_vault b u f && equal (gain_in job b f) g) b.entered
 
 -- the front file of a bucket; where that is empty, what is found below it
-abbrev pub frontOr : List ℕ → Option ℕ → Option ℕ
-frontOr [] below = below
-frontOr (f ∷ fs) below = some f
+abbrev pub front_or : List ℕ → Option ℕ → Option ℕ
+front_or [] below = below
+front_or (f ∷ fs) below = some f
 
 -- the front file of the highest nonempty one of n buckets, whose gains rise from minus p
-unfoldable pub frontBelow : (ℤ → List ℕ) → ℕ → ℕ → Option ℕ
-frontBelow buckets p zero = none
-frontBelow buckets p (suc n) = frontOr (buckets (diff n p)) (frontBelow buckets p n)
+unfoldable pub front_below : (ℤ → List ℕ) → ℕ → ℕ → Option ℕ
+front_below buckets p zero = none
+front_below buckets p (suc n) = front_or (buckets (diff n p)) (front_below buckets p n)
 
 -- that of vault u: its gains lie from minus N to plus N
-unfoldable pub frontOf : Job → Buckets → ℕ → Option ℕ
-frontOf job b u = frontBelow (bucket job b u) (recipeCount job) (suc (2 * recipeCount job))
+unfoldable pub front_of : Job → Buckets → ℕ → Option ℕ
+front_of job b u = front_below (bucket job b u) (recipe_count job) (suc (2 * recipe_count job))
 
 -- ---- the choice
 
-abbrev pub unlessRejected : (ℕ → Bool) → Option ℕ → Option ℕ
-unlessRejected ok none = none
-unlessRejected ok (some f) = cond (ok f) (some f) none
+abbrev pub unless_rejected : (ℕ → Bool) → Option ℕ → Option ℕ
+unless_rejected ok none = none
+unless_rejected ok (some f) = cond (ok f) (some f) none
 
 -- only its front file is considered, and rejected if its move is not legal: no other file is looked at
 abbrev pub offer : Job → Buckets → ℕ → Option ℕ
-offer job b u = unlessRejected (legal job b.state) (frontOf job b u)
+offer job b u = unless_rejected (legal job b.state) (front_of job b u)
 
 -- of two the one from A, unless the other goes before it
-abbrev pub ofTwo : (ℕ → ℕ → Bool) → Option ℕ → Option ℕ → Option ℕ
-ofTwo goes none fromB = fromB
-ofTwo goes (some f) none = some f
-ofTwo goes (some f) (some g) = cond (goes g f) (some g) (some f)
+abbrev pub of_two : (ℕ → ℕ → Bool) → Option ℕ → Option ℕ → Option ℕ
+of_two goes none from_b = from_b
+of_two goes (some f) none = some f
+of_two goes (some f) (some g) = cond (goes g f) (some g) (some f)
 
 -- of two offers the greater gain, then the less distance, then the one from A; none if neither vault has one
-unfoldable pub chooseFront : Job → Buckets → Option ℕ
-chooseFront job b = ofTwo (better (gainIn job b) (distAfter job b.state)) (offer job b 0) (offer job b 1)
+unfoldable pub choose_front : Job → Buckets → Option ℕ
+choose_front job b = of_two (better (gain_in job b) (dist_after job b.state)) (offer job b 0) (offer job b 1)
 
 -- the moves of a pass: it stops if neither qualifies. A file moves once, so C turns are enough
-unfoldable pub frontTries : Job → List ℕ → List ℕ
-frontTries job sides = movesBy (chooseFront job) (movedOn job) (fileCount job) (startBuckets job sides)
+unfoldable pub front_tries : Job → List ℕ → List ℕ
+front_tries job sides = moves_by (choose_front job) (moved_on job) (file_count job) (start_buckets job sides)

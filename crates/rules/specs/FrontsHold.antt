@@ -3,18 +3,18 @@ use Rattle.std.specs.Prelude.{◌≡◌, ℕ, suc, ◌≤◌, ◌<◌, Bool, tru
 use Rattle.std.proofs.Math.Option.{Option, none, some}
 use Rattle.std.specs.Int.Signed.{lt_z}
 use Rattle.rules.specs.Lists.{bit, those}
-use Rattle.rules.specs.Job.{Job, Limits, fileCount, files, recipes}
-use Rattle.rules.specs.Split.{other, side_of, onSide, times, isFree}
-use Rattle.rules.specs.Move.{State, start, free, moved, stepsBy, legal, distAfter, Change, changesOf}
-use Rattle.rules.specs.Fronts.{Buckets, startBuckets, movedOn, gainIn, inVault, frontOf, frontTries}
+use Rattle.rules.specs.Job.{Job, Limits, file_count, files, recipes}
+use Rattle.rules.specs.Split.{other, side_of, on_side, times, is_free}
+use Rattle.rules.specs.Move.{State, start, free, moved, steps_by, legal, dist_after, Change, changes_of}
+use Rattle.rules.specs.Fronts.{Buckets, start_buckets, moved_on, gain_in, in_vault, front_of, front_tries}
 use Rattle.rules.specs.RoundTrip.{Sideless, ResettledHoldsBy}
-use Rattle.rules.specs.Theorems.{stateAt, ScansHold, Lawful, PassHoldsBy, LawfulTry, RunHoldsBy}
+use Rattle.rules.specs.Theorems.{state_at, ScansHold, Lawful, PassHoldsBy, LawfulTry, RunHoldsBy}
 
 -- ---- the front of a vault
 
 -- each free file stands in the list once, and no other number does
 abbrev pub Standing : Job → Buckets → Type 0
-Standing job b = (f : ℕ) → times f b.entered ≡ bit (ltb f (fileCount job) && free b.state f)
+Standing job b = (f : ℕ) → times f b.entered ≡ bit (ltb f (file_count job) && free b.state f)
 
 -- how many stand before f
 unfoldable pub place_of : List ℕ → ℕ → ℕ
@@ -23,11 +23,11 @@ place_of (x ∷ xs) f = cond (eqb x f) 0 (suc (place_of xs f))
 
 -- f is a free file of vault u; no free file there has a greater gain, and of those with no less a gain none entered later
 pub record Front (job : Job) (b : Buckets) (u f : ℕ) : Type 0 where
-  pub below : f < fileCount job
+  pub below : f < file_count job
   pub unlocked : free b.state f ≡ true
-  pub there : inVault b u f ≡ true
-  pub greatest : (g : ℕ) → g < fileCount job → free b.state g ≡ true → inVault b u g ≡ true → lt_z (gainIn job b f) (gainIn job b g) ≡ false
-  pub latest : (g : ℕ) → g < fileCount job → free b.state g ≡ true → inVault b u g ≡ true → lt_z (gainIn job b g) (gainIn job b f) ≡ false
+  pub there : in_vault b u f ≡ true
+  pub greatest : (g : ℕ) → g < file_count job → free b.state g ≡ true → in_vault b u g ≡ true → lt_z (gain_in job b f) (gain_in job b g) ≡ false
+  pub latest : (g : ℕ) → g < file_count job → free b.state g ≡ true → in_vault b u g ≡ true → lt_z (gain_in job b g) (gain_in job b f) ≡ false
       → place_of b.entered f ≤ place_of b.entered g
 
 -- with no word of buckets: of the files that pass the test, the first in the list that goes before all others; f goes before a later g if `goes f g`
@@ -39,55 +39,55 @@ unfoldable pub foremost : (ℕ → Bool) → (ℕ → ℕ → Bool) → List ℕ
 foremost ok goes [] = none
 foremost ok goes (f ∷ fs) = cond (ok f) (some (over goes f (foremost ok goes fs))) (foremost ok goes fs)
 
-abbrev pub noLess : (ℕ → ℤ) → ℕ → ℕ → Bool
-noLess gains f g = not (lt_z (gains f) (gains g))
+abbrev pub no_less : (ℕ → ℤ) → ℕ → ℕ → Bool
+no_less gains f g = not (lt_z (gains f) (gains g))
 
 -- (FrontsProved `fronts-hold`, of a sound job and a list of its free files)
 pub record FrontsHold (job : Job) (b : Buckets) : Type 0 where
   -- the front file of the highest nonempty bucket is such a file, and the only one; a vault without one has no free file
-  pub front : (u f : ℕ) → frontOf job b u ≡ some f → Front job b u f
-  pub only : (u f : ℕ) → Front job b u f → frontOf job b u ≡ some f
-  pub empty : (u : ℕ) → frontOf job b u ≡ none → (f : ℕ) → f < fileCount job → free b.state f ≡ true → inVault b u f ≡ false
+  pub front : (u f : ℕ) → front_of job b u ≡ some f → Front job b u f
+  pub only : (u f : ℕ) → Front job b u f → front_of job b u ≡ some f
+  pub empty : (u : ℕ) → front_of job b u ≡ none → (f : ℕ) → f < file_count job → free b.state f ≡ true → in_vault b u f ≡ false
   -- the first in the list of the vault's files of greatest gain
-  pub foremost : (u : ℕ) → frontOf job b u ≡ foremost (inVault b u) (noLess (gainIn job b)) b.entered
+  pub foremost : (u : ℕ) → front_of job b u ≡ foremost (in_vault b u) (no_less (gain_in job b)) b.entered
 
 -- ---- any moves, each of a file then still free, whoever chose them (FrontsProved `buckets-hold`, of a sound job, sides that a pass may start from and such moves)
 
 -- the buckets after the first k moves
-abbrev pub bucketsAt : Job → List ℕ → List ℕ → ℕ → Buckets
-bucketsAt job sides ms k = stepsBy (movedOn job) (startBuckets job sides) (take k ms)
+abbrev pub buckets_at : Job → List ℕ → List ℕ → ℕ → Buckets
+buckets_at job sides ms k = steps_by (moved_on job) (start_buckets job sides) (take k ms)
 
 -- the files that enter, one after the other: at each move those that its scans change, scan by scan, pins in order
 unfoldable pub entries : Job → State → List ℕ → List ℕ
 entries job st [] = []
-entries job st (f ∷ fs) = map (λ c. c.file) (changesOf (recipes job) st f) ++ entries job (moved st f) fs
+entries job st (f ∷ fs) = map (λ c. c.file) (changes_of (recipes job) st f) ++ entries job (moved st f) fs
 
 -- all of the first k moves, after the free files, in rising number
-abbrev pub entriesTo : Job → List ℕ → List ℕ → ℕ → List ℕ
-entriesTo job sides ms k = those (isFree job) (files job) ++ entries job (start job sides) (take k ms)
+abbrev pub entries_to : Job → List ℕ → List ℕ → ℕ → List ℕ
+entries_to job sides ms k = those (is_free job) (files job) ++ entries job (start job sides) (take k ms)
 
 -- the latest first
 abbrev pub put : List ℕ → ℕ → List ℕ
 put fs f = f ∷ fs
 
-abbrev pub latestFirst : List ℕ → List ℕ
-latestFirst fs = stepsBy put [] fs
+abbrev pub latest_first : List ℕ → List ℕ
+latest_first fs = steps_by put [] fs
 
 pub record BucketsHold (job : Job) (sides ms : List ℕ) : Type 0 where
   -- after every move they are those of the state there, and the list holds its free files, each once
-  pub seen : (k : ℕ) → (bucketsAt job sides ms k).state ≡ stateAt job sides ms k
-  pub standing : (k : ℕ) → Standing job (bucketsAt job sides ms k)
+  pub seen : (k : ℕ) → (buckets_at job sides ms k).state ≡ state_at job sides ms k
+  pub standing : (k : ℕ) → Standing job (buckets_at job sides ms k)
   -- of two that stand there the first entered last
-  pub latest : (k x y : ℕ) → 1 ≤ times x (bucketsAt job sides ms k).entered → 1 ≤ times y (bucketsAt job sides ms k).entered
-      → place_of (bucketsAt job sides ms k).entered x < place_of (bucketsAt job sides ms k).entered y
-      → place_of (latestFirst (entriesTo job sides ms k)) x < place_of (latestFirst (entriesTo job sides ms k)) y
-  pub fronts : (k : ℕ) → FrontsHold job (bucketsAt job sides ms k)
+  pub latest : (k x y : ℕ) → 1 ≤ times x (buckets_at job sides ms k).entered → 1 ≤ times y (buckets_at job sides ms k).entered
+      → place_of (buckets_at job sides ms k).entered x < place_of (buckets_at job sides ms k).entered y
+      → place_of (latest_first (entries_to job sides ms k)) x < place_of (latest_first (entries_to job sides ms k)) y
+  pub fronts : (k : ℕ) → FrontsHold job (buckets_at job sides ms k)
 
 -- the changes of one move go one way: a file of the vault moved to loses, one of the vault left gains. So two changes of a file never undo each other, and whoever enters
 -- has a new bucket (OneWay `one_way`, of any recipes and a move of a free file)
 abbrev pub OneWay : List (List ℕ) → State → ℕ → Type 0
-OneWay rs st f = (d : Change) (i : ℕ) → i < length (changesOf rs st f)
-    → (get_or (changesOf rs st f) i d).by ≡ cond (onSide (moved st f).sides (other (side_of st.sides f)) (get_or (changesOf rs st f) i d).file) (negsuc 0) (pos 1)
+OneWay rs st f = (d : Change) (i : ℕ) → i < length (changes_of rs st f)
+    → (get_or (changes_of rs st f) i d).by ≡ cond (on_side (moved st f).sides (other (side_of st.sides f)) (get_or (changes_of rs st f) i d).file) (negsuc 0) (pos 1)
 
 -- ---- edition 2's choice
 
@@ -95,25 +95,25 @@ OneWay rs st f = (d : Change) (i : ℕ) → i < length (changesOf rs st f)
 pub record ChosenFront (job : Job) (b : Buckets) (f : ℕ) : Type 0 where
   pub front : Front job b (side_of b.state.sides f) f
   pub lawful : legal job b.state f ≡ true
-  pub greatest : (g : ℕ) → Front job b (other (side_of b.state.sides f)) g → legal job b.state g ≡ true → lt_z (gainIn job b f) (gainIn job b g) ≡ false
-  pub nearest : (g : ℕ) → Front job b (other (side_of b.state.sides f)) g → legal job b.state g ≡ true → lt_z (gainIn job b g) (gainIn job b f) ≡ false
-      → distAfter job b.state f ≤ distAfter job b.state g
-  pub fromA : (g : ℕ) → Front job b (other (side_of b.state.sides f)) g → legal job b.state g ≡ true → lt_z (gainIn job b g) (gainIn job b f) ≡ false
-      → distAfter job b.state g ≤ distAfter job b.state f → side_of b.state.sides f ≡ 0
+  pub greatest : (g : ℕ) → Front job b (other (side_of b.state.sides f)) g → legal job b.state g ≡ true → lt_z (gain_in job b f) (gain_in job b g) ≡ false
+  pub nearest : (g : ℕ) → Front job b (other (side_of b.state.sides f)) g → legal job b.state g ≡ true → lt_z (gain_in job b g) (gain_in job b f) ≡ false
+      → dist_after job b.state f ≤ dist_after job b.state g
+  pub from_a : (g : ℕ) → Front job b (other (side_of b.state.sides f)) g → legal job b.state g ≡ true → lt_z (gain_in job b g) (gain_in job b f) ≡ false
+      → dist_after job b.state g ≤ dist_after job b.state f → side_of b.state.sides f ≡ 0
 
 -- the buckets after the first k moves of edition 2's pass
-abbrev pub frontsAt : Job → List ℕ → ℕ → Buckets
-frontsAt job sides k = bucketsAt job sides (frontTries job sides) k
+abbrev pub fronts_at : Job → List ℕ → ℕ → Buckets
+fronts_at job sides k = buckets_at job sides (front_tries job sides) k
 
 -- its pass (FrontsProved `pass-holds-fronts`, of a sound job and sides that a pass may start from)
 pub record PassHoldsFronts (job : Job) (sides : List ℕ) : Type 0 where
   -- its moves are lawful, so all that holds whoever chose holds of it; and of its scans and buckets
-  pub lawful : Lawful job sides (frontTries job sides)
-  pub any : PassHoldsBy job sides (frontTries job sides)
-  pub scans : ScansHold job sides (frontTries job sides)
-  pub buckets : BucketsHold job sides (frontTries job sides)
+  pub lawful : Lawful job sides (front_tries job sides)
+  pub any : PassHoldsBy job sides (front_tries job sides)
+  pub scans : ScansHold job sides (front_tries job sides)
+  pub buckets : BucketsHold job sides (front_tries job sides)
   -- each move is the choice there, and the only one; when the moves end neither vault's front is a legal move: C turns never end a pass
-  pub each : (i : ℕ) → i < length (frontTries job sides) → ChosenFront job (frontsAt job sides i) (get_or (frontTries job sides) i 0)
-  pub only : (i f : ℕ) → i < length (frontTries job sides) → ChosenFront job (frontsAt job sides i) f → f ≡ get_or (frontTries job sides) i 0
-  pub ended : (u f : ℕ) → u ≤ 1 → Front job (frontsAt job sides (length (frontTries job sides))) u f
-      → legal job (stateAt job sides (frontTries job sides) (length (frontTries job sides))) f ≡ false
+  pub each : (i : ℕ) → i < length (front_tries job sides) → ChosenFront job (fronts_at job sides i) (get_or (front_tries job sides) i 0)
+  pub only : (i f : ℕ) → i < length (front_tries job sides) → ChosenFront job (fronts_at job sides i) f → f ≡ get_or (front_tries job sides) i 0
+  pub ended : (u f : ℕ) → u ≤ 1 → Front job (fronts_at job sides (length (front_tries job sides))) u f
+      → legal job (state_at job sides (front_tries job sides) (length (front_tries job sides))) f ≡ false

@@ -1,6 +1,6 @@
 -- Document 01, "A job": its numbers, its limits, the view of a recipe, and what a pass or run is lent. Assumes nothing.
 use Rattle.std.specs.Prelude.{ℕ, suc, ◌+◌, ◌-◌, ◌*◌, ◌<◌, Bool, not, cond, ◌&&◌, List, [], map, length, get_or, take, drop, leb, ltb, eqb, ℤ}
-use Rattle.rules.specs.Lists.{those, up_to, allBelow}
+use Rattle.rules.specs.Lists.{those, up_to, AllBelow}
 
 -- a side is 0 (A) or 1 (B), a mark 0 (free), 1 (pinned) or 2 (unread: document 02, order 5); the ratio is num/den for A; the
 -- tolerance is k times smax (order 6)
@@ -15,8 +15,8 @@ pub record Job : Type 0 where
   pub k : ℕ
 
 -- a job of the lists and numbers of a call, for contracts
-abbrev pub asJob : List ℕ → List ℕ → List ℕ → List ℕ → List ℕ → ℕ → ℕ → ℕ → Job
-asJob sizes sides marks bounds pins num den k = record {
+abbrev pub as_job : List ℕ → List ℕ → List ℕ → List ℕ → List ℕ → ℕ → ℕ → ℕ → Job
+as_job sizes sides marks bounds pins num den k = record {
   sizes = sizes;
   sides = sides;
   marks = marks;
@@ -34,20 +34,20 @@ pub record Limits : Type 0 where
   pub pins : ℕ
   pub den : ℕ
 
-abbrev pub limitsOf : ℕ → ℕ → ℕ → ℕ → Limits
-limitsOf files recipes pins den = record { files = files; recipes = recipes; pins = pins; den = den }
+abbrev pub limits_of : ℕ → ℕ → ℕ → ℕ → Limits
+limits_of files recipes pins den = record { files = files; recipes = recipes; pins = pins; den = den }
 
 -- C, the number of sizes
-abbrev pub fileCount : Job → ℕ
-fileCount job = length job.sizes
+abbrev pub file_count : Job → ℕ
+file_count job = length job.sizes
 
 -- N: the bounds list has N + 1 numbers; with fewer than two, N is 0
-abbrev pub recipeCount : Job → ℕ
-recipeCount job = length job.bounds - 1
+abbrev pub recipe_count : Job → ℕ
+recipe_count job = length job.bounds - 1
 
 -- P, the number of pins
-abbrev pub pinCount : Job → ℕ
-pinCount job = length job.pins
+abbrev pub pin_count : Job → ℕ
+pin_count job = length job.pins
 
 abbrev pub bound : Job → ℕ → ℕ
 bound job j = get_or job.bounds j 0
@@ -57,11 +57,11 @@ pin job k = get_or job.pins k 0
 
 -- every number of a job is a two-byte number
 pub record TwoByte (job : Job) : Type 0 where
-  pub sizes : allBelow 65536 job.sizes
-  pub sides : allBelow 65536 job.sides
-  pub marks : allBelow 65536 job.marks
-  pub bounds : allBelow 65536 job.bounds
-  pub pins : allBelow 65536 job.pins
+  pub sizes : AllBelow 65536 job.sizes
+  pub sides : AllBelow 65536 job.sides
+  pub marks : AllBelow 65536 job.marks
+  pub bounds : AllBelow 65536 job.bounds
+  pub pins : AllBelow 65536 job.pins
   pub num : job.num < 65536
   pub den : job.den < 65536
   pub k : job.k < 65536
@@ -81,27 +81,27 @@ view job j = view_of job.bounds job.pins j
 
 -- the files, in rising number
 unfoldable pub files : Job → List ℕ
-files job = up_to (fileCount job)
+files job = up_to (file_count job)
 
 -- the recipes, in rising number, each whole: visits count these
 unfoldable pub views : Job → List (List ℕ)
-views job = map (view job) (up_to (recipeCount job))
+views job = map (view job) (up_to (recipe_count job))
 
 -- a file that could be read: its mark is not 2
-abbrev pub isRead : Job → ℕ → Bool
-isRead job f = not (eqb (get_or job.marks f 0) 2)
+abbrev pub is_read : Job → ℕ → Bool
+is_read job f = not (eqb (get_or job.marks f 0) 2)
 
 -- two files make a recipe
 abbrev pub enough : List ℕ → Bool
 enough r = leb 2 (length r)
 
 -- the readable files of a recipe; none where they are fewer than two
-unfoldable pub readIn : Job → List ℕ → List ℕ
-readIn job r = let s = those (isRead job) r in cond (enough s) s []
+unfoldable pub read_in : Job → List ℕ → List ℕ
+read_in job r = let s = those (is_read job) r in cond (enough s) s []
 
 -- the recipes as cut, gains and scans see them, still in place j (order 5)
 unfoldable pub recipes : Job → List (List ℕ)
-recipes job = map (readIn job) (views job)
+recipes job = map (read_in job) (views job)
 
 -- ---- what a pass or run is lent besides the job
 
@@ -130,17 +130,17 @@ lent_of gains tried gained cuts ends recipes kinds scratch = record {
 }
 
 -- P + 4C + 4N + 16; edition 2 has 8N in place of 4N (document 02, order 9)
-abbrev pub scratchNumbers : ℕ → ℕ → ℕ → ℕ → ℕ
-scratchNumbers edition p c n = p + 4 * c + cond (eqb edition 2) 8 4 * n + 16
+abbrev pub scratch_numbers : ℕ → ℕ → ℕ → ℕ → ℕ
+scratch_numbers edition p c n = p + 4 * c + cond (eqb edition 2) 8 4 * n + 16
 
-abbrev pub scratchFor : ℕ → Job → ℕ
-scratchFor edition job = scratchNumbers edition (pinCount job) (fileCount job) (recipeCount job)
+abbrev pub scratch_for : ℕ → Job → ℕ
+scratch_for edition job = scratch_numbers edition (pin_count job) (file_count job) (recipe_count job)
 
 -- gains exactly C; each move list at least C, each scan list at least 4N, scratch at least its numbers
 abbrev pub fits : ℕ → Job → Lent → Bool
 fits edition job l =
-    eqb (length l.gains) (fileCount job)
-    && leb (fileCount job) (length l.tried) && leb (fileCount job) (length l.gained)
-    && leb (fileCount job) (length l.cuts) && leb (fileCount job) (length l.ends)
-    && leb (4 * recipeCount job) (length l.recipes) && leb (4 * recipeCount job) (length l.kinds)
-    && leb (scratchFor edition job) (length l.scratch)
+    eqb (length l.gains) (file_count job)
+    && leb (file_count job) (length l.tried) && leb (file_count job) (length l.gained)
+    && leb (file_count job) (length l.cuts) && leb (file_count job) (length l.ends)
+    && leb (4 * recipe_count job) (length l.recipes) && leb (4 * recipe_count job) (length l.kinds)
+    && leb (scratch_for edition job) (length l.scratch)

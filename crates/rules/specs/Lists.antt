@@ -35,8 +35,8 @@ in_turn f zero = []
 in_turn f (suc n) = in_turn f n ++ f n
 
 -- every number of the list is below n
-abbrev pub allBelow : ℕ → List ℕ → Type 0
-allBelow n xs = (i : ℕ) → i < length xs → get_or xs i 0 < n
+abbrev pub AllBelow : ℕ → List ℕ → Type 0
+AllBelow n xs = (i : ℕ) → i < length xs → get_or xs i 0 < n
 
 -- the lowest i below n that passes the test; n where none does
 unfoldable pub lowest : (ℕ → Bool) → ℕ → ℕ
@@ -44,17 +44,17 @@ lowest p zero = zero
 lowest p (suc n) = let i = lowest p n in cond (ltb i n || p n) i (suc n)
 
 -- some i below n passes the test
-abbrev pub someBelow : (ℕ → Bool) → ℕ → Bool
-someBelow p n = ltb (lowest p n) n
+abbrev pub some_below : (ℕ → Bool) → ℕ → Bool
+some_below p n = ltb (lowest p n) n
 
 -- only a lesser cost displaces an earlier one
 abbrev pub displaces : ℕ → ℕ → Bool
 displaces new old = ltb new old
 
 -- the least k up to n at which the cost is least: the shortest of equals
-unfoldable pub bestUpTo : (ℕ → ℕ) → ℕ → ℕ
-bestUpTo cost zero = zero
-bestUpTo cost (suc n) = let b = bestUpTo cost n in cond (displaces (cost (suc n)) (cost b)) (suc n) b
+unfoldable pub best_up_to : (ℕ → ℕ) → ℕ → ℕ
+best_up_to cost zero = zero
+best_up_to cost (suc n) = let b = best_up_to cost n in cond (displaces (cost (suc n)) (cost b)) (suc n) b
 
 -- ---- what a lent list holds afterwards
 

@@ -1,21 +1,21 @@
 -- Document 01, "One pass", from the end of the moves on. Assumes nothing.
 use Rattle.std.specs.Prelude.{ℕ, ◌*◌, cond, List, [], ◌∷◌, map, length, take, eqb, ℤ, pos}
-use Rattle.rules.specs.Lists.{up_to, bestUpTo, listed}
-use Rattle.rules.specs.Job.{Job, fileCount, recipeCount, views, recipes, Lent, scratchFor}
-use Rattle.rules.specs.Split.{cut, gain, unreadFiles, unreadRecipes, sizeA}
-use Rattle.rules.specs.Move.{State, start, free, moved, after, moves, Scan, scans, endsFrom, visits}
+use Rattle.rules.specs.Lists.{up_to, best_up_to, listed}
+use Rattle.rules.specs.Job.{Job, file_count, recipe_count, views, recipes, Lent, scratch_for}
+use Rattle.rules.specs.Split.{cut, gain, unread_files, unread_recipes, size_a}
+use Rattle.rules.specs.Move.{State, start, free, moved, after, moves, Scan, scans, ends_from, visits}
 
 -- ---- the move lists
 
 -- each move's gain when chosen
-unfoldable pub gainsWhen : List (List ℕ) → State → List ℕ → List ℤ
-gainsWhen rs st [] = []
-gainsWhen rs st (f ∷ fs) = gain st.sides rs f ∷ gainsWhen rs (moved st f) fs
+unfoldable pub gains_when : List (List ℕ) → State → List ℕ → List ℤ
+gains_when rs st [] = []
+gains_when rs st (f ∷ fs) = gain st.sides rs f ∷ gains_when rs (moved st f) fs
 
 -- the cut after each move
-unfoldable pub cutsAfter : List (List ℕ) → State → List ℕ → List ℕ
-cutsAfter rs st [] = []
-cutsAfter rs st (f ∷ fs) = cut (moved st f).sides rs ∷ cutsAfter rs (moved st f) fs
+unfoldable pub cuts_after : List (List ℕ) → State → List ℕ → List ℕ
+cuts_after rs st [] = []
+cuts_after rs st (f ∷ fs) = cut (moved st f).sides rs ∷ cuts_after rs (moved st f) fs
 
 -- ---- the prefix kept
 
@@ -25,7 +25,7 @@ cut_at rs st ms k = cut (after st (take k ms)).sides rs
 
 -- the prefix of moves with the least cut, the shortest of equals; no move at all is a prefix
 unfoldable pub keeps : List (List ℕ) → State → List ℕ → ℕ
-keeps rs st ms = bestUpTo (cut_at rs st ms) (length ms)
+keeps rs st ms = best_up_to (cut_at rs st ms) (length ms)
 
 -- ---- the gain list
 
@@ -35,12 +35,12 @@ standing rs st [] f = gain st.sides rs f
 standing rs st (m ∷ ms) f = cond (eqb m f) (gain st.sides rs f) (standing rs (moved st m) ms f)
 
 -- the gain list of n files; a pinned file holds 0
-unfoldable pub gainsAfter : List (List ℕ) → ℕ → State → List ℕ → List ℤ
-gainsAfter rs n st ms = map (λ f. cond (free st f) (standing rs st ms f) (pos 0)) (up_to n)
+unfoldable pub gains_after : List (List ℕ) → ℕ → State → List ℕ → List ℤ
+gains_after rs n st ms = map (λ f. cond (free st f) (standing rs st ms f) (pos 0)) (up_to n)
 
 -- the gain list that a pass starts with
-abbrev pub startGains : List (List ℕ) → ℕ → State → List ℤ
-startGains rs n st = gainsAfter rs n st []
+abbrev pub start_gains : List (List ℕ) → ℕ → State → List ℤ
+start_gains rs n st = gains_after rs n st []
 
 -- ---- one pass
 
@@ -54,17 +54,17 @@ pub record Pass : Type 0 where
   pub gains : List ℤ
   pub kept : ℕ
   pub visited : ℕ
-  pub cutBefore : ℕ
-  pub cutAfter : ℕ
-  pub sidesAfter : List ℕ
-  pub sizeAfter : ℕ
+  pub cut_before : ℕ
+  pub cut_after : ℕ
+  pub sides_after : List ℕ
+  pub size_after : ℕ
   -- files that could not be read, and recipes that hold one (document 02, order 5)
   pub unread : ℕ
   pub holding : ℕ
 
 -- the pass that tries these moves
-unfoldable pub passOf : Job → List ℕ → List ℕ → Pass
-passOf job sides ms =
+unfoldable pub pass_of : Job → List ℕ → List ℕ → Pass
+pass_of job sides ms =
     let rs = recipes job in
     let st = start job sides in
     let k = keeps rs st ms in
@@ -72,19 +72,19 @@ passOf job sides ms =
     let last = (after st (take k ms)).sides in
     record {
       tried = ms;
-      gained = gainsWhen rs st ms;
-      cuts = cutsAfter rs st ms;
-      ends = endsFrom rs 0 st ms;
+      gained = gains_when rs st ms;
+      cuts = cuts_after rs st ms;
+      ends = ends_from rs 0 st ms;
       scanned = cs;
-      gains = gainsAfter rs (fileCount job) st ms;
+      gains = gains_after rs (file_count job) st ms;
       kept = k;
       visited = visits (views job) cs;
-      cutBefore = cut sides rs;
-      cutAfter = cut last rs;
-      sidesAfter = last;
-      sizeAfter = sizeA job last;
-      unread = unreadFiles job;
-      holding = unreadRecipes job;
+      cut_before = cut sides rs;
+      cut_after = cut last rs;
+      sides_after = last;
+      size_after = size_a job last;
+      unread = unread_files job;
+      holding = unread_recipes job;
     }
 
 -- the moves of document 01 from these sides, and the pass that tries them
@@ -92,33 +92,33 @@ abbrev pub tries : Job → List ℕ → List ℕ
 tries job sides = moves job (start job sides)
 
 abbrev pub pass : Job → List ℕ → Pass
-pass job sides = passOf job sides (tries job sides)
+pass job sides = pass_of job sides (tries job sides)
 
 -- ---- what is told of a pass
 
 -- its scans, where each move's end, and its visits; by edition 3 there are none (document 02, order 12)
-abbrev pub shownScans : ℕ → Pass → List Scan
-shownScans edition p = cond (eqb edition 3) [] p.scanned
+abbrev pub shown_scans : ℕ → Pass → List Scan
+shown_scans edition p = cond (eqb edition 3) [] p.scanned
 
-abbrev pub shownEnds : ℕ → Pass → List ℕ
-shownEnds edition p = cond (eqb edition 3) [] p.ends
+abbrev pub shown_ends : ℕ → Pass → List ℕ
+shown_ends edition p = cond (eqb edition 3) [] p.ends
 
-abbrev pub shownVisits : ℕ → Pass → ℕ
-shownVisits edition p = cond (eqb edition 3) 0 p.visited
+abbrev pub shown_visits : ℕ → Pass → ℕ
+shown_visits edition p = cond (eqb edition 3) 0 p.visited
 
 -- the lent lists after a pass: the first C move entries and first 4N scan entries hold the lists, then zeros; further entries stay.
 -- The scratch numbers named are 0, any beyond stay
 unfoldable pub leaves : ℕ → Job → Lent → Pass → Lent
 leaves edition job l p =
-    let c = fileCount job in
-    let n = 4 * recipeCount job in
+    let c = file_count job in
+    let n = 4 * recipe_count job in
     record {
       gains = p.gains;
       tried = listed c 0 p.tried l.tried;
       gained = listed c (pos 0) p.gained l.gained;
       cuts = listed c 0 p.cuts l.cuts;
-      ends = listed c 0 (shownEnds edition p) l.ends;
-      recipes = listed n 0 (map (λ s. s.recipe) (shownScans edition p)) l.recipes;
-      kinds = listed n 0 (map (λ s. s.kind) (shownScans edition p)) l.kinds;
-      scratch = listed (scratchFor edition job) 0 [] l.scratch;
+      ends = listed c 0 (shown_ends edition p) l.ends;
+      recipes = listed n 0 (map (λ s. s.recipe) (shown_scans edition p)) l.recipes;
+      kinds = listed n 0 (map (λ s. s.kind) (shown_scans edition p)) l.kinds;
+      scratch = listed (scratch_for edition job) 0 [] l.scratch;
     }

@@ -6,15 +6,15 @@
 use Rattle.std.specs.Prelude.{◌≡◌, ◌≢◌, ℕ, suc, ◌≤◌, ◌<◌, true, false, List, [], ◌∷◌, ◌++◌, length, get_or}
 use Rattle.std.specs.Int.Signed.{lt_z}
 use Rattle.rules.specs.declared.RunFigures.{RunFigures}
-use Rattle.rules.specs.Job.{Job, limitsOf, Limits, fileCount, recipes, Lent, fits}
-use Rattle.rules.specs.Split.{cut, gain, unreadFiles, unreadRecipes, sizeA}
-use Rattle.rules.specs.Check.{done, checkJob}
+use Rattle.rules.specs.Job.{Job, limits_of, Limits, file_count, recipes, Lent, fits}
+use Rattle.rules.specs.Split.{cut, gain, unread_files, unread_recipes, size_a}
+use Rattle.rules.specs.Check.{done, check_job}
 use Rattle.rules.specs.Move.{start, moved, legal}
-use Rattle.rules.specs.Pass.{shownVisits}
-use Rattle.rules.specs.Run.{last_by, lastPass, Ended, runEnds}
+use Rattle.rules.specs.Pass.{shown_visits}
+use Rattle.rules.specs.Run.{last_by, last_pass, Ended, run_ends}
 use Rattle.rules.specs.Stored.{job_of}
-use Rattle.rules.specs.Report.{line, first_lines, sizeLine, sidesLine, allRun, prints}
-use Rattle.rules.specs.Writing.{withSides, resettles}
+use Rattle.rules.specs.Report.{line, first_lines, size_line, sides_line, all_run, prints}
+use Rattle.rules.specs.Writing.{with_sides, resettles}
 use Rattle.rules.specs.Theorems.{Sides}
 use Rattle.rules.specs.FrontsWorked.{early}
 
@@ -22,17 +22,17 @@ use Rattle.rules.specs.FrontsWorked.{early}
 
 -- every file with mark 0 counts as free again
 abbrev pub NoneLessens : Job → List ℕ → Type 0
-NoneLessens job sides = (f : ℕ) → f < fileCount job → legal job (start job sides) f ≡ true → cut sides (recipes job) ≤ cut (moved (start job sides) f).sides (recipes job)
+NoneLessens job sides = (f : ℕ) → f < file_count job → legal job (start job sides) f ≡ true → cut sides (recipes job) ≤ cut (moved (start job sides) f).sides (recipes job)
 
 -- a choice that takes a greatest gain: from whatever sides a pass may start, if any move is legal then one is tried, and no legal move has a greater gain than the first that is tried
 -- (of a sound job edition 1 does so, NoneLessens `tries-greatest`, and edition 3, LevelsProved `takes-greatest`)
 abbrev pub TakesGreatest : Job → (List ℕ → List ℕ) → Type 0
-TakesGreatest job try = (sides : List ℕ) → Sides job sides → (f : ℕ) → f < fileCount job → legal job (start job sides) f ≡ true
+TakesGreatest job try = (sides : List ℕ) → Sides job sides → (f : ℕ) → f < file_count job → legal job (start job sides) f ≡ true
     → (1 ≤ length (try sides)) × (lt_z (gain sides (recipes job) (get_or (try sides) 0 0)) (gain sides (recipes job) f) ≡ false)
 
 -- by any such choice a run returns such sides (NoneLessens `settled-least`, of a sound job and a lawful try)
 abbrev pub SettledLeast : Job → (List ℕ → List ℕ) → Type 0
-SettledLeast job try = TakesGreatest job try → NoneLessens job (last_by job try).sidesAfter
+SettledLeast job try = TakesGreatest job try → NoneLessens job (last_by job try).sides_after
 
 -- ---- the calls. The other two rest on what stands of any choice: a second run on `ResettledHoldsBy` in specs/RoundTrip.antt, the number of passes on `RunHoldsBy` in specs/Theorems.antt
 
@@ -52,47 +52,47 @@ pub record SecondRun (first second : Ended RunFigures) : Type 0 where
 -- what a run of this job by this edition answers and leaves, where it is not refused (SettledYes `settled-yes`, of any job and lent lists: all that meets the promise of `run` in crates/runs is such)
 pub record SettledYes (edition : ℕ) (most : Limits) (job : Job) (first : Ended RunFigures) : Type 0 where
   -- the job passes the check
-  pub passed : checkJob most job ≡ done
+  pub passed : check_job most job ≡ done
   -- it answers settled yes
   pub settled : first.answer.settled ≡ true
   -- by editions 1 and 3 no single legal move lessens the cut
   pub least : edition ≢ 2 → NoneLessens job first.sides
   -- by any edition a second run on the result, lent any lists that fit, such as those that the first left
-  pub again : (lent : Lent) (second : Ended RunFigures) → fits edition job lent ≡ true → second ≡ runEnds edition most (withSides job first.sides) lent → SecondRun first second
+  pub again : (lent : Lent) (second : Ended RunFigures) → fits edition job lent ≡ true → second ≡ run_ends edition most (with_sides job first.sides) lent → SecondRun first second
   pub lists : fits edition job first.lent ≡ true
   -- and the passes were at most the starting cut plus one
   pub few : first.answer.passes ≤ suc first.answer.figures.before
 
 -- why the first is not promised of edition 2 (SettledYes `not-by-fronts`): it stops where neither front is legal, though another move may be. `FrontsWorked` has a job and each step of it, from the
 -- check on: its run by edition 2 answers settled yes, lent any lists that fit, and yet a single legal move lessens the cut
-abbrev pub earlyRun : Lent → Ended RunFigures
-earlyRun l = runEnds 2 (limitsOf 4 3 6 7) early l
+abbrev pub early_run : Lent → Ended RunFigures
+early_run l = run_ends 2 (limits_of 4 3 6 7) early l
 
 pub record NotByFronts (l : Lent) : Type 0 where
-  pub settled : (earlyRun l).answer.settled ≡ true
-  pub lessens : ¬ NoneLessens early (earlyRun l).sides
+  pub settled : (early_run l).answer.settled ≡ true
+  pub lessens : ¬ NoneLessens early (early_run l).sides
 
 -- ---- what is printed
 
 -- the report of a night that is not refused: its cut before and after, its passes, moves kept and visits. All other lines tell of the job's files and of these sides
-unfoldable pub settledReport : Job → List ℕ → ℕ → ℕ → ℕ → ℕ → ℕ → List ℕ
-settledReport job sides before after passes kept visits =
-    first_lines (unreadFiles job) (unreadRecipes job)
+unfoldable pub settled_report : Job → List ℕ → ℕ → ℕ → ℕ → ℕ → ℕ → List ℕ
+settled_report job sides before after passes kept visits =
+    first_lines (unread_files job) (unread_recipes job)
     ++ line "cut" (before ∷ after ∷ [])
-    ++ sizeLine job (sizeA job sides) sides
+    ++ size_line job (size_a job sides) sides
     ++ line "passes" (passes ∷ [])
     ++ line "settled yes" []
     ++ line "kept" (kept ∷ [])
     ++ line "visits" (visits ∷ [])
-    ++ sidesLine job sides
+    ++ sides_line job sides
 
 -- (SettledYes `second-night`, of an input that is read and whose run by this edition is not refused)
 pub record SecondNight (edition : ℕ) (most : Limits) (input : List ℕ) : Type 0 where
   -- a night on it says `settled yes`
-  pub first : let e = allRun edition most (job_of input) in
-      prints edition most input ≡ settledReport (job_of input) e.sides e.answer.figures.before e.answer.figures.cut e.answer.passes e.answer.figures.kept e.answer.figures.visits
+  pub first : let e = all_run edition most (job_of input) in
+      prints edition most input ≡ settled_report (job_of input) e.sides e.answer.figures.before e.answer.figures.cut e.answer.passes e.answer.figures.kept e.answer.figures.visits
   -- a night on what `resettle` wrote says `cut c c`, `passes 1`, `kept 0` and the same letters; its visits are the last pass's
-  pub second : let e = allRun edition most (job_of input) in
-      prints edition most (resettles edition most input).output ≡ settledReport (job_of input) e.sides e.answer.figures.cut e.answer.figures.cut 1 0 (shownVisits edition (lastPass edition (job_of input)))
+  pub second : let e = all_run edition most (job_of input) in
+      prints edition most (resettles edition most input).output ≡ settled_report (job_of input) e.sides e.answer.figures.cut e.answer.figures.cut 1 0 (shown_visits edition (last_pass edition (job_of input)))
   -- and `resettle` writes the same again
   pub same : resettles edition most (resettles edition most input).output ≡ resettles edition most input

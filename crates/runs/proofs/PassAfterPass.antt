@@ -7,11 +7,11 @@ use native.Mathlib.Omega.{arith}
 use lib.Dec.{leb, eqb}
 use lib.IntN.{pos}
 use lib.ListN.{length, length-map}
-use Rattle.rules.specs.Job.{Job, Limits, fileCount, recipeCount, recipes, Lent, lent_of, scratchFor, fits}
-use Rattle.rules.specs.Move.{start, scans, endsFrom}
-use Rattle.rules.specs.Pass.{gainsWhen, cutsAfter, passOf, shownScans, shownEnds, leaves}
-use Rattle.rules.specs.Editions.{triesBy}
-use Rattle.rules.specs.Run.{passBy}
+use Rattle.rules.specs.Job.{Job, Limits, file_count, recipe_count, recipes, Lent, lent_of, scratch_for, fits}
+use Rattle.rules.specs.Move.{start, scans, ends_from}
+use Rattle.rules.specs.Pass.{gains_when, cuts_after, pass_of, shown_scans, shown_ends, leaves}
+use Rattle.rules.specs.Editions.{tries_by}
+use Rattle.rules.specs.Run.{pass_by}
 use Rattle.rules.specs.Theorems.{Sound, Sides, MovesHold, ScansHold, Left, Lawful, PassHoldsBy}
 use Rattle.rules.proofs.Entries.{listed-again, shown-few}
 use Rattle.rules.proofs.Editions.{editions-hold}
@@ -22,34 +22,34 @@ use Rattle.rules.proofs.Fits.{long-enough}
 -- ---- one pass by an edition, from sides that it may start from: what holds of it and of its scans
 
 pub edition-holds : (edition : ℕ) (most : Limits) (job : Job) → Sound most job → (before : List ℕ) → Sides job before
-    → PassHoldsBy job before (triesBy edition job before) × ScansHold job before (triesBy edition job before)
+    → PassHoldsBy job before (tries_by edition job before) × ScansHold job before (tries_by edition job before)
 edition-holds edition most job s before w =
-    let lawful : Lawful job before (triesBy edition job before) = (editions-hold most job s).lawful edition before w in
-    let ms : List ℕ = triesBy edition job before in
+    let lawful : Lawful job before (tries_by edition job before) = (editions-hold most job s).lawful edition before w in
+    let ms : List ℕ = tries_by edition job before in
     (pass-holds-by most job s before ms w lawful, scans-hold most job s before ms w (lawful-frees most job s before ms w lawful))
 
 -- ---- the lists after two passes are the second's
 
 module _ (edition : ℕ) (job : Job) (l : Lent) (x y ms ns : List ℕ) (a : MovesHold job x ms) (c : ScansHold job x ms) (b : MovesHold job y ns) (d : ScansHold job y ns) where
-  pub leaves-again : leaves edition job (leaves edition job l (passOf job x ms)) (passOf job y ns) ≡ leaves edition job l (passOf job y ns)
-  unfolding leaves passOf
+  pub leaves-again : leaves edition job (leaves edition job l (pass_of job x ms)) (pass_of job y ns) ≡ leaves edition job l (pass_of job y ns)
+  unfolding leaves pass_of
   leaves-again =
       let rs : List (List ℕ) = recipes job in
-      let m : ℕ = fileCount job in
-      let n : ℕ = 4 * recipeCount job in
+      let m : ℕ = file_count job in
+      let n : ℕ = 4 * recipe_count job in
       let few : length ms ≤ m = a.few in
       let few' : length ns ≤ m = b.few in
       let third : Bool = eqb edition 3 in
       let before = shown-few third (scans rs (start job x) ms) c.scans in
       let now = shown-few third (scans rs (start job y) ns) d.scans in
       let tried = listed-again m 0 ms ns l.tried few few' in
-      let gained = listed-again m (pos 0) (gainsWhen rs (start job x) ms) (gainsWhen rs (start job y) ns) l.gained (rw gains-length few) (rw gains-length few') in
-      let cuts = listed-again m 0 (cutsAfter rs (start job x) ms) (cutsAfter rs (start job y) ns) l.cuts (rw cuts-length few) (rw cuts-length few') in
-      let ends = listed-again m 0 (shownEnds edition (passOf job x ms)) (shownEnds edition (passOf job y ns)) l.ends (shown-few third (endsFrom rs 0 (start job x) ms) (rw ends-length few)) (shown-few third (endsFrom rs 0 (start job y) ns) (rw ends-length few')) in
-      let recipes = listed-again n 0 (map (λ s. s.recipe) (shownScans edition (passOf job x ms))) (map (λ s. s.recipe) (shownScans edition (passOf job y ns))) l.recipes (rw length-map before) (rw length-map now) in
-      let kinds = listed-again n 0 (map (λ s. s.kind) (shownScans edition (passOf job x ms))) (map (λ s. s.kind) (shownScans edition (passOf job y ns))) l.kinds (rw length-map before) (rw length-map now) in
-      let scratch = listed-again (scratchFor edition job) 0 [] [] l.scratch (omega arith) (omega arith) in
-      λ i. lent_of (passOf job y ns).gains (tried i) (gained i) (cuts i) (ends i) (recipes i) (kinds i) (scratch i)
+      let gained = listed-again m (pos 0) (gains_when rs (start job x) ms) (gains_when rs (start job y) ns) l.gained (rw gains-length few) (rw gains-length few') in
+      let cuts = listed-again m 0 (cuts_after rs (start job x) ms) (cuts_after rs (start job y) ns) l.cuts (rw cuts-length few) (rw cuts-length few') in
+      let ends = listed-again m 0 (shown_ends edition (pass_of job x ms)) (shown_ends edition (pass_of job y ns)) l.ends (shown-few third (ends_from rs 0 (start job x) ms) (rw ends-length few)) (shown-few third (ends_from rs 0 (start job y) ns) (rw ends-length few')) in
+      let recipes = listed-again n 0 (map (λ s. s.recipe) (shown_scans edition (pass_of job x ms))) (map (λ s. s.recipe) (shown_scans edition (pass_of job y ns))) l.recipes (rw length-map before) (rw length-map now) in
+      let kinds = listed-again n 0 (map (λ s. s.kind) (shown_scans edition (pass_of job x ms))) (map (λ s. s.kind) (shown_scans edition (pass_of job y ns))) l.kinds (rw length-map before) (rw length-map now) in
+      let scratch = listed-again (scratch_for edition job) 0 [] [] l.scratch (omega arith) (omega arith) in
+      λ i. lent_of (pass_of job y ns).gains (tried i) (gained i) (cuts i) (ends i) (recipes i) (kinds i) (scratch i)
 
 -- ---- the lists keep their lengths
 
@@ -65,13 +65,13 @@ pub record Alike (job : Job) (l : Lent) (standing : List ℕ) (lent : Lent) : Ty
   pub scratch : length lent.scratch ≡ length l.scratch
 
 pub leaves_alike : (edition : ℕ) (most : Limits) (job : Job) → Sound most job → (l : Lent) → fits edition job l ≡ true → (before : List ℕ) → Sides job before
-    → let p = passBy job (triesBy edition job) before in Alike job l p.sidesAfter (leaves edition job l p)
+    → let p = pass_by job (tries_by edition job) before in Alike job l p.sides_after (leaves edition job l p)
 leaves_alike edition most job s l ok before w =
     let h = edition-holds edition most job s before w in
-    let m : MovesHold job before (triesBy edition job before) = h.0.moves in
-    let v : Left edition job l (passBy job (triesBy edition job) before) = left most job s edition before (triesBy edition job before) l ok m h.1 in
+    let m : MovesHold job before (tries_by edition job before) = h.0.moves in
+    let v : Left edition job l (pass_by job (tries_by edition job) before) = left most job s edition before (tries_by edition job before) l ok m h.1 in
     record {
-      sides = m.next.long ∙ sym s.sidesLong;
+      sides = m.next.long ∙ sym s.sides_long;
       gains = ap length v.gains ∙ m.all ∙ sym (long-enough edition job l ok).gains;
       tried = v.tried.long;
       gained = v.gained.long;
@@ -85,8 +85,8 @@ leaves_alike edition most job s l ok before w =
 -- so they fit the job as those lent did
 pub fits-alike : (edition : ℕ) {job : Job} {l lent : Lent} {sides : List ℕ} → Alike job l sides lent → fits edition job lent ≡ fits edition job l
 fits-alike edition {job} {l} {lent} a = λ i.
-    eqb (a.gains i) (fileCount job)
-    && leb (fileCount job) (a.tried i) && leb (fileCount job) (a.gained i)
-    && leb (fileCount job) (a.cuts i) && leb (fileCount job) (a.ends i)
-    && leb (4 * recipeCount job) (a.recipes i) && leb (4 * recipeCount job) (a.kinds i)
-    && leb (scratchFor edition job) (a.scratch i)
+    eqb (a.gains i) (file_count job)
+    && leb (file_count job) (a.tried i) && leb (file_count job) (a.gained i)
+    && leb (file_count job) (a.cuts i) && leb (file_count job) (a.ends i)
+    && leb (4 * recipe_count job) (a.recipes i) && leb (4 * recipe_count job) (a.kinds i)
+    && leb (scratch_for edition job) (a.scratch i)

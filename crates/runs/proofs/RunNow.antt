@@ -11,24 +11,24 @@ use lib.Seq.{take-suc, take-length}
 use borrow.Author.Tests.{ne_eqb}
 use Rattle.rules.specs.declared.Figures.{Figures}
 use Rattle.rules.specs.Lists.{total}
-use Rattle.rules.specs.Job.{Job, Limits, fileCount, recipes, Lent, fits}
-use Rattle.rules.specs.Split.{isCut, cut, sizeA, balanced}
+use Rattle.rules.specs.Job.{Job, Limits, file_count, recipes, Lent, fits}
+use Rattle.rules.specs.Split.{is_cut, cut, size_a, balanced}
 use Rattle.rules.specs.Check.{done}
-use Rattle.rules.specs.Pass.{Pass, passOf, shownScans, shownVisits, leaves}
-use Rattle.rules.specs.Editions.{triesBy}
-use Rattle.rules.specs.Run.{Ended, ended_of, settles, passBy, firstPass, run_by, last_of, figuresOf, runFiguresOf}
+use Rattle.rules.specs.Pass.{Pass, pass_of, shown_scans, shown_visits, leaves}
+use Rattle.rules.specs.Editions.{tries_by}
+use Rattle.rules.specs.Run.{Ended, ended_of, settles, pass_by, first_pass, run_by, last_of, figures_of, run_figures_of}
 use Rattle.rules.specs.Theorems.{Sound, Accepted, Sides, RunHoldsBy}
 use Rattle.rules.proofs.Count.{total-append, count-le}
 use Rattle.rules.proofs.Editions.{editions-hold}
 use Rattle.rules.proofs.Proved.{given-sides}
 use Rattle.rules.proofs.Runs.{pass-size, last_more, last-at}
 use Rattle.rules.proofs.Tests.{clash}
-use Rattle.split.specs.Playing.{passLeft}
+use Rattle.split.specs.Playing.{pass_left}
 use Rattle.tables.proofs.Accepted.{Narrow}
 use Rattle.rules.proofs.SoundJob.{recipes-length}
-use Rattle.rules.specs.Writing.{withSides}
-use Rattle.runs.specs.Running.{plusOf, SumsFit, last_at, Running, runLeft}
-use Rattle.rules.proofs.OtherSides.{same-leaves, same-passOf}
+use Rattle.rules.specs.Writing.{with_sides}
+use Rattle.runs.specs.Running.{plus_of, SumsFit, last_at, Running, run_left}
+use Rattle.rules.proofs.OtherSides.{same-leaves, same-pass_of}
 use Rattle.rules.proofs.Entries.{shown-few, shown-less}
 use Rattle.runs.proofs.PassAfterPass.{Alike, edition-holds, leaves-again, leaves_alike}
 
@@ -37,17 +37,17 @@ unfolding total
 total-more w ps p = total-append w ps (p ∷ [])
 
 -- the figures of one pass more
-figures-more : (edition : ℕ) (first : Pass) (ps : List Pass) (p : Pass) → figuresOf edition done first (ps ++ (p ∷ [])) ≡ plusOf (figuresOf edition done first ps) (figuresOf edition done p (p ∷ []))
-unfolding figuresOf plusOf
+figures-more : (edition : ℕ) (first : Pass) (ps : List Pass) (p : Pass) → figures_of edition done first (ps ++ (p ∷ [])) ≡ plus_of (figures_of edition done first ps) (figures_of edition done p (p ∷ []))
+unfolding figures_of plus_of
 figures-more edition first ps p = λ i. record {
   verdict = done;
-  before = first.cutBefore;
-  cut = (ap (λ (q : Pass). q.cutAfter) (last_more first ps p ∙ sym (last_more p [] p))) i;
-  size = (ap (λ (q : Pass). q.sizeAfter) (last_more first ps p ∙ sym (last_more p [] p))) i;
+  before = first.cut_before;
+  cut = (ap (λ (q : Pass). q.cut_after) (last_more first ps p ∙ sym (last_more p [] p))) i;
+  size = (ap (λ (q : Pass). q.size_after) (last_more first ps p ∙ sym (last_more p [] p))) i;
   tried = (total-more (λ q. length q.tried) ps p ∙ one (λ q. length q.tried)) i;
   kept = (total-more (λ q. q.kept) ps p ∙ one (λ q. q.kept)) i;
-  scans = (total-more (λ q. length (shownScans edition q)) ps p ∙ one (λ q. length (shownScans edition q))) i;
-  visits = (total-more (shownVisits edition) ps p ∙ one (shownVisits edition)) i;
+  scans = (total-more (λ q. length (shown_scans edition q)) ps p ∙ one (λ q. length (shown_scans edition q))) i;
+  visits = (total-more (shown_visits edition) ps p ∙ one (shown_visits edition)) i;
   unread = first.unread;
   holding = first.holding;
 }
@@ -55,8 +55,8 @@ figures-more edition first ps p = λ i. record {
     one : (w : Pass → ℕ) → total w ps + (w p + 0) ≡ total w ps + total w (p ∷ [])
     one w = unfold total in refl
 
-one-settles : (edition : ℕ) (p : Pass) → eqb (figuresOf edition done p (p ∷ [])).cut (figuresOf edition done p (p ∷ [])).before ≡ settles p
-unfolding figuresOf last_of
+one-settles : (edition : ℕ) (p : Pass) → eqb (figures_of edition done p (p ∷ [])).cut (figures_of edition done p (p ∷ [])).before ≡ settles p
+unfolding figures_of last_of
 one-settles edition p = refl
 
 -- the sums of k passes are small
@@ -66,9 +66,9 @@ record SumsSmall (k : ℕ) (sum : Figures) : Type 0 where
   pub scans : sum.scans ≤ k * 65536
   pub visits : sum.visits ≤ k * 262144
 
-sums-grow : (edition k : ℕ) (sum : Figures) (p : Pass) → SumsSmall k sum → length p.tried ≤ 65536 → p.kept ≤ 65536 → length (shownScans edition p) ≤ 65536 → shownVisits edition p ≤ 262144
-    → SumsSmall (suc k) (plusOf sum (figuresOf edition done p (p ∷ [])))
-unfolding plusOf figuresOf total
+sums-grow : (edition k : ℕ) (sum : Figures) (p : Pass) → SumsSmall k sum → length p.tried ≤ 65536 → p.kept ≤ 65536 → length (shown_scans edition p) ≤ 65536 → shown_visits edition p ≤ 262144
+    → SumsSmall (suc k) (plus_of sum (figures_of edition done p (p ∷ [])))
+unfolding plus_of figures_of total
 sums-grow edition k sum p r a b c d = record {
   tried = omega (arith, r.tried);
   kept = omega (arith, r.kept);
@@ -79,58 +79,58 @@ sums-grow edition k sum p r a b c d = record {
 -- sides that a pass of a run starts from
 pub record Starts (job : Job) (sides : List ℕ) : Type 0 where
   pub fit : Sides job sides
-  pub balanced : balanced job (sizeA job sides) ≡ true
+  pub balanced : balanced job (size_a job sides) ≡ true
 
 module _ (edition : ℕ) {most : Limits} {job : Job} (ok : Accepted most job) (l : Lent) where
   -- the pass from these sides
   abbrev from : List ℕ → Pass
-  from = passBy job (triesBy edition job)
+  from = pass_by job (tries_by edition job)
 
   abbrev s : Sound most job
   s = ok.sound
 
-  run-holding : RunHoldsBy job (triesBy edition job)
+  run-holding : RunHoldsBy job (tries_by edition job)
   run-holding = (editions-hold most job s).run edition
 
-  take_more : (k : ℕ) → k < length (run_by edition job) → take (suc k) (run_by edition job) ≡ take k (run_by edition job) ++ (get_or (run_by edition job) k (firstPass edition job) ∷ [])
-  take_more k h = take-suc (run_by edition job) k (firstPass edition job) h
+  take_more : (k : ℕ) → k < length (run_by edition job) → take (suc k) (run_by edition job) ≡ take k (run_by edition job) ++ (get_or (run_by edition job) k (first_pass edition job) ∷ [])
+  take_more k h = take-suc (run_by edition job) k (first_pass edition job) h
 
   -- the last of the first passes is the one at their number less one
-  last-is : (k : ℕ) → k < length (run_by edition job) → last_at edition job (suc k) ≡ get_or (run_by edition job) k (firstPass edition job)
-  last-is k h = last-at (firstPass edition job) (firstPass edition job) (run_by edition job) k h
+  last-is : (k : ℕ) → k < length (run_by edition job) → last_at edition job (suc k) ≡ get_or (run_by edition job) k (first_pass edition job)
+  last-is k h = last-at (first_pass edition job) (first_pass edition job) (run_by edition job) k h
 
-  starts-next : (before : List ℕ) → Starts job before → Starts job (from before).sidesAfter
+  starts-next : (before : List ℕ) → Starts job before → Starts job (from before).sides_after
   starts-next before w = record {
     fit = (edition-holds edition most job s before w.fit).0.moves.next;
-    balanced = rw (← pass-size job (triesBy edition job) before) ((edition-holds edition most job s before w.fit).0.returns w.balanced);
+    balanced = rw (← pass-size job (tries_by edition job) before) ((edition-holds edition most job s before w.fit).0.returns w.balanced);
   }
 
   -- each pass is one from such sides
-  pass-at : (j : ℕ) → j < length (run_by edition job) → (before : List ℕ) × Starts job before × (get_or (run_by edition job) j (firstPass edition job) ≡ from before)
-  pass-at zero h = (job.sides, record { fit = given-sides most job s; balanced = ok.balanced }, run-holding.first (firstPass edition job))
+  pass-at : (j : ℕ) → j < length (run_by edition job) → (before : List ℕ) × Starts job before × (get_or (run_by edition job) j (first_pass edition job) ≡ from before)
+  pass-at zero h = (job.sides, record { fit = given-sides most job s; balanced = ok.balanced }, run-holding.first (first_pass edition job))
   pass-at (suc i) h =
       let b = pass-at i (omega arith) in
-      ((get_or (run_by edition job) i (firstPass edition job)).sidesAfter, rw b.2 (starts-next b.0 b.1), run-holding.each (firstPass edition job) i h)
+      ((get_or (run_by edition job) i (first_pass edition job)).sides_after, rw b.2 (starts-next b.0 b.1), run-holding.each (first_pass edition job) i h)
 
   -- the pass after it
-  pass-there : (k : ℕ) → suc k < length (run_by edition job) → get_or (run_by edition job) (suc k) (firstPass edition job) ≡ from (last_at edition job (suc k)).sidesAfter
-  pass-there k h = run-holding.each (firstPass edition job) k h ∙ ap (λ (p : Pass). from p.sidesAfter) (sym (last-is k (omega arith)))
+  pass-there : (k : ℕ) → suc k < length (run_by edition job) → get_or (run_by edition job) (suc k) (first_pass edition job) ≡ from (last_at edition job (suc k)).sides_after
+  pass-there k h = run-holding.each (first_pass edition job) k h ∙ ap (λ (p : Pass). from p.sides_after) (sym (last-is k (omega arith)))
 
   -- after the first pass
-  pub runs-first : (f : Figures) (sides : List ℕ) (lent : Lent) → ended_of f sides lent ≡ passLeft edition job l
+  pub runs-first : (f : Figures) (sides : List ℕ) (lent : Lent) → ended_of f sides lent ≡ pass_left edition job l
       → Running edition job l 1 f (eqb f.cut f.before) sides lent
-  unfolding figuresOf last_of
+  unfolding figures_of last_of
   runs-first f sides lent e =
-      let one : take 1 (run_by edition job) ≡ firstPass edition job ∷ [] = take_more 0 run-holding.some ∙ ap (λ (p : Pass). p ∷ []) (run-holding.first (firstPass edition job)) in
+      let one : take 1 (run_by edition job) ≡ first_pass edition job ∷ [] = take_more 0 run-holding.some ∙ ap (λ (p : Pass). p ∷ []) (run-holding.first (first_pass edition job)) in
       record {
         some = omega arith;
         few = run-holding.some;
-        sums = ap (λ (x : Ended Figures). x.answer) e ∙ ap (figuresOf edition done (firstPass edition job)) (sym one);
+        sums = ap (λ (x : Ended Figures). x.answer) e ∙ ap (figures_of edition done (first_pass edition job)) (sym one);
         equal =
             ap₂ eqb (ap (λ (x : Ended Figures). x.answer.cut) e) (ap (λ (x : Ended Figures). x.answer.before) e)
-            ∙ ap (λ (ps : List Pass). settles (last_of (firstPass edition job) ps)) (sym one);
-        standing = ap (λ (x : Ended Figures). x.sides) e ∙ ap (λ (ps : List Pass). (last_of (firstPass edition job) ps).sidesAfter) (sym one);
-        lists = ap (λ (x : Ended Figures). x.lent) e ∙ ap (λ (ps : List Pass). leaves edition job l (last_of (firstPass edition job) ps)) (sym one);
+            ∙ ap (λ (ps : List Pass). settles (last_of (first_pass edition job) ps)) (sym one);
+        standing = ap (λ (x : Ended Figures). x.sides) e ∙ ap (λ (ps : List Pass). (last_of (first_pass edition job) ps).sides_after) (sym one);
+        lists = ap (λ (x : Ended Figures). x.lent) e ∙ ap (λ (ps : List Pass). leaves edition job l (last_of (first_pass edition job) ps)) (sym one);
       }
 
   -- another pass is there exactly if the last so far did not settle
@@ -140,13 +140,13 @@ module _ (edition : ℕ) {most : Limits} {job : Job} (ok : Accepted most job) (l
     | no n ↦
         let q : k ≡ length (run_by edition job) = omega arith in
         let whole : take k (run_by edition job) ≡ run_by edition job = ap (λ (i : ℕ). take i (run_by edition job)) q ∙ take-length (run_by edition job) in
-        clash (sym run-holding.settled ∙ ap (λ (ps : List Pass). settles (last_of (firstPass edition job) ps)) (sym whole) ∙ e)
+        clash (sym run-holding.settled ∙ ap (λ (ps : List Pass). settles (last_of (first_pass edition job) ps)) (sym whole) ∙ e)
   ]
 
   not-settled : (j : ℕ) → suc j < length (run_by edition job) → settles (last_at edition job (suc j)) ≡ false
   not-settled j h =
-      let p : Pass = get_or (run_by edition job) j (firstPass edition job) in
-      ap settles (last-is j (omega arith)) ∙ ne_eqb p.cutAfter p.cutBefore (λ e. omega (arith, run-holding.lessened (firstPass edition job) j h))
+      let p : Pass = get_or (run_by edition job) j (first_pass edition job) in
+      ap settles (last-is j (omega arith)) ∙ ne_eqb p.cut_after p.cut_before (λ e. omega (arith, run-holding.lessened (first_pass edition job) j h))
 
   none-there : (j : ℕ) → suc j ≤ length (run_by edition job) → settles (last_at edition job (suc j)) ≡ true → suc j ≡ length (run_by edition job)
   none-there j b e = elim (dec_lt (suc j) (length (run_by edition job))) [
@@ -164,59 +164,59 @@ module _ (edition : ℕ) {most : Limits} {job : Job} (ok : Accepted most job) (l
   pub starts-there : {k : ℕ} {sum : Figures} {settled : Bool} {sides : List ℕ} {lent : Lent} → Running edition job l k sum settled sides lent → Starts job sides
   starts-there r =
       let b = came r in
-      subst (Starts job) (sym (r.standing ∙ ap (λ (x : Pass). x.sidesAfter) b.2)) (starts-next b.0 b.1)
+      subst (Starts job) (sym (r.standing ∙ ap (λ (x : Pass). x.sides_after) b.2)) (starts-next b.0 b.1)
 
   -- one pass more
   more : (j : ℕ) {sum : Figures} {settled : Bool} {sides : List ℕ} {lent : Lent} → Running edition job l (suc j) sum settled sides lent → suc j < length (run_by edition job)
-      → (f : Figures) (sides' : List ℕ) (lent' : Lent) → ended_of f sides' lent' ≡ passLeft edition (withSides job sides) lent
-      → Running edition job l (suc (suc j)) (plusOf sum f) (eqb f.cut f.before) sides' lent'
+      → (f : Figures) (sides' : List ℕ) (lent' : Lent) → ended_of f sides' lent' ≡ pass_left edition (with_sides job sides) lent
+      → Running edition job l (suc (suc j)) (plus_of sum f) (eqb f.cut f.before) sides' lent'
   more j {sides = sides} {lent = lent} r h f sides' lent' e =
-      let p : Pass = get_or (run_by edition job) (suc j) (firstPass edition job) in
+      let p : Pass = get_or (run_by edition job) (suc j) (first_pass edition job) in
       let q : Pass = from sides in
       let same : q ≡ p = ap from r.standing ∙ sym (pass-there j h) in
-      let again : Pass = firstPass edition (withSides job sides) in
+      let again : Pass = first_pass edition (with_sides job sides) in
       let here : again ≡ q
-      = same-passOf job sides sides (triesBy edition (withSides job sides) sides) ∙ ap (λ (try : List ℕ → List ℕ). passOf job sides (try sides)) ((editions-hold most job s).sideless edition sides) in
+      = same-pass_of job sides sides (tries_by edition (with_sides job sides) sides) ∙ ap (λ (try : List ℕ → List ℕ). pass_of job sides (try sides)) ((editions-hold most job s).sideless edition sides) in
       let b = came r in
       let u = edition-holds edition most job s b.0 b.1.fit in
       let v = edition-holds edition most job s sides (starts-there r).fit in
-      let left : leaves edition (withSides job sides) lent again ≡ leaves edition job l q
+      let left : leaves edition (with_sides job sides) lent again ≡ leaves edition job l q
       = same-leaves job sides edition lent again ∙ ap₂ (leaves edition job) (r.lists ∙ ap (leaves edition job l) b.2) here
-      ∙ leaves-again edition job l b.0 sides (triesBy edition job b.0) (triesBy edition job sides) u.0.moves u.1 v.0.moves v.1 in
-      let answer : f ≡ figuresOf edition done p (p ∷ []) = ap (λ (x : Ended Figures). x.answer) e ∙ ap (λ (x : Pass). figuresOf edition done x (x ∷ [])) (here ∙ same) in
+      ∙ leaves-again edition job l b.0 sides (tries_by edition job b.0) (tries_by edition job sides) u.0.moves u.1 v.0.moves v.1 in
+      let answer : f ≡ figures_of edition done p (p ∷ []) = ap (λ (x : Ended Figures). x.answer) e ∙ ap (λ (x : Pass). figures_of edition done x (x ∷ [])) (here ∙ same) in
       let last : last_at edition job (suc (suc j)) ≡ p = last-is (suc j) h in
       record {
         some = omega arith;
         few = h;
-        sums = ap₂ plusOf r.sums answer ∙ sym (figures-more edition (firstPass edition job) (take (suc j) (run_by edition job)) p) ∙ ap (figuresOf edition done (firstPass edition job)) (sym (take_more (suc j) h));
+        sums = ap₂ plus_of r.sums answer ∙ sym (figures-more edition (first_pass edition job) (take (suc j) (run_by edition job)) p) ∙ ap (figures_of edition done (first_pass edition job)) (sym (take_more (suc j) h));
         equal = ap (λ (x : Figures). eqb x.cut x.before) answer ∙ one-settles edition p ∙ ap settles (sym last);
-        standing = ap (λ (x : Ended Figures). x.sides) e ∙ ap (λ (x : Pass). x.sidesAfter) (here ∙ same ∙ sym last);
+        standing = ap (λ (x : Ended Figures). x.sides) e ∙ ap (λ (x : Pass). x.sides_after) (here ∙ same ∙ sym last);
         lists = ap (λ (x : Ended Figures). x.lent) e ∙ left ∙ ap (leaves edition job l) (same ∙ sym last);
       }
 
   pub runs-more : {k : ℕ} {sum : Figures} {settled : Bool} {sides : List ℕ} {lent : Lent} → Running edition job l k sum settled sides lent → settled ≡ false
-      → (f : Figures) (sides' : List ℕ) (lent' : Lent) → ended_of f sides' lent' ≡ passLeft edition (withSides job sides) lent
-      → Running edition job l (suc k) (plusOf sum f) (eqb f.cut f.before) sides' lent'
+      → (f : Figures) (sides' : List ℕ) (lent' : Lent) → ended_of f sides' lent' ≡ pass_left edition (with_sides job sides) lent
+      → Running edition job l (suc k) (plus_of sum f) (eqb f.cut f.before) sides' lent'
   runs-more {k = zero} r go f sides' lent' e = absurd (omega (arith, r.some))
   runs-more {k = suc j} r go f sides' lent' e =
       more j r (more-there (suc j) r.few (sym r.equal ∙ go)) f sides' lent' e
 
   -- after the last
   pub runs_last : {k : ℕ} {sum : Figures} {settled : Bool} {sides : List ℕ} {lent : Lent} → Running edition job l k sum settled sides lent → settled ≡ true
-      → ended_of (record { figures = sum; passes = k; settled = settled }) sides lent ≡ runLeft edition job l
-  unfolding runFiguresOf
+      → ended_of (record { figures = sum; passes = k; settled = settled }) sides lent ≡ run_left edition job l
+  unfolding run_figures_of
   runs_last {k = zero} r go = absurd (omega (arith, r.some))
   runs_last {k = suc j} r go =
       let q : suc j ≡ length (run_by edition job) = none-there j r.few (sym r.equal ∙ go) in
       let whole : take (suc j) (run_by edition job) ≡ run_by edition job = ap (λ (i : ℕ). take i (run_by edition job)) q ∙ take-length (run_by edition job) in
       λ i. record {
         answer = record {
-          figures = (r.sums ∙ ap (figuresOf edition done (firstPass edition job)) whole) i;
+          figures = (r.sums ∙ ap (figures_of edition done (first_pass edition job)) whole) i;
           passes = q i;
-          settled = (r.equal ∙ ap (λ (ps : List Pass). settles (last_of (firstPass edition job) ps)) whole) i;
+          settled = (r.equal ∙ ap (λ (ps : List Pass). settles (last_of (first_pass edition job) ps)) whole) i;
         };
-        sides = (r.standing ∙ ap (λ (ps : List Pass). (last_of (firstPass edition job) ps).sidesAfter) whole) i;
-        lent = (r.lists ∙ ap (λ (ps : List Pass). leaves edition job l (last_of (firstPass edition job) ps)) whole) i;
+        sides = (r.standing ∙ ap (λ (ps : List Pass). (last_of (first_pass edition job) ps).sides_after) whole) i;
+        lent = (r.lists ∙ ap (λ (ps : List Pass). leaves edition job l (last_of (first_pass edition job) ps)) whole) i;
       }
 
   -- and the lists are as long as those lent
@@ -229,31 +229,31 @@ module _ (edition : ℕ) {most : Limits} {job : Job} (ok : Accepted most job) (l
   -- ---- the sums are small
 
   module _ (narrow : Narrow most) where
-    one-small : (j : ℕ) → j < length (run_by edition job) → let p = get_or (run_by edition job) j (firstPass edition job) in
-        (length p.tried ≤ 65536) × (p.kept ≤ 65536) × (length (shownScans edition p) ≤ 65536) × (shownVisits edition p ≤ 262144)
+    one-small : (j : ℕ) → j < length (run_by edition job) → let p = get_or (run_by edition job) j (first_pass edition job) in
+        (length p.tried ≤ 65536) × (p.kept ≤ 65536) × (length (shown_scans edition p) ≤ 65536) × (shown_visits edition p ≤ 262144)
     one-small j h =
         let b = pass-at j h in
         let p = edition-holds edition most job s b.0 b.1.fit in
         let x = p.0.moves in
-        rw b.2 (few-tried b.0 x.few, few-kept b.0 x.prefix x.few, shown-few (eqb edition 3) (from b.0).scanned (omega (arith, p.1.scans, s.fewRecipes, narrow.recipes)), shown-less (eqb edition 3) (from b.0).visited (omega (arith, p.1.visits, s.fewPins, narrow.pins)))
+        rw b.2 (few-tried b.0 x.few, few-kept b.0 x.prefix x.few, shown-few (eqb edition 3) (from b.0).scanned (omega (arith, p.1.scans, s.few_recipes, narrow.recipes)), shown-less (eqb edition 3) (from b.0).visited (omega (arith, p.1.visits, s.few_pins, narrow.pins)))
       where
-        few-tried : (before : List ℕ) → length (triesBy edition job before) ≤ fileCount job → length (from before).tried ≤ 65536
-        few-tried before f = unfold passOf in omega (arith, s.fewFiles, narrow.files)
+        few-tried : (before : List ℕ) → length (tries_by edition job before) ≤ file_count job → length (from before).tried ≤ 65536
+        few-tried before f = unfold pass_of in omega (arith, s.few_files, narrow.files)
 
-        few-kept : (before : List ℕ) → (from before).kept ≤ length (triesBy edition job before) → length (triesBy edition job before) ≤ fileCount job → (from before).kept ≤ 65536
-        few-kept before p f = omega (arith, s.fewFiles, narrow.files)
+        few-kept : (before : List ℕ) → (from before).kept ≤ length (tries_by edition job before) → length (tries_by edition job before) ≤ file_count job → (from before).kept ≤ 65536
+        few-kept before p f = omega (arith, s.few_files, narrow.files)
 
-    sums_at : (k : ℕ) → k ≤ length (run_by edition job) → SumsSmall k (figuresOf edition done (firstPass edition job) (take k (run_by edition job)))
-    sums_at zero h = unfold figuresOf total in record { tried = omega arith; kept = omega arith; scans = omega arith; visits = omega arith }
+    sums_at : (k : ℕ) → k ≤ length (run_by edition job) → SumsSmall k (figures_of edition done (first_pass edition job) (take k (run_by edition job)))
+    sums_at zero h = unfold figures_of total in record { tried = omega arith; kept = omega arith; scans = omega arith; visits = omega arith }
     sums_at (suc k) h =
         let o = one-small k h in
         let r = sums_at k (omega arith) in
-        let p : Pass = get_or (run_by edition job) k (firstPass edition job) in
-        subst (SumsSmall (suc k)) (sym (ap (figuresOf edition done (firstPass edition job)) (take_more k h) ∙ figures-more edition (firstPass edition job) (take k (run_by edition job)) p))
-        (sums-grow edition k (figuresOf edition done (firstPass edition job) (take k (run_by edition job))) p r o.0 o.1 o.2 o.3)
+        let p : Pass = get_or (run_by edition job) k (first_pass edition job) in
+        subst (SumsSmall (suc k)) (sym (ap (figures_of edition done (first_pass edition job)) (take_more k h) ∙ figures-more edition (first_pass edition job) (take k (run_by edition job)) p))
+        (sums-grow edition k (figures_of edition done (first_pass edition job) (take k (run_by edition job))) p r o.0 o.1 o.2 o.3)
 
     start-cut : cut job.sides (recipes job) ≤ most.recipes
-    start-cut = unfold cut in omega (arith, count-le (isCut job.sides) (recipes job), recipes-length most job s, s.fewRecipes)
+    start-cut = unfold cut in omega (arith, count-le (is_cut job.sides) (recipes job), recipes-length most job s, s.few_recipes)
 
     -- what is added up fits
     pub sums-fit : {k : ℕ} {sum : Figures} {settled : Bool} {sides : List ℕ} {lent : Lent} → Running edition job l k sum settled sides lent → SumsFit sum × (k ≤ 65536)

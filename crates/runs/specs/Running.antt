@@ -3,15 +3,15 @@ use Rattle.std.specs.Prelude.{◌≡◌, ℕ, ◌+◌, ◌≤◌, ◌<◌, ◌^�
 use Rattle.rules.specs.declared.Figures.{Figures}
 use Rattle.rules.specs.declared.RunFigures.{RunFigures}
 use Rattle.rules.specs.Job.{Job, Lent}
-use Rattle.rules.specs.Check.{done, isDone}
+use Rattle.rules.specs.Check.{done, is_done}
 use Rattle.rules.specs.Pass.{Pass, leaves}
-use Rattle.rules.specs.Run.{settles, firstPass, run_by, lastPass, last_of, figuresOf, runFiguresOf, leftBy, Ended}
+use Rattle.rules.specs.Run.{settles, first_pass, run_by, last_pass, last_of, figures_of, run_figures_of, left_by, Ended}
 
 -- ---- the answer so far
 
 -- counts are sums over the passes, but for what could not be read; the cut before is the first pass's; the cut and |A| after are the last pass's
-unfoldable pub plusOf : Figures → Figures → Figures
-plusOf sum f = record {
+unfoldable pub plus_of : Figures → Figures → Figures
+plus_of sum f = record {
   verdict = sum.verdict;
   before = sum.before;
   cut = f.cut;
@@ -25,10 +25,10 @@ plusOf sum f = record {
 }
 
 -- with one pass more; a refused pass is none
-unfoldable pub withPass : RunFigures → Figures → RunFigures
-withPass sum f = elim (isDone f.verdict) [
+unfoldable pub with_pass : RunFigures → Figures → RunFigures
+with_pass sum f = elim (is_done f.verdict) [
   | true ↦ record {
-    figures = cond (eqb sum.passes 0) f (plusOf sum.figures f);
+    figures = cond (eqb sum.passes 0) f (plus_of sum.figures f);
     passes = sum.passes + 1;
     settled = eqb f.cut f.before;
   }
@@ -36,8 +36,8 @@ withPass sum f = elim (isDone f.verdict) [
 ]
 
 -- another pass follows: none was refused, and the last did not leave the cut equal
-abbrev pub goesOn : RunFigures → Bool
-goesOn sum = isDone sum.figures.verdict && not sum.settled
+abbrev pub goes_on : RunFigures → Bool
+goes_on sum = is_done sum.figures.verdict && not sum.settled
 
 -- the sums can be added up
 pub record SumsFit (sum : Figures) : Type 0 where
@@ -50,17 +50,17 @@ pub record SumsFit (sum : Figures) : Type 0 where
 
 -- the last of the first k passes
 abbrev pub last_at : ℕ → Job → ℕ → Pass
-last_at edition job k = last_of (firstPass edition job) (take k (run_by edition job))
+last_at edition job k = last_of (first_pass edition job) (take k (run_by edition job))
 
 -- after the first k passes
 pub record Running (edition : ℕ) (job : Job) (l : Lent) (k : ℕ) (sum : Figures) (settled : Bool) (sides : List ℕ) (lent : Lent) : Type 0 where
   pub some : 1 ≤ k
   pub few : k ≤ length (run_by edition job)
-  pub sums : sum ≡ figuresOf edition done (firstPass edition job) (take k (run_by edition job))
+  pub sums : sum ≡ figures_of edition done (first_pass edition job) (take k (run_by edition job))
   pub equal : settled ≡ settles (last_at edition job k)
-  pub standing : sides ≡ (last_at edition job k).sidesAfter
+  pub standing : sides ≡ (last_at edition job k).sides_after
   pub lists : lent ≡ leaves edition job l (last_at edition job k)
 
 -- the run of a job that is not refused: its figures, and what it leaves
-abbrev pub runLeft : ℕ → Job → Lent → Ended RunFigures
-runLeft edition job l = leftBy edition job l (runFiguresOf edition done (firstPass edition job) (run_by edition job)) (lastPass edition job)
+abbrev pub run_left : ℕ → Job → Lent → Ended RunFigures
+run_left edition job l = left_by edition job l (run_figures_of edition done (first_pass edition job) (run_by edition job)) (last_pass edition job)

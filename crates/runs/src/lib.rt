@@ -2,9 +2,9 @@
 mod sums;
 
 ghost use Rattle.std.specs.Prelude.{◌≡◌};
-ghost use Rattle.rules.specs.Job.{limitsOf, lent_of};
-ghost use Rattle.job.specs.Parts.{wholeJob};
-ghost use Rattle.rules.specs.Run.{ended_of, runEnds};
+ghost use Rattle.rules.specs.Job.{limits_of, lent_of};
+ghost use Rattle.job.specs.Parts.{whole_job};
+ghost use Rattle.rules.specs.Run.{ended_of, run_ends};
 
 use job::Job;
 use rules::RunFigures;
@@ -29,7 +29,7 @@ pub fn run(
     kinds: &mut [u16],
     scratch: &mut [u16],
 ) -> RunFigures
-    ensures* { do ⌜ ended_of result sides.new (lent_of gains.new tried.new gained.new cuts.new ends.new recipes.new kinds.new scratch.new) ≡ runEnds edition (limitsOf (← (⟦Job::MOST_FILES⟧).entry) (← (⟦Job::MOST_RECIPES⟧).entry) (← (⟦Job::MOST_PINS⟧).entry) (← (⟦Job::MOST_DEN⟧).entry)) (wholeJob job sizes.now sides.old marks.now bounds.now pins.now) (lent_of gains.old tried.old gained.old cuts.old ends.old recipes.old kinds.old scratch.old) ⌝ }
+    ensures* { do ⌜ ended_of result sides.new (lent_of gains.new tried.new gained.new cuts.new ends.new recipes.new kinds.new scratch.new) ≡ run_ends edition (limits_of (← (⟦Job::MOST_FILES⟧).entry) (← (⟦Job::MOST_RECIPES⟧).entry) (← (⟦Job::MOST_PINS⟧).entry) (← (⟦Job::MOST_DEN⟧).entry)) (whole_job job sizes.now sides.old marks.now bounds.now pins.now) (lent_of gains.old tried.old gained.old cuts.old ends.old recipes.old kinds.old scratch.old) ⌝ }
 {
     let mut sum = no_pass();
     while goes_on(sum) {

@@ -1,14 +1,14 @@
 // The answer of a run so far, and whether another pass follows.
 ghost use Rattle.std.specs.Prelude.{◌≡◌, ◌≤◌};
 ghost use Rattle.rules.specs.Check.{done};
-ghost use Rattle.rules.specs.Run.{noRunFigures};
-ghost use Rattle.runs.specs.Running.{plusOf, withPass, goesOn, SumsFit};
+ghost use Rattle.rules.specs.Run.{no_run_figures};
+ghost use Rattle.runs.specs.Running.{plus_of, with_pass, goes_on, SumsFit};
 
 use rules::{Figures, RunFigures, Verdict};
 
 // A refusal: all other numbers are 0.
 pub fn refused(verdict: Verdict) -> RunFigures
-    ensures { result ≡ noRunFigures verdict }
+    ensures { result ≡ no_run_figures verdict }
 {
     RunFigures {
         figures: split::refused(verdict),
@@ -19,7 +19,7 @@ pub fn refused(verdict: Verdict) -> RunFigures
 
 // Before the first pass: zeros, as of a refusal, and none yet.
 pub(crate) fn no_pass() -> RunFigures
-    ensures { result ≡ noRunFigures done }
+    ensures { result ≡ no_run_figures done }
 {
     refused(Verdict {
         number: 0,
@@ -29,8 +29,8 @@ pub(crate) fn no_pass() -> RunFigures
 
 // One pass more in the sums; what could not be read is no sum.
 fn plus(sum: Figures, last: Figures) -> Figures
-    requires { SumsFit (plusOf sum last) }
-    ensures { result ≡ plusOf sum last }
+    requires { SumsFit (plus_of sum last) }
+    ensures { result ≡ plus_of sum last }
 {
     let verdict = sum.verdict;
     Figures {
@@ -49,9 +49,9 @@ fn plus(sum: Figures, last: Figures) -> Figures
 
 // The first pass's figures as they are, later ones added; a refused pass is none.
 pub(crate) fn with_pass(sum: RunFigures, last: Figures) -> RunFigures
-    requires sums_fit { SumsFit (plusOf sum.figures last) }
+    requires sums_fit { SumsFit (plus_of sum.figures last) }
     requires passes_bound { sum.passes ≤ 65536 }
-    ensures { result ≡ withPass sum last }
+    ensures { result ≡ with_pass sum last }
 {
     let verdict = last.verdict;
     if verdict.number != 0 {
@@ -80,7 +80,7 @@ pub(crate) fn with_pass(sum: RunFigures, last: Figures) -> RunFigures
 
 // None was refused, and the last did not leave the cut equal.
 pub(crate) fn goes_on(sum: RunFigures) -> bool
-    ensures { result ≡ goesOn sum }
+    ensures { result ≡ goes_on sum }
 {
     let figures = sum.figures;
     let verdict = figures.verdict;

@@ -10,17 +10,17 @@ use lib.ListN.{length, get_or, take, drop, replicate, length-map}
 use lib.Seq.{take-length}
 use lib.Dec.{eqb}
 use Rattle.rules.specs.Lists.{onto, listed}
-use Rattle.rules.specs.Job.{Job, fileCount, recipeCount, views, recipes, Lent, scratchFor}
-use Rattle.rules.specs.Split.{sizeA}
-use Rattle.rules.specs.Move.{State, Scan, scans, endsFrom, visits}
-use Rattle.rules.specs.Pass.{gainsWhen, cutsAfter, cut_at, keeps, gainsAfter, passOf, shownScans, shownVisits, leaves}
+use Rattle.rules.specs.Job.{Job, file_count, recipe_count, views, recipes, Lent, scratch_for}
+use Rattle.rules.specs.Split.{size_a}
+use Rattle.rules.specs.Move.{State, Scan, scans, ends_from, visits}
+use Rattle.rules.specs.Pass.{gains_when, cuts_after, cut_at, keeps, gains_after, pass_of, shown_scans, shown_visits, leaves}
 use Rattle.rules.proofs.Entries.{onto-in, onto-drop, shown-less}
 use Rattle.rules.proofs.MovesEnd.{StateLong}
 use Rattle.rules.proofs.GainKept.{gains-kept}
 use Rattle.rules.proofs.Steps.{move-back, gains-length, cuts-length, ends-length}
 use Rattle.rules.proofs.Runs.{keeps-le}
 use Rattle.rules.proofs.SoundJob.{recipes-distinct}
-use Rattle.tables.specs.Ending.{turned, backTo, shownOf}
+use Rattle.tables.specs.Ending.{turned, back_to, shown_of}
 use Rattle.split.specs.Moving.{Board}
 use Rattle.split.proofs.Going.{begins, made, stands, Line, Going}
 use Rattle.tables.specs.Clearing.{cleared}
@@ -30,20 +30,20 @@ use Rattle.split.proofs.Bounds.{scans-few}
 use Rattle.split.proofs.LentLists.{listed_of, listed-none}
 
 -- the moves beyond `best` taken back
-back_to : {job : Job} {ms : List ℕ} → Line job ms → (tried : List ℕ) (best d : ℕ) → best + d ≤ length ms
+back_to_lem : {job : Job} {ms : List ℕ} → Line job ms → (tried : List ℕ) (best d : ℕ) → best + d ≤ length ms
     → ((i : ℕ) → i < best + d → get_or tried i 0 ≡ get_or ms i 0)
-    → backTo tried best d (stands job ms (best + d)).sides ≡ (stands job ms best).sides
-unfolding backTo
-back_to {job} {ms} v tried best zero h e = ap (λ (i : ℕ). (stands job ms i).sides) (add-zero best)
-back_to {job} {ms} v tried best (suc d) h e =
+    → back_to tried best d (stands job ms (best + d)).sides ≡ (stands job ms best).sides
+unfolding back_to
+back_to_lem {job} {ms} v tried best zero h e = ap (λ (i : ℕ). (stands job ms i).sides) (add-zero best)
+back_to_lem {job} {ms} v tried best (suc d) h e =
     let k : ℕ = best + d in
     let f : ℕ = get_or ms k 0 in
     let n : Next job ms k f = next-at v k (omega arith) in
-    let long : StateLong (fileCount job) (stands job ms k) = stands-long v k in
-    ap (λ (i : ℕ). backTo tried best d (turned (stands job ms i).sides (get_or tried k 0))) (add-suc best d)
-    ∙ ap₂ (λ (st : State) (x : ℕ). backTo tried best d (turned st.sides x)) n.then (e k (omega arith))
-    ∙ ap (λ (x : List ℕ). backTo tried best d x) (move-back (stands job ms k) f (omega (arith, n.below, long.sides)) (stands-binary v k f))
-    ∙ back_to v tried best d (omega arith) (λ i l. e i (omega arith))
+    let long : StateLong (file_count job) (stands job ms k) = stands-long v k in
+    ap (λ (i : ℕ). back_to tried best d (turned (stands job ms i).sides (get_or tried k 0))) (add-suc best d)
+    ∙ ap₂ (λ (st : State) (x : ℕ). back_to tried best d (turned st.sides x)) n.then (e k (omega arith))
+    ∙ ap (λ (x : List ℕ). back_to tried best d x) (move-back (stands job ms k) f (omega (arith, n.below, long.sides)) (stands-binary v k f))
+    ∙ back_to_lem v tried best d (omega arith) (λ i l. e i (omega arith))
 
 -- z filled in where the lists of the pass end
 fill-in {ℓ} : {A : Type ℓ} (n : ℕ) (z : A) (xs ys old now : List A) (k : ℕ) → now ≡ onto xs old → k ≡ length xs → xs ≡ ys → length ys ≤ n
@@ -68,26 +68,26 @@ told-length false n xs e = e
 -- what the end of a pass finds
 pub record Finished (edition : ℕ) (job : Job) (ms : List ℕ) (l : Lent) (b : Board) : Type 0 where
   -- there is room for the zeros, and the moves beyond the best prefix are taken back
-  pub early : b.rest.scanned.progress.moves ≤ fileCount job
-  pub ends : shownOf edition b.rest.scanned.progress.moves ≤ fileCount job
-  pub few : shownOf edition b.rest.scanned.progress.scans ≤ 4 * recipeCount job
-  pub back : backTo b.tried b.rest.scanned.progress.best (b.rest.scanned.progress.moves - b.rest.scanned.progress.best) b.sides
-      ≡ (passOf job job.sides ms).sidesAfter
+  pub early : b.rest.scanned.progress.moves ≤ file_count job
+  pub ends : shown_of edition b.rest.scanned.progress.moves ≤ file_count job
+  pub few : shown_of edition b.rest.scanned.progress.scans ≤ 4 * recipe_count job
+  pub back : back_to b.tried b.rest.scanned.progress.best (b.rest.scanned.progress.moves - b.rest.scanned.progress.best) b.sides
+      ≡ (pass_of job job.sides ms).sides_after
   -- the figures are those of the pass
-  pub best : b.rest.scanned.progress.best ≡ (passOf job job.sides ms).kept
-  pub least : b.rest.scanned.progress.least ≡ (passOf job job.sides ms).cutAfter
-  pub size : b.rest.scanned.progress.atbest ≡ (passOf job job.sides ms).sizeAfter
-  pub moves : b.rest.scanned.progress.moves ≡ length (passOf job job.sides ms).tried
-  pub scanned : shownOf edition b.rest.scanned.progress.scans ≡ length (shownScans edition (passOf job job.sides ms))
-  pub visited : shownOf edition b.rest.scanned.progress.visits ≡ shownVisits edition (passOf job job.sides ms)
+  pub best : b.rest.scanned.progress.best ≡ (pass_of job job.sides ms).kept
+  pub least : b.rest.scanned.progress.least ≡ (pass_of job job.sides ms).cut_after
+  pub size : b.rest.scanned.progress.atbest ≡ (pass_of job job.sides ms).size_after
+  pub moves : b.rest.scanned.progress.moves ≡ length (pass_of job job.sides ms).tried
+  pub scanned : shown_of edition b.rest.scanned.progress.scans ≡ length (shown_scans edition (pass_of job job.sides ms))
+  pub visited : shown_of edition b.rest.scanned.progress.visits ≡ shown_visits edition (pass_of job job.sides ms)
   -- the lists end in zeros
-  pub gains : b.rest.scanned.gains ≡ (leaves edition job l (passOf job job.sides ms)).gains
-  pub tried : cleared b.rest.scanned.progress.moves (fileCount job) 0 b.tried ≡ (leaves edition job l (passOf job job.sides ms)).tried
-  pub gained : cleared b.rest.scanned.progress.moves (fileCount job) (pos 0) b.gained ≡ (leaves edition job l (passOf job job.sides ms)).gained
-  pub cuts : cleared b.rest.scanned.progress.moves (fileCount job) 0 b.cuts ≡ (leaves edition job l (passOf job job.sides ms)).cuts
-  pub scansSoFar : cleared (shownOf edition b.rest.scanned.progress.moves) (fileCount job) 0 b.ends ≡ (leaves edition job l (passOf job job.sides ms)).ends
-  pub scannedRecipes : cleared (shownOf edition b.rest.scanned.progress.scans) (4 * recipeCount job) 0 b.rest.scanned.recipes ≡ (leaves edition job l (passOf job job.sides ms)).recipes
-  pub scannedKinds : cleared (shownOf edition b.rest.scanned.progress.scans) (4 * recipeCount job) 0 b.rest.scanned.kinds ≡ (leaves edition job l (passOf job job.sides ms)).kinds
+  pub gains : b.rest.scanned.gains ≡ (leaves edition job l (pass_of job job.sides ms)).gains
+  pub tried : cleared b.rest.scanned.progress.moves (file_count job) 0 b.tried ≡ (leaves edition job l (pass_of job job.sides ms)).tried
+  pub gained : cleared b.rest.scanned.progress.moves (file_count job) (pos 0) b.gained ≡ (leaves edition job l (pass_of job job.sides ms)).gained
+  pub cuts : cleared b.rest.scanned.progress.moves (file_count job) 0 b.cuts ≡ (leaves edition job l (pass_of job job.sides ms)).cuts
+  pub scans_so_far : cleared (shown_of edition b.rest.scanned.progress.moves) (file_count job) 0 b.ends ≡ (leaves edition job l (pass_of job job.sides ms)).ends
+  pub scanned_recipes : cleared (shown_of edition b.rest.scanned.progress.scans) (4 * recipe_count job) 0 b.rest.scanned.recipes ≡ (leaves edition job l (pass_of job job.sides ms)).recipes
+  pub scanned_kinds : cleared (shown_of edition b.rest.scanned.progress.scans) (4 * recipe_count job) 0 b.rest.scanned.kinds ≡ (leaves edition job l (pass_of job job.sides ms)).kinds
 
 module _ {job : Job} {ms : List ℕ} (v : Line job ms) {l : Lent} {k : ℕ} {b : Board} (g : Going job ms l k b) (end : k ≡ length ms) where
   all_made : made ms k ≡ ms
@@ -104,23 +104,23 @@ module _ {job : Job} {ms : List ℕ} (v : Line job ms) {l : Lent} {k : ℕ} {b :
       ap (λ (x : List ℕ). get_or x i 0) (g.tried ∙ ap (λ (x : List ℕ). onto x l.tried) all_made)
       ∙ onto-in 0 ms l.tried i (omega arith)
 
-  goes_back : backTo b.tried b.rest.scanned.progress.best (b.rest.scanned.progress.moves - b.rest.scanned.progress.best) b.sides
+  goes_back : back_to b.tried b.rest.scanned.progress.best (b.rest.scanned.progress.moves - b.rest.scanned.progress.best) b.sides
       ≡ (stands job ms (keeps (recipes job) (begins job) ms)).sides
   goes_back =
       let B : ℕ = keeps (recipes job) (begins job) ms in
       let few : B ≤ length ms = keeps-le (recipes job) (begins job) ms in
       let e : B + (k - B) ≡ k = omega arith in
       rw (kept, g.progress.moves, g.sides)
-      (ap (λ (i : ℕ). backTo b.tried B (k - B) (stands job ms i).sides) (sym e)
-      ∙ back_to v b.tried B (k - B) (omega arith) (λ i h. tried-at i (omega arith)))
+      (ap (λ (i : ℕ). back_to b.tried B (k - B) (stands job ms i).sides) (sym e)
+      ∙ back_to_lem v b.tried B (k - B) (omega arith) (λ i h. tried-at i (omega arith)))
 
   pub finished : (edition : ℕ) → Finished edition job ms l b
-  unfolding passOf leaves
+  unfolding pass_of leaves
   finished edition =
       let rs : List (List ℕ) = recipes job in
-      let few : length ms ≤ fileCount job = few-moves v in
+      let few : length ms ≤ file_count job = few-moves v in
       let scanned : scans rs (begins job) (made ms k) ≡ scans rs (begins job) ms = ap (λ (x : List ℕ). scans rs (begins job) x) all_made in
-      let some : length (scans rs (begins job) ms) ≤ 4 * recipeCount job = rw all_made at (scans-few v k) in
+      let some : length (scans rs (begins job) ms) ≤ 4 * recipe_count job = rw all_made at (scans-few v k) in
       record {
         early = omega (arith, g.progress.moves);
         ends = shown-less (eqb edition 3) _ (omega (arith, g.progress.moves));
@@ -131,25 +131,25 @@ module _ {job : Job} {ms : List ℕ} (v : Line job ms) {l : Lent} {k : ℕ} {b :
             g.progress.least
             ∙ ap₂ (λ (x : List ℕ) (i : ℕ). cut_at rs (begins job) x i) all_made kept
             ∙ (unfold cut_at in refl);
-        size = g.progress.atbest ∙ ap (λ (i : ℕ). sizeA job (stands job ms i).sides) kept;
+        size = g.progress.atbest ∙ ap (λ (i : ℕ). size_a job (stands job ms i).sides) kept;
         moves = g.progress.moves ∙ end;
         scanned = told-length (eqb edition 3) _ _ (g.progress.scanned ∙ ap length scanned);
-        visited = ap (shownOf edition) (g.progress.visited ∙ ap (λ (x : List Scan). visits (views job) x) scanned);
+        visited = ap (shown_of edition) (g.progress.visited ∙ ap (λ (x : List Scan). visits (views job) x) scanned);
         gains =
             g.gains
-            ∙ gains-kept rs (recipes-distinct v.most job v.sound) (fileCount job) (begins job) (made ms k) (made-free v k) v.sound.binary
-            ∙ ap (λ (x : List ℕ). gainsAfter rs (fileCount job) (begins job) x) all_made;
-        tried = fill-in (fileCount job) 0 (made ms k) ms l.tried b.tried _ g.tried moves-made all_made few;
-        gained = fill-in (fileCount job) (pos 0) (gainsWhen rs (begins job) (made ms k)) (gainsWhen rs (begins job) ms) l.gained b.gained _ g.gained
-            (moves-made ∙ sym (gains-length rs (begins job) (made ms k))) (ap (λ (x : List ℕ). gainsWhen rs (begins job) x) all_made) (rw (gains-length rs (begins job) ms) few);
-        cuts = fill-in (fileCount job) 0 (cutsAfter rs (begins job) (made ms k)) (cutsAfter rs (begins job) ms) l.cuts b.cuts _ g.cuts
-            (moves-made ∙ sym (cuts-length rs (begins job) (made ms k))) (ap (λ (x : List ℕ). cutsAfter rs (begins job) x) all_made) (rw (cuts-length rs (begins job) ms) few);
-        scansSoFar = fill-shown (eqb edition 3) (fileCount job) 0 (endsFrom rs 0 (begins job) (made ms k)) (endsFrom rs 0 (begins job) ms) l.ends b.ends _ g.scansSoFar
-            (moves-made ∙ sym (ends-length rs 0 (begins job) (made ms k))) (ap (λ (x : List ℕ). endsFrom rs 0 (begins job) x) all_made) (rw (ends-length rs 0 (begins job) ms) few);
-        scannedRecipes = fill-shown (eqb edition 3) (4 * recipeCount job) 0 (map (λ c. c.recipe) (scans rs (begins job) (made ms k))) (map (λ c. c.recipe) (scans rs (begins job) ms)) l.recipes b.rest.scanned.recipes _ g.scannedRecipes
+            ∙ gains-kept rs (recipes-distinct v.most job v.sound) (file_count job) (begins job) (made ms k) (made-free v k) v.sound.binary
+            ∙ ap (λ (x : List ℕ). gains_after rs (file_count job) (begins job) x) all_made;
+        tried = fill-in (file_count job) 0 (made ms k) ms l.tried b.tried _ g.tried moves-made all_made few;
+        gained = fill-in (file_count job) (pos 0) (gains_when rs (begins job) (made ms k)) (gains_when rs (begins job) ms) l.gained b.gained _ g.gained
+            (moves-made ∙ sym (gains-length rs (begins job) (made ms k))) (ap (λ (x : List ℕ). gains_when rs (begins job) x) all_made) (rw (gains-length rs (begins job) ms) few);
+        cuts = fill-in (file_count job) 0 (cuts_after rs (begins job) (made ms k)) (cuts_after rs (begins job) ms) l.cuts b.cuts _ g.cuts
+            (moves-made ∙ sym (cuts-length rs (begins job) (made ms k))) (ap (λ (x : List ℕ). cuts_after rs (begins job) x) all_made) (rw (cuts-length rs (begins job) ms) few);
+        scans_so_far = fill-shown (eqb edition 3) (file_count job) 0 (ends_from rs 0 (begins job) (made ms k)) (ends_from rs 0 (begins job) ms) l.ends b.ends _ g.scans_so_far
+            (moves-made ∙ sym (ends-length rs 0 (begins job) (made ms k))) (ap (λ (x : List ℕ). ends_from rs 0 (begins job) x) all_made) (rw (ends-length rs 0 (begins job) ms) few);
+        scanned_recipes = fill-shown (eqb edition 3) (4 * recipe_count job) 0 (map (λ c. c.recipe) (scans rs (begins job) (made ms k))) (map (λ c. c.recipe) (scans rs (begins job) ms)) l.recipes b.rest.scanned.recipes _ g.scanned_recipes
             (g.progress.scanned ∙ sym (length-map (scans rs (begins job) (made ms k)) (λ c. c.recipe))) (ap (λ (x : List Scan). map (λ c. c.recipe) x) scanned) (rw length-map some)
-            ∙ ap (λ (x : List ℕ). listed (4 * recipeCount job) 0 x l.recipes) (told-map (eqb edition 3) (λ c. c.recipe) (scans rs (begins job) ms));
-        scannedKinds = fill-shown (eqb edition 3) (4 * recipeCount job) 0 (map (λ c. c.kind) (scans rs (begins job) (made ms k))) (map (λ c. c.kind) (scans rs (begins job) ms)) l.kinds b.rest.scanned.kinds _ g.scannedKinds
+            ∙ ap (λ (x : List ℕ). listed (4 * recipe_count job) 0 x l.recipes) (told-map (eqb edition 3) (λ c. c.recipe) (scans rs (begins job) ms));
+        scanned_kinds = fill-shown (eqb edition 3) (4 * recipe_count job) 0 (map (λ c. c.kind) (scans rs (begins job) (made ms k))) (map (λ c. c.kind) (scans rs (begins job) ms)) l.kinds b.rest.scanned.kinds _ g.scanned_kinds
             (g.progress.scanned ∙ sym (length-map (scans rs (begins job) (made ms k)) (λ c. c.kind))) (ap (λ (x : List Scan). map (λ c. c.kind) x) scanned) (rw length-map some)
-            ∙ ap (λ (x : List ℕ). listed (4 * recipeCount job) 0 x l.kinds) (told-map (eqb edition 3) (λ c. c.kind) (scans rs (begins job) ms));
+            ∙ ap (λ (x : List ℕ). listed (4 * recipe_count job) 0 x l.kinds) (told-map (eqb edition 3) (λ c. c.kind) (scans rs (begins job) ms));
       }

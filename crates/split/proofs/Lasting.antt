@@ -8,13 +8,13 @@ use native.Mathlib.Omega.{arith}
 use borrow.Author.Tests.{eq-eqb, ne_eqb}
 use lib.IntN.{ℤ}
 use lib.ListN.{length, set, length-set}
-use Rattle.rules.specs.Move.{State, scanPins}
+use Rattle.rules.specs.Move.{State, scan_pins}
 use Rattle.split.specs.declared.progress.Progress.{Progress}
 use Rattle.split.specs.declared.scan.Way.{Way}
 use Rattle.rules.proofs.GainKept.{scan-length}
 use Rattle.tables.proofs.Parts.{part-set-above}
 use Rattle.tables.specs.Zones.{part}
-use Rattle.split.specs.Scanning.{visitedBy, Scanned, scanned, scanIf, NearVisits, RoomFor, Fits, kindThere, count_t, lockedT, countF, Treated, recount, treatOne, Treatable}
+use Rattle.split.specs.Scanning.{visited_by, Scanned, scanned, scan_if, NearVisits, RoomFor, Fits, kind_there, count_t, locked_t, count_f, Treated, recount, treat_one, Treatable}
 use Rattle.split.proofs.ScanLaws.{scan-abs}
 
 -- ---- what comes later: lists as long, and no fewer scans and visits
@@ -61,35 +61,35 @@ pub record Scannable (x : Scanned) (n : ℕ) : Type 0 where
   pub visits : x.progress.visits + n ≤ 2 ^ 30
 
 module _ (st : State) (t j : ℕ) (r : List ℕ) (kind : ℕ) (x : Scanned) where
-  abbrev scanMade : Scanned
-  scanMade = scanned (scanPins st t kind r x.gains) (set x.recipes x.progress.scans j) (set x.kinds x.progress.scans kind) (visitedBy x.progress (length r))
+  abbrev scan_made : Scanned
+  scan_made = scanned (scan_pins st t kind r x.gains) (set x.recipes x.progress.scans j) (set x.kinds x.progress.scans kind) (visited_by x.progress (length r))
 
-  pub scan-none : kind ≡ 0 → scanIf st t j r kind x ≡ x
-  unfolding scanIf
+  pub scan-none : kind ≡ 0 → scan_if st t j r kind x ≡ x
+  unfolding scan_if
   scan-none e = rw (eq-eqb kind 0 e)
 
-  scan-made : (kind ≡ 0 → ⊥) → scanIf st t j r kind x ≡ scanMade
-  unfolding scanIf
+  scan-made : (kind ≡ 0 → ⊥) → scan_if st t j r kind x ≡ scan_made
+  unfolding scan_if
   scan-made n = rw (ne_eqb kind 0 n)
 
   -- the code's two steps: the gains scanned, and the record with one scan more
-  pub scan-done : {g : List ℤ} {p : Progress} → (kind ≡ 0 → ⊥) → g ≡ scanPins st t kind r x.gains → p ≡ visitedBy x.progress (length r)
-      → scanned g (set x.recipes x.progress.scans j) (set x.kinds x.progress.scans kind) p ≡ scanIf st t j r kind x
+  pub scan-done : {g : List ℤ} {p : Progress} → (kind ≡ 0 → ⊥) → g ≡ scan_pins st t kind r x.gains → p ≡ visited_by x.progress (length r)
+      → scanned g (set x.recipes x.progress.scans j) (set x.kinds x.progress.scans kind) p ≡ scan_if st t j r kind x
   scan-done n e f =
       ap₂ (λ (g : List ℤ) (p : Progress). scanned g (set x.recipes x.progress.scans j) (set x.kinds x.progress.scans kind) p) e f ∙ sym (scan-made n)
 
-  pub scan-fits : (kind ≡ 0 → ⊥) → Fits (scanIf st t j r kind x) → Scannable x (length r)
-  unfolding visitedBy
+  pub scan-fits : (kind ≡ 0 → ⊥) → Fits (scan_if st t j r kind x) → Scannable x (length r)
+  unfolding visited_by
   scan-fits n f =
-      let m : Fits scanMade = subst Fits (scan-made n) f in
+      let m : Fits scan_made = subst Fits (scan-made n) f in
       record {
         recipes = omega (arith, m.recipes, length-set x.recipes x.progress.scans j);
         kinds = omega (arith, m.kinds, length-set x.kinds x.progress.scans kind);
         visits = m.visits;
       }
 
-  later-made : Later x scanMade
-  unfolding visitedBy
+  later-made : Later x scan_made
+  unfolding visited_by
   later-made = record {
     gains = scan-length st t kind r x.gains;
     recipes = length-set x.recipes x.progress.scans j;
@@ -98,17 +98,17 @@ module _ (st : State) (t j : ℕ) (r : List ℕ) (kind : ℕ) (x : Scanned) wher
     visits = omega arith;
   }
 
-  near-made : GainsNear x → GainsNear scanMade
-  unfolding visitedBy
+  near-made : GainsNear x → GainsNear scan_made
+  unfolding visited_by
   near-made h = record { near = λ f. omega (arith, h.near f, scan-abs st t kind r x.gains f) }
 
-  pub later-if : Later x (scanIf st t j r kind x)
+  pub later-if : Later x (scan_if st t j r kind x)
   later-if = elim (ℕ_discrete kind 0) [
     | yes e ↦ subst (Later x) (sym (scan-none e)) (later_same x)
     | no n ↦ subst (Later x) (sym (scan-made n)) later-made
   ]
 
-  pub near-if : GainsNear x → GainsNear (scanIf st t j r kind x)
+  pub near-if : GainsNear x → GainsNear (scan_if st t j r kind x)
   near-if h = elim (ℕ_discrete kind 0) [
     | yes e ↦ subst (λ (y : Scanned). GainsNear y) (sym (scan-none e)) h
     | no n ↦ subst (λ (y : Scanned). GainsNear y) (sym (scan-made n)) (near-made h)
@@ -125,21 +125,21 @@ module _ (way : Way) (j : ℕ) (z : List ℕ) where
   pub recount-part : {look : ℕ → List ℕ} {e : ℕ} (at n : ℕ) → at + n ≤ e → Treatable way look e z j → part at n (recount way j z) ≡ part at n z
   unfolding recount
   recount-part at n h t =
-      part-set-above at n _ (way.there + j + 2 * way.recipes) (lockedT way j z + 1) (omega (arith, t.above))
+      part-set-above at n _ (way.there + j + 2 * way.recipes) (locked_t way j z + 1) (omega (arith, t.above))
       ∙ part-set-above at n _ (way.there + j) (count_t way j z + 1) (omega (arith, t.above))
-      ∙ part-set-above at n z (way.left + j) (countF way j z) (omega (arith, t.above))
+      ∙ part-set-above at n z (way.left + j) (count_f way j z) (omega (arith, t.above))
 
 module _ (st : State) (way : Way) (j : ℕ) (r z : List ℕ) (x : Scanned) where
   abbrev first : Scanned
-  first = scanIf st way.side j r (kindThere (count_t way j z) (lockedT way j z)) x
+  first = scan_if st way.side j r (kind_there (count_t way j z) (locked_t way j z)) x
 
-  abbrev bothScans : Treated
-  bothScans = treatOne st way j r (record { scratch = z; scanned = x })
+  abbrev both_scans : Treated
+  both_scans = treat_one st way j r (record { scratch = z; scanned = x })
 
-  pub later-one : Later x bothScans.scanned
-  unfolding treatOne
+  pub later-one : Later x both_scans.scanned
+  unfolding treat_one
   later-one = later-then (later-if st way.side j r _ x) (later-if st way.side j r _ first)
 
-  pub near-recipe : GainsNear x → GainsNear bothScans.scanned
-  unfolding treatOne
+  pub near-recipe : GainsNear x → GainsNear both_scans.scanned
+  unfolding treat_one
   near-recipe h = near-if st way.side j r _ first (near-if st way.side j r _ x h)

@@ -7,24 +7,24 @@ use native.Mathlib.Omega.{arith}
 use lib.IntN.{pos}
 use lib.ListN.{length, get_or, take, set, length-set, length-append, length-map}
 use lib.Seq.{get_or-set_same, get_or-set_other, take-set-lt, drop-set-lt}
-use Rattle.rules.specs.Lists.{allBelow, onto}
-use Rattle.rules.specs.Job.{Job, fileCount, recipeCount, pinCount, view_of, view, views, isRead, recipes, Lent, scratchFor, fits}
-use Rattle.rules.specs.Split.{other, side_of, recipesOf, cut}
-use Rattle.rules.specs.Move.{State, free, moved, Scan, scansOf, scans, visits}
-use Rattle.rules.proofs.Count.{getD-tabled, total-append}
+use Rattle.rules.specs.Lists.{AllBelow, onto}
+use Rattle.rules.specs.Job.{Job, file_count, recipe_count, pin_count, view_of, view, views, is_read, recipes, Lent, scratch_for, fits}
+use Rattle.rules.specs.Split.{other, side_of, recipes_of, cut}
+use Rattle.rules.specs.Move.{State, free, moved, Scan, scans_of, scans, visits}
+use Rattle.rules.proofs.Count.{get_d-tabled, total-append}
 use Rattle.rules.proofs.Entries.{onto-length}
 use Rattle.rules.proofs.SoundJob.{bound-le, view-length, view-below, recipe-at, recipes-distinct, recipes-length}
 use Rattle.rules.proofs.NeverFree.{read_short, unread-locked, scans-whole}
 use Rattle.rules.proofs.Steps.{scans-append}
 use Rattle.split.specs.declared.progress.Progress.{Progress}
-use Rattle.tables.specs.Zones.{cellsAt, countsAt, sideAt, part, stateIn, end_in, cells_of, Counts}
-use Rattle.split.specs.Scanning.{Treated, treated, treatAll, Fits, Ready}
-use Rattle.choice.specs.Choosing.{sizeBy}
+use Rattle.tables.specs.Zones.{cells_at, counts_at, side_at, part, state_in, end_in, cells_of, Counts}
+use Rattle.split.specs.Scanning.{Treated, treated, treat_all, Fits, Ready}
+use Rattle.choice.specs.Choosing.{size_by}
 use Rattle.tables.specs.Ending.{turned}
-use Rattle.split.specs.Moving.{Board, cutBy, shiftedTo, countedOn, wayTo, treatFrom, treatMove, moveOne}
+use Rattle.split.specs.Moving.{Board, cut_by, shifted_to, counted_on, way_to, treat_from, treat_move, move_one}
 use Rattle.split.specs.Movable.{Movable}
 use Rattle.split.proofs.Playable.{Small}
-use Rattle.split.proofs.Going.{linksFrom, begins, made, stands, Line, Going}
+use Rattle.split.proofs.Going.{links_from, begins, made, stands, Line, Going}
 use Rattle.split.proofs.Treats.{Shifted, MoveTreated}
 use Rattle.rules.proofs.Fits.{LongEnough, long-enough}
 use Rattle.split.proofs.Bounds.{BoardLong, board-long, cut-few, Safe, safe}
@@ -41,8 +41,8 @@ use Rattle.split.proofs.Treating.{way_of, TreatedMove, move-treated, move-ready}
 counts-set : {rs : List (List ℕ)} {st : State} {at n : ℕ} {z : List ℕ} (i v : ℕ) → i < at → Counts rs st at n z → Counts rs st at n (set z i v)
 counts-set {rs} {st} {at} {n} {z} i v h c = record {
   each = λ j l. record {
-    on = λ u m. get_or-set_other z i (sideAt at n u + j) v 0 (λ e. omega (arith, side-from at n u)) ∙ (c.each j l).on u m;
-    locked = λ u m. get_or-set_other z i (sideAt at n u + j + 2 * n) v 0 (λ e. omega (arith, side-from at n u)) ∙ (c.each j l).locked u m;
+    on = λ u m. get_or-set_other z i (side_at at n u + j) v 0 (λ e. omega (arith, side-from at n u)) ∙ (c.each j l).on u m;
+    locked = λ u m. get_or-set_other z i (side_at at n u + j + 2 * n) v 0 (λ e. omega (arith, side-from at n u)) ∙ (c.each j l).locked u m;
   };
 }
 
@@ -53,9 +53,9 @@ pub record MoveFits (sizes bounds pins : List ℕ) (f : ℕ) (b : Board) : Type 
   pub gained : b.rest.scanned.progress.moves < length b.gained
   pub cuts : b.rest.scanned.progress.moves < length b.cuts
   pub ends : b.rest.scanned.progress.moves < length b.ends
-  pub cut : (treatMove sizes bounds pins f b).scanned.progress.cut < 65536
-  pub scans : (treatMove sizes bounds pins f b).scanned.progress.scans < 65536
-  pub moves : (treatMove sizes bounds pins f b).scanned.progress.moves < 2 ^ 32
+  pub cut : (treat_move sizes bounds pins f b).scanned.progress.cut < 65536
+  pub scans : (treat_move sizes bounds pins f b).scanned.progress.scans < 65536
+  pub moves : (treat_move sizes bounds pins f b).scanned.progress.moves < 2 ^ 32
 
 module _ {job : Job} {ms : List ℕ} (v : Line job ms) (small : Small job) {l : Lent} (ok : fits 1 job l ≡ true) {k f : ℕ} {b : Board} (g : Going job ms l k b) (x : Next job ms k f) where
   abbrev rs : List (List ℕ)
@@ -69,13 +69,13 @@ module _ {job : Job} {ms : List ℕ} (v : Line job ms) (small : Small job) {l : 
   st = stands job ms k
 
   abbrev c : ℕ
-  c = fileCount job
+  c = file_count job
 
   abbrev n : ℕ
-  n = recipeCount job
+  n = recipe_count job
 
   abbrev p : ℕ
-  p = pinCount job
+  p = pin_count job
 
   abbrev z : List ℕ
   z = b.rest.scratch
@@ -83,22 +83,22 @@ module _ {job : Job} {ms : List ℕ} (v : Line job ms) (small : Small job) {l : 
   abbrev locked : List ℕ
   locked = set z f 1
 
-  abbrev treatBegun : Treated
-  treatBegun = treated locked b.rest.scanned.gains b.rest.scanned.recipes b.rest.scanned.kinds
-      (shiftedTo b.rest.scanned.progress (sizeBy b.rest.scanned.progress.size (side_of b.sides f) (get_or job.sizes f 0))
-      (cutBy b.rest.scanned.progress.cut (get_or b.rest.scanned.gains f (pos 0))))
+  abbrev treat_begun : Treated
+  treat_begun = treated locked b.rest.scanned.gains b.rest.scanned.recipes b.rest.scanned.kinds
+      (shifted_to b.rest.scanned.progress (size_by b.rest.scanned.progress.size (side_of b.sides f) (get_or job.sizes f 0))
+      (cut_by b.rest.scanned.progress.cut (get_or b.rest.scanned.gains f (pos 0))))
 
   sees : (j : ℕ) → j < n → view_of job.bounds job.pins j ≡ get_or ws j []
   unfolding views
-  sees j h = sym (getD-tabled (view job) n j [] h)
+  sees j h = sym (get_d-tabled (view job) n j [] h)
 
-  room : scratchFor 1 job ≤ length z
+  room : scratch_for 1 job ≤ length z
   room = omega (arith, (long-enough 1 job l ok).scratch, (board-long v ok g).scratch)
 
   long : length locked ≡ length z
   long = length-set z f 1
 
-  counts-locked : Counts rs st (countsAt c p) n locked
+  counts-locked : Counts rs st (counts_at c p) n locked
   counts-locked = counts-set f 1 (omega (arith, x.below)) g.counts
 
   side : side_of (turned b.sides f) f ≡ other (side_of st.sides f)
@@ -108,95 +108,95 @@ module _ {job : Job} {ms : List ℕ} (v : Line job ms) (small : Small job) {l : 
   unfolding moved
   locks = take-set-lt c z f 1 x.below ∙ ap (λ (u : List ℕ). set u f 1) g.locks
 
-  now : stateIn c (turned b.sides f) locked ≡ moved st f
+  now : state_in c (turned b.sides f) locked ≡ moved st f
   unfolding moved
   now = ap₂ (λ (u v : List ℕ). record { sides = u; locks = v }) (ap (λ (u : List ℕ). turned u f) g.sides) locks
 
-  is : treatMove job.sizes job.bounds job.pins f b ≡ treatAll (moved st f) (way_of c n p st f) (view_of job.bounds job.pins) (recipesOf rs f) treatBegun
-  unfolding treatFrom
+  is : treat_move job.sizes job.bounds job.pins f b ≡ treat_all (moved st f) (way_of c n p st f) (view_of job.bounds job.pins) (recipes_of rs f) treat_begun
+  unfolding treat_from
   is =
-      ap (λ (u : State). treatAll u (wayTo c n p (side_of (turned b.sides f) f)) (view_of job.bounds job.pins) (cells_of c p z f) treatBegun) now
-      ∙ ap (λ (u : ℕ). treatAll (moved st f) (wayTo c n p u) (view_of job.bounds job.pins) (cells_of c p z f) treatBegun) side
-      ∙ ap (λ (u : List ℕ). treatAll (moved st f) (way_of c n p st f) (view_of job.bounds job.pins) u treatBegun) (g.cells.hold f x.below)
+      ap (λ (u : State). treat_all u (way_to c n p (side_of (turned b.sides f) f)) (view_of job.bounds job.pins) (cells_of c p z f) treat_begun) now
+      ∙ ap (λ (u : ℕ). treat_all (moved st f) (way_to c n p u) (view_of job.bounds job.pins) (cells_of c p z f) treat_begun) side
+      ∙ ap (λ (u : List ℕ). treat_all (moved st f) (way_of c n p st f) (view_of job.bounds job.pins) u treat_begun) (g.cells.hold f x.below)
 
-  did : TreatedMove rs ws st (moved st f) f (countsAt c p) n treatBegun (treatMove job.sizes job.bounds job.pins f b)
+  did : TreatedMove rs ws st (moved st f) f (counts_at c p) n treat_begun (treat_move job.sizes job.bounds job.pins f b)
   did =
       rw is
       (move-treated rs ws (recipes-distinct v.most job v.sound) st f x.moves c n p (recipes-length v.most job v.sound) (view_of job.bounds job.pins) sees
-      (moved st f) treatBegun (rw long (omega (arith, room))) counts-locked)
+      (moved st f) treat_begun (rw long (omega (arith, room))) counts-locked)
 
   -- the scans so far, and this move's
-  more : scans rs (begins job) (made ms (suc k)) ≡ scans rs (begins job) (made ms k) ++ scansOf rs st f
+  more : scans rs (begins job) (made ms (suc k)) ≡ scans rs (begins job) (made ms k) ++ scans_of rs st f
   more =
       ap (scans rs (begins job)) x.more
       ∙ scans-append rs (begins job) (made ms k) (f ∷ [])
-      ∙ ap (λ (u : List Scan). scans rs (begins job) (made ms k) ++ u) (unfold scans in append-nil (scansOf rs st f))
+      ∙ ap (λ (u : List Scan). scans rs (begins job) (made ms k) ++ u) (unfold scans in append-nil (scans_of rs st f))
 
-  map_more : (h : Scan → ℕ) → map h (scans rs (begins job) (made ms k)) ++ map h (scansOf rs st f) ≡ map h (scans rs (begins job) (made ms (suc k)))
-  map_more h = sym (ap (map h) more ∙ map-append h (scans rs (begins job) (made ms k)) (scansOf rs st f))
+  map_more : (h : Scan → ℕ) → map h (scans rs (begins job) (made ms k)) ++ map h (scans_of rs st f) ≡ map h (scans rs (begins job) (made ms (suc k)))
+  map_more h = sym (ap (map h) more ∙ map-append h (scans rs (begins job) (made ms k)) (scans_of rs st f))
 
-  below : (a m : ℕ) → cellsAt c ≤ a → a + m ≤ countsAt c p → part a m (treatMove job.sizes job.bounds job.pins f b).scratch ≡ part a m z
+  below : (a m : ℕ) → cells_at c ≤ a → a + m ≤ counts_at c p → part a m (treat_move job.sizes job.bounds job.pins f b).scratch ≡ part a m z
   below a m l h = beside-part did.beside a m (omega arith) ∙ part-set-below a m z f 1 (omega (arith, x.below))
 
-  entry : (i : ℕ) → cellsAt c ≤ i → i < countsAt c p → get_or (treatMove job.sizes job.bounds job.pins f b).scratch i 0 ≡ get_or z i 0
+  entry : (i : ℕ) → cells_at c ≤ i → i < counts_at c p → get_or (treat_move job.sizes job.bounds job.pins f b).scratch i 0 ≡ get_or z i 0
   entry i l h = beside-entry did.beside i (omega arith) ∙ get_or-set_other z f i 1 0 (λ e. omega (arith, x.below))
 
   visits-more : (us vs : List Scan) → visits ws (us ++ vs) ≡ visits ws us + visits ws vs
   unfolding visits
   visits-more us vs = total-append (λ c. length (get_or ws c.recipe [])) us vs
 
-  shifted : Shifted job ms k f b (treatMove job.sizes job.bounds job.pins f b).scanned.progress
-  unfolding shiftedTo
+  shifted : Shifted job ms k f b (treat_move job.sizes job.bounds job.pins f b).scanned.progress
+  unfolding shifted_to
   shifted =
       let e = did.progress in
       record {
         size = ap (λ (q : Progress). q.size) e;
-        cutNow = ap (λ (q : Progress). q.cut) e;
+        cut_now = ap (λ (q : Progress). q.cut) e;
         moves = ap (λ (q : Progress). q.moves) e;
         best = ap (λ (q : Progress). q.best) e;
         least = ap (λ (q : Progress). q.least) e;
         atbest = ap (λ (q : Progress). q.atbest) e;
         scanned = ap (λ (q : Progress). q.scans) e
-            ∙ omega (arith, g.progress.scanned, ap length more, length-append (scans rs (begins job) (made ms k)) (scansOf rs st f));
+            ∙ omega (arith, g.progress.scanned, ap length more, length-append (scans rs (begins job) (made ms k)) (scans_of rs st f));
         visited = ap (λ (q : Progress). q.visits) e
-            ∙ omega (arith, g.progress.visited, ap (visits ws) more, visits-more (scans rs (begins job) (made ms k)) (scansOf rs st f));
+            ∙ omega (arith, g.progress.visited, ap (visits ws) more, visits-more (scans rs (begins job) (made ms k)) (scans_of rs st f));
       }
 
   -- an unread file is not free after the move either
-  unread-stays : (i : ℕ) → isRead job i ≡ false → free (moved st f) i ≡ false
+  unread-stays : (i : ℕ) → is_read job i ≡ false → free (moved st f) i ≡ false
   unread-stays i e = rw (← x.then) (unread-locked job job.sides (made ms (suc k)) i e)
 
   care : Safe job ms k f b
   care = safe v (omega (arith, small.scans)) ok g x
 
-  scans-fit : b.rest.scanned.progress.scans + length (scansOf rs st f) ≤ 4 * n
-  scans-fit = omega (arith, care.scanning, g.progress.scanned, ap length more, length-append (scans rs (begins job) (made ms k)) (scansOf rs st f))
+  scans-fit : b.rest.scanned.progress.scans + length (scans_of rs st f) ≤ 4 * n
+  scans-fit = omega (arith, care.scanning, g.progress.scanned, ap length more, length-append (scans rs (begins job) (made ms k)) (scans_of rs st f))
 
   -- what the code of the move leaves
-  pub recipes-treated : MoveTreated job ms l k f b (treatMove job.sizes job.bounds job.pins f b)
-  unfolding shiftedTo
+  pub recipes-treated : MoveTreated job ms l k f b (treat_move job.sizes job.bounds job.pins f b)
+  unfolding shifted_to
   recipes-treated =
       let r : LongEnough 1 job l = long-enough 1 job l ok in
-      let y : Treated = treatMove job.sizes job.bounds job.pins f b in
+      let y : Treated = treat_move job.sizes job.bounds job.pins f b in
       record {
         locks = beside-part did.beside 0 c (omega arith) ∙ locks ∙ ap (λ (u : State). u.locks) (sym x.then);
         cells = cells_same entry below g.cells;
         counts = rw x.then did.counts;
         long = did.beside.long ∙ long;
-        beyond = did.beside.beyond ∙ drop-set-lt (linksFrom job) z f 1 (omega (arith, x.below));
+        beyond = did.beside.beyond ∙ drop-set-lt (links_from job) z f 1 (omega (arith, x.below));
         gains = did.gains ∙ scans-whole job st (moved st f) unread-stays (other (side_of st.sides f)) f b.rest.scanned.gains;
-        scannedRecipes =
-            did.recipes (map (λ u. u.recipe) (scans rs (begins job) (made ms k))) l.recipes g.scannedRecipes
-            (length-map (scans rs (begins job) (made ms k)) (λ u. u.recipe) ∙ sym g.progress.scanned) (omega (arith, scans-fit, r.scannedRecipes))
+        scanned_recipes =
+            did.recipes (map (λ u. u.recipe) (scans rs (begins job) (made ms k))) l.recipes g.scanned_recipes
+            (length-map (scans rs (begins job) (made ms k)) (λ u. u.recipe) ∙ sym g.progress.scanned) (omega (arith, scans-fit, r.scanned_recipes))
             ∙ ap (λ (u : List ℕ). onto u l.recipes) (map_more (λ u. u.recipe));
-        scannedKinds =
-            did.kinds (map (λ u. u.kind) (scans rs (begins job) (made ms k))) l.kinds g.scannedKinds
-            (length-map (scans rs (begins job) (made ms k)) (λ u. u.kind) ∙ sym g.progress.scanned) (omega (arith, scans-fit, r.scannedKinds))
+        scanned_kinds =
+            did.kinds (map (λ u. u.kind) (scans rs (begins job) (made ms k))) l.kinds g.scanned_kinds
+            (length-map (scans rs (begins job) (made ms k)) (λ u. u.kind) ∙ sym g.progress.scanned) (omega (arith, scans-fit, r.scanned_kinds))
             ∙ ap (λ (u : List ℕ). onto u l.kinds) (map_more (λ u. u.kind));
         progress = shifted;
       }
 
-  pins-below : (j : ℕ) → j < n → allBelow c (view_of job.bounds job.pins j)
+  pins-below : (j : ℕ) → j < n → AllBelow c (view_of job.bounds job.pins j)
   pins-below j h i q = view-below v.most job v.sound j i h q
 
   recipes-short : (j : ℕ) → j < n → length (get_or rs j []) < 65535
@@ -206,11 +206,11 @@ module _ {job : Job} {ms : List ℕ} (v : Line job ms) (small : Small job) {l : 
 
   -- where the file's cells end
   abbrev until : ℕ
-  until = cellsAt c + end_in c p z f
+  until = cells_at c + end_in c p z f
 
-  ready : Ready (wayTo c n p (side_of (turned b.sides f) f)) (view_of job.bounds job.pins) until (cells_of c p z f) locked
+  ready : Ready (way_to c n p (side_of (turned b.sides f) f)) (view_of job.bounds job.pins) until (cells_of c p z f) locked
   ready =
-      subst (λ (u : ℕ). Ready (wayTo c n p u) (view_of job.bounds job.pins) until (cells_of c p z f) locked) (sym side)
+      subst (λ (u : ℕ). Ready (way_to c n p u) (view_of job.bounds job.pins) until (cells_of c p z f) locked) (sym side)
       (subst (λ (u : List ℕ). Ready (way_of c n p st f) (view_of job.bounds job.pins) until u locked) (sym (g.cells.hold f x.below))
       (move-ready rs ws (recipes-distinct v.most job v.sound) st f x.moves c n p (recipes-length v.most job v.sound) (view_of job.bounds job.pins) sees
       until (omega (arith, g.cells.inside f x.below)) locked (rw long (omega (arith, room))) counts-locked pins-below recipes-short))
@@ -219,12 +219,12 @@ module _ {job : Job} {ms : List ℕ} (v : Line job ms) (small : Small job) {l : 
   as_long : (h : Scan → ℕ) (old : List ℕ) → 4 * n ≤ length old → length (onto (map h (scans rs (begins job) (made ms (suc k)))) old) ≡ length old
   as_long h old q = onto-length 0 _ old (rw (length-map (scans rs (begins job) (made ms (suc k))) h) (omega (arith, care.scanning)))
 
-  fitting : Fits (treatMove job.sizes job.bounds job.pins f b).scanned
+  fitting : Fits (treat_move job.sizes job.bounds job.pins f b).scanned
   fitting =
       let r : LongEnough 1 job l = long-enough 1 job l ok in
       record {
-        recipes = omega (arith, shifted.scanned, care.scanning, ap length recipes-treated.scannedRecipes ∙ as_long (λ u. u.recipe) l.recipes r.scannedRecipes, r.scannedRecipes);
-        kinds = omega (arith, shifted.scanned, care.scanning, ap length recipes-treated.scannedKinds ∙ as_long (λ u. u.kind) l.kinds r.scannedKinds, r.scannedKinds);
+        recipes = omega (arith, shifted.scanned, care.scanning, ap length recipes-treated.scanned_recipes ∙ as_long (λ u. u.recipe) l.recipes r.scanned_recipes, r.scanned_recipes);
+        kinds = omega (arith, shifted.scanned, care.scanning, ap length recipes-treated.scanned_kinds ∙ as_long (λ u. u.kind) l.kinds r.scanned_kinds, r.scanned_kinds);
         visits = omega (arith, shifted.visited, care.visiting, small.pins);
       }
 
@@ -234,9 +234,9 @@ module _ {job : Job} {ms : List ℕ} (v : Line job ms) (small : Small job) {l : 
       let m : BoardLong job l b = board-long v ok g in
       record {
         file = x.below;
-        sidesLong = m.sides;
-        gainsLong = m.gains;
-        scratchLong = omega (arith, room);
+        sides_long = m.sides;
+        gains_long = m.gains;
+        scratch_long = omega (arith, room);
         few = (small.files, small.bounds, omega (arith, small.pins));
         order = g.cells.order f x.below;
         inside = g.cells.inside f x.below;
@@ -252,12 +252,12 @@ module _ {job : Job} {ms : List ℕ} (v : Line job ms) (small : Small job) {l : 
       }
 
   -- so the pass goes on
-  pub move-goes : Going job ms l (suc k) (moveOne job.sizes job.bounds job.pins f b)
+  pub move-goes : Going job ms l (suc k) (move_one job.sizes job.bounds job.pins f b)
   move-goes = goes_on v ok g x recipes-treated
 
-  cut-now : (treatMove job.sizes job.bounds job.pins f b).scanned.progress.cut ≡ cut (stands job ms (suc k)).sides rs
-  unfolding moveOne countedOn
-  cut-now = move-goes.progress.cutNow
+  cut-now : (treat_move job.sizes job.bounds job.pins f b).scanned.progress.cut ≡ cut (stands job ms (suc k)).sides rs
+  unfolding move_one counted_on
+  cut-now = move-goes.progress.cut_now
 
   pub move-fits : MoveFits job.sizes job.bounds job.pins f b
   move-fits = record {
@@ -265,7 +265,7 @@ module _ {job : Job} {ms : List ℕ} (v : Line job ms) (small : Small job) {l : 
     tried = omega (arith, care.tried, g.progress.moves);
     gained = omega (arith, care.gained, g.progress.moves);
     cuts = omega (arith, care.cuts, g.progress.moves);
-    ends = omega (arith, care.scansSoFar, g.progress.moves);
+    ends = omega (arith, care.scans_so_far, g.progress.moves);
     cut = omega (arith, cut-now, cut-few v (suc k), small.scans);
     scans = omega (arith, shifted.scanned, care.scanning, small.scans);
     moves = omega (arith, shifted.moves, g.progress.moves, x.early, small.files);

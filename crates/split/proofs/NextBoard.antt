@@ -7,22 +7,22 @@ use native.Mathlib.Nat.{zero-add}
 use native.Mathlib.Omega.{arith}
 use lib.IntN.{ℤ, pos}
 use lib.ListN.{length, get_or, set}
-use Rattle.rules.specs.Lists.{bestUpTo, onto}
-use Rattle.rules.specs.Job.{Job, fileCount, recipes, Lent, fits}
-use Rattle.rules.specs.Split.{cut, gain, size_of, sizeA, side_of}
-use Rattle.rules.specs.Move.{State, moved, sizeAfter, scans, endsFrom}
-use Rattle.rules.specs.Pass.{gainsWhen, cutsAfter, cut_at, startGains}
+use Rattle.rules.specs.Lists.{best_up_to, onto}
+use Rattle.rules.specs.Job.{Job, file_count, recipes, Lent, fits}
+use Rattle.rules.specs.Split.{cut, gain, size_of, size_a, side_of}
+use Rattle.rules.specs.Move.{State, moved, size_after, scans, ends_from}
+use Rattle.rules.specs.Pass.{gains_when, cuts_after, cut_at, start_gains}
 use Rattle.rules.proofs.Entries.{onto-set}
-use Rattle.rules.proofs.GainKept.{keptUp, gainsScanned}
+use Rattle.rules.proofs.GainKept.{kept_up, gains_scanned}
 use Rattle.rules.proofs.Steps.{kept-snoc, gains-snoc, cuts-snoc, ends_snoc, gains-length, cuts-length, ends-length}
 use Rattle.split.specs.declared.progress.Progress.{Progress}
-use Rattle.choice.specs.Choosing.{sizeBy}
+use Rattle.choice.specs.Choosing.{size_by}
 use Rattle.tables.specs.Ending.{turned}
-use Rattle.split.specs.Moving.{Board, countedOn, cutBy, treatMove, moveOne}
+use Rattle.split.specs.Moving.{Board, counted_on, cut_by, treat_move, move_one}
 use Rattle.split.proofs.Going.{begins, made, stands, Line, InProgress, Going}
 use Rattle.split.proofs.Treats.{Shifted, MoveTreated}
 use Rattle.split.proofs.NextMove.{Next}
-use Rattle.split.proofs.ChoiceNow.{gainsNow, size-moved-by}
+use Rattle.split.proofs.ChoiceNow.{gains_now, size-moved-by}
 use Rattle.split.proofs.BestSoFar.{costs, cost-now, made-length, keeps-made, least-made, counted-best, counted-least, counted-figure}
 use Rattle.rules.proofs.Fits.{LongEnough, long-enough}
 use Rattle.split.proofs.Bounds.{gain-now, cut-next}
@@ -40,42 +40,42 @@ module _ {job : Job} {ms : List ℕ} (v : Line job ms) {l : Lent} (ok : fits 1 j
   gain-of : get_or b.rest.scanned.gains f (pos 0) ≡ gain (stands job ms k).sides (recipes job) f
   gain-of = ap (λ (x : List ℤ). get_or x f (pos 0)) g.gains ∙ gain-now v k f n
 
-  gains-on : gainsScanned (recipes job) (stands job ms k) f b.rest.scanned.gains ≡ gainsNow job ms (suc k)
+  gains-on : gains_scanned (recipes job) (stands job ms k) f b.rest.scanned.gains ≡ gains_now job ms (suc k)
   gains-on =
-      ap (λ (x : List ℤ). gainsScanned (recipes job) (stands job ms k) f x) g.gains
-      ∙ sym (ap (λ (ms : List ℕ). keptUp (recipes job) (begins job) ms (startGains (recipes job) (fileCount job) (begins job))) n.more
-      ∙ kept-snoc (recipes job) (begins job) (made ms k) f (startGains (recipes job) (fileCount job) (begins job)))
+      ap (λ (x : List ℤ). gains_scanned (recipes job) (stands job ms k) f x) g.gains
+      ∙ sym (ap (λ (ms : List ℕ). kept_up (recipes job) (begins job) ms (start_gains (recipes job) (file_count job) (begins job))) n.more
+      ∙ kept-snoc (recipes job) (begins job) (made ms k) f (start_gains (recipes job) (file_count job) (begins job)))
 
-  size-on : sizeBy b.rest.scanned.progress.size (side_of b.sides f) (size_of job f) ≡ sizeA job (stands job ms (suc k)).sides
-  unfolding sizeAfter
+  size-on : size_by b.rest.scanned.progress.size (side_of b.sides f) (size_of job f) ≡ size_a job (stands job ms (suc k)).sides
+  unfolding size_after
   size-on =
-      ap₂ (λ (a : ℕ) (x : List ℕ). sizeBy a (side_of x f) (size_of job f)) g.progress.size g.sides
+      ap₂ (λ (a : ℕ) (x : List ℕ). size_by a (side_of x f) (size_of job f)) g.progress.size g.sides
       ∙ size-moved-by v k f n.below n.free
-      ∙ sym (ap (λ (st : State). sizeA job st.sides) n.then)
+      ∙ sym (ap (λ (st : State). size_a job st.sides) n.then)
 
-  cut-moves : cutBy b.rest.scanned.progress.cut (get_or b.rest.scanned.gains f (pos 0)) ≡ cut (moved (stands job ms k) f).sides (recipes job)
+  cut-moves : cut_by b.rest.scanned.progress.cut (get_or b.rest.scanned.gains f (pos 0)) ≡ cut (moved (stands job ms k) f).sides (recipes job)
   cut-moves =
-      ap₂ (λ (a : ℕ) (x : List ℤ). cutBy a (get_or x f (pos 0))) g.progress.cutNow g.gains
+      ap₂ (λ (a : ℕ) (x : List ℤ). cut_by a (get_or x f (pos 0))) g.progress.cut_now g.gains
       ∙ omega (arith, cut-next v k f n)
 
   cut_on : cut (moved (stands job ms k) f).sides (recipes job) ≡ cut (stands job ms (suc k)).sides (recipes job)
   cut_on = sym (ap (λ (st : State). cut st.sides (recipes job)) n.then)
 
-  progress-on : (q : Progress) → Shifted job ms k f b q → InProgress job ms (suc k) (countedOn q)
-  unfolding countedOn
+  progress-on : (q : Progress) → Shifted job ms k f b q → InProgress job ms (suc k) (counted_on q)
+  unfolding counted_on
   progress-on q t =
-      let cutNow : q.cut ≡ cut (stands job ms (suc k)).sides (recipes job) = t.cutNow ∙ cut-moves ∙ cut_on in
-      let now : q.cut ≡ costs job ms (suc k) = cutNow ∙ sym (cost-now job ms (suc k)) in
+      let cut_now : q.cut ≡ cut (stands job ms (suc k)).sides (recipes job) = t.cut_now ∙ cut-moves ∙ cut_on in
+      let now : q.cut ≡ costs job ms (suc k) = cut_now ∙ sym (cost-now job ms (suc k)) in
       let moves : q.moves ≡ k = t.moves ∙ g.progress.moves in
-      let best : q.best ≡ bestUpTo (costs job ms) k = t.best ∙ g.progress.best ∙ keeps-made job ms k g.few in
-      let least : q.least ≡ costs job ms (bestUpTo (costs job ms) k)
+      let best : q.best ≡ best_up_to (costs job ms) k = t.best ∙ g.progress.best ∙ keeps-made job ms k g.few in
+      let least : q.least ≡ costs job ms (best_up_to (costs job ms) k)
       = t.least ∙ g.progress.least ∙ ap (λ (i : ℕ). cut_at (recipes job) (begins job) (made ms k) i) g.progress.best ∙ least-made job ms k g.few in
-      let size_at : ℕ → ℕ = λ i. sizeA job (stands job ms i).sides in
+      let size_at : ℕ → ℕ = λ i. size_a job (stands job ms i).sides in
       let next : suc k ≡ q.moves + 1 = omega arith in
       let kept = counted-best (costs job ms) k q now moves best least ∙ sym (keeps-made job ms (suc k) n.few) in
       record {
         size = t.size ∙ size-on;
-        cutNow = cutNow;
+        cut_now = cut_now;
         moves = omega arith;
         best = kept;
         least =
@@ -86,16 +86,16 @@ module _ {job : Job} {ms : List ℕ} (v : Line job ms) {l : Lent} (ok : fits 1 j
         visited = t.visited;
       }
 
-  pub goes_on : MoveTreated job ms l k f b (treatMove job.sizes job.bounds job.pins f b)
-      → Going job ms l (suc k) (moveOne job.sizes job.bounds job.pins f b)
-  unfolding moveOne
+  pub goes_on : MoveTreated job ms l k f b (treat_move job.sizes job.bounds job.pins f b)
+      → Going job ms l (suc k) (move_one job.sizes job.bounds job.pins f b)
+  unfolding move_one
   goes_on t =
       let r : LongEnough 1 job l = long-enough 1 job l ok in
       let rs : List (List ℕ) = recipes job in
       let now : List ℕ = made ms k in
       let long : length now ≡ k = made-length job ms k g.few in
       let at : b.rest.scanned.progress.moves ≡ k = g.progress.moves in
-      let early : k < fileCount job = n.early in
+      let early : k < file_count job = n.early in
       record {
         few = n.few;
         sides = sides-on;
@@ -106,22 +106,22 @@ module _ {job : Job} {ms : List ℕ} (v : Line job ms) {l : Lent} (ok : fits 1 j
         gains = t.gains ∙ gains-on;
         tried = one_more now (made ms (suc k)) l.tried b.tried _ f f g.tried (at ∙ sym long) refl n.more (omega arith);
         gained =
-            one_more (gainsWhen rs (begins job) now) (gainsWhen rs (begins job) (made ms (suc k))) l.gained b.gained _ _ (gain (stands job ms k).sides rs f) g.gained
+            one_more (gains_when rs (begins job) now) (gains_when rs (begins job) (made ms (suc k))) l.gained b.gained _ _ (gain (stands job ms k).sides rs f) g.gained
             (at ∙ sym (gains-length rs (begins job) now ∙ long)) gain-of
-            (ap (λ (x : List ℕ). gainsWhen rs (begins job) x) n.more ∙ gains-snoc rs (begins job) now f)
+            (ap (λ (x : List ℕ). gains_when rs (begins job) x) n.more ∙ gains-snoc rs (begins job) now f)
             (rw (gains-length rs (begins job) now) (omega arith));
         cuts =
-            one_more (cutsAfter rs (begins job) now) (cutsAfter rs (begins job) (made ms (suc k))) l.cuts b.cuts _ _ (cut (moved (stands job ms k) f).sides rs) g.cuts
-            (at ∙ sym (cuts-length rs (begins job) now ∙ long)) (t.progress.cutNow ∙ cut-moves)
-            (ap (λ (x : List ℕ). cutsAfter rs (begins job) x) n.more ∙ cuts-snoc rs (begins job) now f)
+            one_more (cuts_after rs (begins job) now) (cuts_after rs (begins job) (made ms (suc k))) l.cuts b.cuts _ _ (cut (moved (stands job ms k) f).sides rs) g.cuts
+            (at ∙ sym (cuts-length rs (begins job) now ∙ long)) (t.progress.cut_now ∙ cut-moves)
+            (ap (λ (x : List ℕ). cuts_after rs (begins job) x) n.more ∙ cuts-snoc rs (begins job) now f)
             (rw (cuts-length rs (begins job) now) (omega arith));
-        scansSoFar =
-            one_more (endsFrom rs 0 (begins job) now) (endsFrom rs 0 (begins job) (made ms (suc k))) l.ends b.ends _ _ (0 + length (scans rs (begins job) (now ++ (f ∷ [])))) g.scansSoFar
+        scans_so_far =
+            one_more (ends_from rs 0 (begins job) now) (ends_from rs 0 (begins job) (made ms (suc k))) l.ends b.ends _ _ (0 + length (scans rs (begins job) (now ++ (f ∷ [])))) g.scans_so_far
             (at ∙ sym (ends-length rs 0 (begins job) now ∙ long))
             (t.progress.scanned ∙ ap (λ (x : List ℕ). length (scans rs (begins job) x)) n.more ∙ sym (zero-add (length (scans rs (begins job) (now ++ (f ∷ []))))))
-            (ap (λ (x : List ℕ). endsFrom rs 0 (begins job) x) n.more ∙ ends_snoc rs 0 (begins job) now f)
+            (ap (λ (x : List ℕ). ends_from rs 0 (begins job) x) n.more ∙ ends_snoc rs 0 (begins job) now f)
             (rw (ends-length rs 0 (begins job) now) (omega arith));
-        scannedRecipes = t.scannedRecipes;
-        scannedKinds = t.scannedKinds;
-        progress = progress-on (treatMove job.sizes job.bounds job.pins f b).scanned.progress t.progress;
+        scanned_recipes = t.scanned_recipes;
+        scanned_kinds = t.scanned_kinds;
+        progress = progress-on (treat_move job.sizes job.bounds job.pins f b).scanned.progress t.progress;
       }

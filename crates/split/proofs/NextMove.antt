@@ -8,8 +8,8 @@ use native.Mathlib.Decide.{dec_lt}
 use native.Mathlib.Omega.{arith}
 use lib.ListN.{length, get_or, take}
 use lib.Seq.{take-suc}
-use Rattle.rules.specs.Job.{Job, fileCount}
-use Rattle.rules.specs.Move.{stepsBy, State, lockOf, moved, after, Frees, stop, move}
+use Rattle.rules.specs.Job.{Job, file_count}
+use Rattle.rules.specs.Move.{steps_by, State, lock_of, moved, after, Frees, stop, move}
 use Rattle.rules.specs.Theorems.{Binary}
 use Rattle.rules.proofs.MovesEnd.{StateLong, after-long, frees-few}
 use Rattle.rules.proofs.OneMove.{Moves, move-of}
@@ -20,11 +20,11 @@ use Rattle.split.proofs.Going.{begins, made, stands, Line}
 -- f is move k
 pub record Next (job : Job) (ms : List ℕ) (k f : ℕ) : Type 0 where
   pub few : k < length ms
-  pub early : k < fileCount job
+  pub early : k < file_count job
   pub more : made ms (suc k) ≡ made ms k ++ (f ∷ [])
   pub then : stands job ms (suc k) ≡ moved (stands job ms k) f
-  pub below : f < fileCount job
-  pub free : lockOf (stands job ms k) f ≡ 0
+  pub below : f < file_count job
+  pub free : lock_of (stands job ms k) f ≡ 0
   pub moves : Moves (stands job ms k) (moved (stands job ms k) f) f
 
 -- the moves are those of a choice, which ends them: `pick k` is what it gives after k moves
@@ -34,8 +34,8 @@ pub record Picked (pick : ℕ → Option ℕ) (ms : List ℕ) : Type 0 where
 
 -- a move is of a file then free
 frees-at : {st : State} {fs : List ℕ} → Frees st fs → (k : ℕ) → k < length fs
-    → (get_or fs k 0 < length (after st (take k fs)).locks) × (lockOf (after st (take k fs)) (get_or fs k 0) ≡ 0)
-unfolding stepsBy
+    → (get_or fs k 0 < length (after st (take k fs)).locks) × (lock_of (after st (take k fs)) (get_or fs k 0) ≡ 0)
+unfolding steps_by
 frees-at stop k h = absurd (omega arith)
 frees-at (move a b e rest) zero h = (b, e)
 frees-at (move a b e rest) (suc k) h = frees-at rest k (omega arith)
@@ -47,11 +47,11 @@ never_both {ℓ} : {X : Type ℓ} (o : Option ℕ) (a : ℕ) → o ≡ some a �
 never_both o a p q = let z : ◌≡◌ {A = ℕ} 0 1 = cc in absurd (omega arith)
 
 module _ {job : Job} {ms : List ℕ} (v : Line job ms) where
-  pub begins-long : StateLong (fileCount job) (begins job)
-  begins-long = record { sides = v.sound.sidesLong; locks = v.sound.marksLong }
+  pub begins-long : StateLong (file_count job) (begins job)
+  begins-long = record { sides = v.sound.sides_long; locks = v.sound.marks_long }
 
   -- what holds of every state on the way
-  pub stands-long : (k : ℕ) → StateLong (fileCount job) (stands job ms k)
+  pub stands-long : (k : ℕ) → StateLong (file_count job) (stands job ms k)
   stands-long k = after-long (begins job) (made ms k) begins-long
 
   pub made-free : (k : ℕ) → Frees (begins job) (made ms k)
@@ -60,16 +60,16 @@ module _ {job : Job} {ms : List ℕ} (v : Line job ms) where
   pub stands-binary : (k : ℕ) → Binary (stands job ms k).sides
   stands-binary k = after-binary (begins job) (made ms k) (made-free k) v.sound.binary
 
-  pub few-moves : length ms ≤ fileCount job
-  few-moves = omega (arith, frees-few v.frees, v.sound.marksLong)
+  pub few-moves : length ms ≤ file_count job
+  few-moves = omega (arith, frees-few v.frees, v.sound.marks_long)
 
   pub next-at : (k : ℕ) → k < length ms → Next job ms k (get_or ms k 0)
   next-at k h =
       let f : ℕ = get_or ms k 0 in
       let more : made ms (suc k) ≡ made ms k ++ (f ∷ []) = take-suc ms k 0 h in
       let here = frees-at v.frees k h in
-      let long : StateLong (fileCount job) (stands job ms k) = stands-long k in
-      let below : f < fileCount job = omega (arith, here.0, long.locks) in
+      let long : StateLong (file_count job) (stands job ms k) = stands-long k in
+      let below : f < file_count job = omega (arith, here.0, long.locks) in
       record {
         few = h;
         early = omega (arith, few-moves);

@@ -10,15 +10,15 @@ use lib.Seq.{take-length}
 use lib.Dec.{leb, eqb}
 use lib.IntN.{ℤ, pos}
 use borrow.Author.Tests.{eqb-true}
-use Rattle.rules.specs.Job.{Job, Limits, fileCount, recipeCount, pinCount, recipes, Lent, scratchFor}
+use Rattle.rules.specs.Job.{Job, Limits, file_count, recipe_count, pin_count, recipes, Lent, scratch_for}
 use Rattle.rules.specs.Split.{side_of, balanced, tolerance, weight}
-use Rattle.rules.specs.Move.{State, moved, after, Frees, legal, sizeAfter, distAfter, choose, moves, movesBy}
+use Rattle.rules.specs.Move.{State, moved, after, Frees, legal, size_after, dist_after, choose, moves, moves_by}
 use Rattle.rules.specs.Pass.{tries}
-use Rattle.rules.specs.Fronts.{Buckets, startBuckets, movedOn, gainIn, offer, chooseFront, frontTries}
-use Rattle.rules.specs.Levels.{chooseVector, vectorTries}
-use Rattle.rules.specs.Editions.{triesBy}
-use Rattle.rules.specs.FrontsHold.{bucketsAt, frontsAt}
-use Rattle.rules.specs.LevelsHold.{vectorsAt}
+use Rattle.rules.specs.Fronts.{Buckets, start_buckets, moved_on, gain_in, offer, choose_front, front_tries}
+use Rattle.rules.specs.Levels.{choose_vector, vector_tries}
+use Rattle.rules.specs.Editions.{tries_by}
+use Rattle.rules.specs.FrontsHold.{buckets_at, fronts_at}
+use Rattle.rules.specs.LevelsHold.{vectors_at}
 use Rattle.rules.specs.Theorems.{Sound, Chosen}
 use Rattle.rules.proofs.Tests.{clash}
 use Rattle.rules.proofs.Choice.{chosen}
@@ -34,24 +34,24 @@ use Rattle.split.proofs.Going.{begins, stands}
 use Rattle.split.proofs.NextMove.{Picked}
 
 -- the moves of a pass from the job's sides
-abbrev pub passMoves : ℕ → Job → List ℕ
-passMoves edition job = triesBy edition job job.sides
+abbrev pub pass_moves : ℕ → Job → List ℕ
+pass_moves edition job = tries_by edition job job.sides
 
 -- the buckets after k of them, and what the edition chooses then
-abbrev pub bucketsNow : ℕ → Job → ℕ → Buckets
-bucketsNow edition job k = bucketsAt job job.sides (passMoves edition job) k
+abbrev pub buckets_now : ℕ → Job → ℕ → Buckets
+buckets_now edition job k = buckets_at job job.sides (pass_moves edition job) k
 
 abbrev pub pick_at : ℕ → Job → ℕ → Option ℕ
 pick_at edition job k =
-    cond (eqb edition 2) (chooseFront job (bucketsNow edition job k))
-    (cond (eqb edition 3) (chooseVector job (stands job (passMoves edition job) k)) (choose job (stands job (passMoves edition job) k)))
+    cond (eqb edition 2) (choose_front job (buckets_now edition job k))
+    (cond (eqb edition 3) (choose_vector job (stands job (pass_moves edition job) k)) (choose job (stands job (pass_moves edition job) k)))
 
 module _ (most : Limits) (job : Job) (s : Sound most job) where
-  pub pass-frees : (edition : ℕ) → Frees (begins job) (passMoves edition job)
+  pub pass-frees : (edition : ℕ) → Frees (begins job) (pass_moves edition job)
   pass-frees edition = let w = given-sides most job s in lawful-frees most job s job.sides _ w ((editions-hold most job s).lawful edition job.sides w)
 
-  begins-long : StateLong (fileCount job) (begins job)
-  begins-long = record { sides = s.sidesLong; locks = s.marksLong }
+  begins-long : StateLong (file_count job) (begins job)
+  begins-long = record { sides = s.sides_long; locks = s.marks_long }
 
   -- at the end edition 1 chooses no file
   end_none : (f : ℕ) → choose job (stands job (tries job job.sides) (length (tries job job.sides))) ≡ some f → ⊥
@@ -63,7 +63,7 @@ module _ (most : Limits) (job : Job) (s : Sound most job) where
   first-picked : Picked (λ k. choose job (stands job (tries job job.sides) k)) (tries job job.sides)
   unfolding moves
   first-picked = record {
-    each = λ k h. moves_each (choose job) moved (fileCount job) (begins job) k h;
+    each = λ k h. moves_each (choose job) moved (file_count job) (begins job) k h;
     ended = go (choose job (stands job (tries job job.sides) (length (tries job job.sides)))) refl;
   }
     where
@@ -72,37 +72,37 @@ module _ (most : Limits) (job : Job) (s : Sound most job) where
       go (some f) e = absurd (end_none f e)
 
   -- nor does edition 2
-  fronts-picked : Picked (λ k. chooseFront job (frontsAt job job.sides k)) (frontTries job job.sides)
-  unfolding frontTries
+  fronts-picked : Picked (λ k. choose_front job (fronts_at job job.sides k)) (front_tries job job.sides)
+  unfolding front_tries
   fronts-picked = record {
-    each = λ k h. moves_each (chooseFront job) (movedOn job) (fileCount job) (startBuckets job job.sides) k h;
-    ended = go (chooseFront job (frontsAt job job.sides (length (frontTries job job.sides)))) refl;
+    each = λ k h. moves_each (choose_front job) (moved_on job) (file_count job) (start_buckets job job.sides) k h;
+    ended = go (choose_front job (fronts_at job job.sides (length (front_tries job job.sides)))) refl;
   }
     where
-      go : (o : Option ℕ) → chooseFront job (frontsAt job job.sides (length (frontTries job job.sides))) ≡ o → o ≡ none
+      go : (o : Option ℕ) → choose_front job (fronts_at job job.sides (length (front_tries job job.sides))) ≡ o → o ≡ none
       go none e = refl
       go (some f) e =
           let p = pass-holds-fronts most job s job.sides (given-sides most job s) in
-          let last : ℕ = length (frontTries job job.sides) in
-          let b : Buckets = frontsAt job job.sides last in
+          let last : ℕ = length (front_tries job job.sides) in
+          let b : Buckets = fronts_at job job.sides last in
           let w = given-sides most job s in
-          let good = good-at most job s job.sides (frontTries job job.sides) w (lawful-frees most job s job.sides _ w p.lawful) last in
+          let good = good-at most job s job.sides (front_tries job job.sides) w (lawful-frees most job s job.sides _ w p.lawful) last in
           let c = chosen-front job b (p.buckets.fronts last) f e in
           clash (sym c.lawful ∙ ap (λ (st : State). legal job st f) (p.buckets.seen last) ∙ p.ended (side_of b.state.sides f) f (good.binary f) c.front)
 
   -- nor edition 3
-  vectors-picked : Picked (λ k. chooseVector job (stands job (vectorTries job job.sides) k)) (vectorTries job job.sides)
-  unfolding vectorTries
+  vectors-picked : Picked (λ k. choose_vector job (stands job (vector_tries job job.sides) k)) (vector_tries job job.sides)
+  unfolding vector_tries
   vectors-picked = record {
-    each = λ k h. moves_each (chooseVector job) moved (fileCount job) (begins job) k h;
-    ended = (choice-holds job (vectorsAt job job.sides (length (vectorTries job job.sides)))).stuck (pass-holds-vectors most job s job.sides (given-sides most job s)).ended;
+    each = λ k h. moves_each (choose_vector job) moved (file_count job) (begins job) k h;
+    ended = (choice-holds job (vectors_at job job.sides (length (vector_tries job job.sides)))).stuck (pass-holds-vectors most job s job.sides (given-sides most job s)).ended;
   }
 
-  pub pass-picked : (edition : ℕ) → Picked (pick_at edition job) (passMoves edition job)
+  pub pass-picked : (edition : ℕ) → Picked (pick_at edition job) (pass_moves edition job)
   pass-picked edition = go (eqb edition 2) (eqb edition 3)
     where
-      go : (second third : Bool) → let ms = cond second (frontTries job job.sides) (cond third (vectorTries job job.sides) (tries job job.sides)) in
-          Picked (λ k. cond second (chooseFront job (bucketsAt job job.sides ms k)) (cond third (chooseVector job (stands job ms k)) (choose job (stands job ms k)))) ms
+      go : (second third : Bool) → let ms = cond second (front_tries job job.sides) (cond third (vector_tries job job.sides) (tries job job.sides)) in
+          Picked (λ k. cond second (choose_front job (buckets_at job job.sides ms k)) (cond third (choose_vector job (stands job ms k)) (choose job (stands job ms k)))) ms
       go true third = fronts-picked
       go false true = vectors-picked
       go false false = first-picked

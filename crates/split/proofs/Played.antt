@@ -7,13 +7,13 @@ use native.Mathlib.Omega.{arith}
 use lib.ListN.{length, drop}
 use mir.Syntax.{w16, w64}
 use mir.Val.{Fits}
-use Rattle.rules.specs.Job.{Job, fileCount, Lent}
+use Rattle.rules.specs.Job.{Job, file_count, Lent}
 use Rattle.rules.specs.Move.{Frees}
 use Rattle.choice.specs.declared.window.Window.{Window}
-use Rattle.choice.specs.Choosing.{fileOr}
-use Rattle.split.specs.Moving.{Board, moveOne}
+use Rattle.choice.specs.Choosing.{file_or}
+use Rattle.split.specs.Moving.{Board, move_one}
 use Rattle.split.specs.Movable.{Movable}
-use Rattle.split.proofs.Going.{linksFrom, begins, Line, Going, beyond-more}
+use Rattle.split.proofs.Going.{links_from, begins, Line, Going, beyond-more}
 use Rattle.split.proofs.Playable.{Playable}
 use Rattle.rules.proofs.Fits.{long-enough}
 use Rattle.split.proofs.Bounds.{BoardLong, board-long, size_few}
@@ -50,7 +50,7 @@ pub record Underway (n : ℕ) (job : Job) (ms : List ℕ) (l : Lent) (w : Window
   pub playable : Playable job l w
   pub frees : Frees (begins job) ms
   pub going : Going job ms l (moves_of b) b
-  pub counts : linksFrom job ≤ n
+  pub counts : links_from job ≤ n
   pub enough : n ≤ length l.scratch
   pub beyond : drop n b.rest.scratch ≡ drop n l.scratch
 
@@ -58,21 +58,21 @@ pub record Underway (n : ℕ) (job : Job) (ms : List ℕ) (l : Lent) (w : Window
 pub record Chose (job : Job) (ms : List ℕ) (b : Board) (f : ℕ) : Type 0 where
   pub pick : ℕ → Option ℕ
   pub picked : Picked pick ms
-  pub file : f ≡ fileOr (fileCount job) (pick (moves_of b))
+  pub file : f ≡ file_or (file_count job) (pick (moves_of b))
 
 -- the lists fit the choice, and |A| is a four-byte number
 pub record Choosable (job : Job) (b : Board) : Type 0 where
-  pub sides : length b.sides ≡ fileCount job
-  pub gains : length b.rest.scanned.gains ≡ fileCount job
-  pub locks : fileCount job ≤ length b.rest.scratch
+  pub sides : length b.sides ≡ file_count job
+  pub gains : length b.rest.scanned.gains ≡ file_count job
+  pub locks : file_count job ≤ length b.rest.scratch
   pub size : b.rest.scanned.progress.size < 2 ^ 32
 
 -- a file below n, and none
-file-some : (n f : ℕ) (o : Option ℕ) → f ≡ fileOr n o → f < n → o ≡ some f
+file-some : (n f : ℕ) (o : Option ℕ) → f ≡ file_or n o → f < n → o ≡ some f
 file-some n f none e h = absurd (omega arith)
 file-some n f (some x) e h = ap some (sym e)
 
-file-none : (n f : ℕ) (o : Option ℕ) → ((x : ℕ) → o ≡ some x → x < n) → f ≡ fileOr n o → n ≤ f → o ≡ none
+file-none : (n f : ℕ) (o : Option ℕ) → ((x : ℕ) → o ≡ some x → x < n) → f ≡ file_or n o → n ≤ f → o ≡ none
 file-none n f none below e h = refl
 file-none n f (some x) below e h = absurd (omega (arith, below x refl))
 
@@ -91,7 +91,7 @@ module _ {n : ℕ} {job : Job} {ms : List ℕ} {l : Lent} {w : Window} {b : Boar
   under-long = board-long line y.fitting g
 
   pub sides-stay : length b.sides ≡ length job.sides
-  sides-stay = under-long.sides ∙ sym y.sound.sidesLong
+  sides-stay = under-long.sides ∙ sym y.sound.sides_long
 
   pub gains-stay : length b.rest.scanned.gains ≡ length l.gains
   gains-stay = under-long.gains ∙ sym (long-enough 1 job l y.fitting).gains
@@ -109,9 +109,9 @@ module _ {n : ℕ} {job : Job} {ms : List ℕ} {l : Lent} {w : Window} {b : Boar
   -- once a file is chosen
   module _ {f : ℕ} (c : Chose job ms b f) where
     -- it is a file: the next move
-    module _ (h : f < fileCount job) where
+    module _ (h : f < file_count job) where
       pub playing-next : Next job ms (moves_of b) f
-      playing-next = next-move line c.picked (moves_of b) g.few f (file-some (fileCount job) f (c.pick (moves_of b)) c.file h)
+      playing-next = next-move line c.picked (moves_of b) g.few f (file-some (file_count job) f (c.pick (moves_of b)) c.file h)
 
       pub playing-safe : Movable job.sizes job.bounds job.pins f b.sides b.rest
       playing-safe = move-safe line y.small y.fitting g playing-next
@@ -119,7 +119,7 @@ module _ {n : ℕ} {job : Job} {ms : List ℕ} {l : Lent} {w : Window} {b : Boar
       pub playing-fits : MoveFits job.sizes job.bounds job.pins f b
       playing-fits = move-fits line y.small y.fitting g playing-next
 
-      module _ {b' : Board} (e : b' ≡ moveOne job.sizes job.bounds job.pins f b) where
+      module _ {b' : Board} (e : b' ≡ move_one job.sizes job.bounds job.pins f b) where
         goes : Going job ms l (suc (moves_of b)) b'
         goes = subst (Going job ms l (suc (moves_of b))) (sym e) (move-goes line y.small y.fitting g playing-next)
 
@@ -128,7 +128,7 @@ module _ {n : ℕ} {job : Job} {ms : List ℕ} {l : Lent} {w : Window} {b : Boar
         playing-more = goes.progress.moves
 
         pub playing-goes : Underway n job ms l w b'
-        unfolding moveOne
+        unfolding move_one
         playing-goes = record {
           playable = y;
           frees = u.frees;
@@ -141,9 +141,9 @@ module _ {n : ℕ} {job : Job} {ms : List ℕ} {l : Lent} {w : Window} {b : Boar
         }
 
     -- none is: the moves have ended
-    pub playing-end : fileCount job ≤ f → Going job ms l (length ms) b
+    pub playing-end : file_count job ≤ f → Going job ms l (length ms) b
     playing-end h =
         let pick : Option ℕ = c.pick (moves_of b) in
-        let below : (x : ℕ) → pick ≡ some x → x < fileCount job = λ x e. (next-move line c.picked (moves_of b) g.few x e).below in
-        let end : moves_of b ≡ length ms = no_move line c.picked (moves_of b) g.few (file-none (fileCount job) f pick below c.file h) in
+        let below : (x : ℕ) → pick ≡ some x → x < file_count job = λ x e. (next-move line c.picked (moves_of b) g.few x e).below in
+        let end : moves_of b ≡ length ms = no_move line c.picked (moves_of b) g.few (file-none (file_count job) f pick below c.file h) in
         subst (λ (k : ℕ). Going job ms l k b) end g

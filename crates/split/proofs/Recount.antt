@@ -7,13 +7,13 @@ use native.Mathlib.Decide.{ℕ_discrete}
 use native.Mathlib.Omega.{arith}
 use lib.ListN.{length, get_or, take, drop, set, length-set}
 use lib.Seq.{get_or-set_same, get_or-set_other, take-set-le, drop-set-lt}
-use Rattle.rules.specs.Split.{other, side_of, countOn, times}
-use Rattle.rules.specs.Move.{State, lockedOn}
+use Rattle.rules.specs.Split.{other, side_of, count_on, times}
+use Rattle.rules.specs.Move.{State, locked_on}
 use Rattle.rules.proofs.OneMove.{Moves, left-count, there-count, left-locked, there-locked}
 use Rattle.split.specs.declared.scan.Way.{Way}
-use Rattle.tables.specs.Zones.{countsAt, sideAt, part, CountsOf}
-use Rattle.split.specs.Scanning.{count_t, lockedT, countF, recount}
-use Rattle.split.specs.Moving.{wayTo}
+use Rattle.tables.specs.Zones.{counts_at, side_at, part, CountsOf}
+use Rattle.split.specs.Scanning.{count_t, locked_t, count_f, recount}
+use Rattle.split.specs.Moving.{way_to}
 use Rattle.tables.proofs.Parts.{front-entry, front-part}
 
 -- ---- the lists of a way
@@ -24,35 +24,35 @@ pub record TwoLists (at n : ℕ) (way : Way) : Type 0 where
   pub second : max way.there way.left ≡ at + n
   pub many : way.recipes ≡ n
 
-side-low : (at n u : ℕ) → u ≤ 1 → min (sideAt at n u) (sideAt at n (other u)) ≡ at
+side-low : (at n u : ℕ) → u ≤ 1 → min (side_at at n u) (side_at at n (other u)) ≡ at
 side-low at n zero h = omega arith
 side-low at n (suc zero) h = omega arith
 side-low at n (suc (suc u)) h = absurd (omega arith)
 
-side-high : (at n u : ℕ) → u ≤ 1 → max (sideAt at n u) (sideAt at n (other u)) ≡ at + n
+side-high : (at n u : ℕ) → u ≤ 1 → max (side_at at n u) (side_at at n (other u)) ≡ at + n
 side-high at n zero h = omega arith
 side-high at n (suc zero) h = omega arith
 side-high at n (suc (suc u)) h = absurd (omega arith)
 
-pub two-lists : (c n p t : ℕ) → t ≤ 1 → TwoLists (countsAt c p) n (wayTo c n p t)
-unfolding wayTo
-two-lists c n p t h = record { first = side-low (countsAt c p) n t h; second = side-high (countsAt c p) n t h; many = refl }
+pub two-lists : (c n p t : ℕ) → t ≤ 1 → TwoLists (counts_at c p) n (way_to c n p t)
+unfolding way_to
+two-lists c n p t h = record { first = side-low (counts_at c p) n t h; second = side-high (counts_at c p) n t h; many = refl }
 
 -- ---- the counts of a recipe
 
 -- the counts of recipe j, as a move from side s sees them
 pub record Seen (rs : List (List ℕ)) (st : State) (s : ℕ) (way : Way) (z : List ℕ) (j : ℕ) : Type 0 where
-  pub there : get_or z (way.there + j) 0 ≡ countOn st.sides (other s) (get_or rs j [])
-  pub left : get_or z (way.left + j) 0 ≡ countOn st.sides s (get_or rs j [])
-  pub locked : get_or z (way.there + j + 2 * way.recipes) 0 ≡ lockedOn st (other s) (get_or rs j [])
-  pub staying : get_or z (way.left + j + 2 * way.recipes) 0 ≡ lockedOn st s (get_or rs j [])
+  pub there : get_or z (way.there + j) 0 ≡ count_on st.sides (other s) (get_or rs j [])
+  pub left : get_or z (way.left + j) 0 ≡ count_on st.sides s (get_or rs j [])
+  pub locked : get_or z (way.there + j + 2 * way.recipes) 0 ≡ locked_on st (other s) (get_or rs j [])
+  pub staying : get_or z (way.left + j + 2 * way.recipes) 0 ≡ locked_on st s (get_or rs j [])
 
 back : (s : ℕ) → s ≤ 1 → other (other s) ≡ s
 back s h = omega arith
 
 module _ {rs : List (List ℕ)} {st : State} {z : List ℕ} {j : ℕ} (c n p s : ℕ) (h : s ≤ 1) where
-  pub counts-seen : CountsOf rs st (countsAt c p) n z j → Seen rs st s (wayTo c n p (other s)) z j
-  unfolding wayTo
+  pub counts-seen : CountsOf rs st (counts_at c p) n z j → Seen rs st s (way_to c n p (other s)) z j
+  unfolding way_to
   counts-seen k = record {
     there = k.on (other s) (omega arith);
     left = rw (back s h) (k.on s h);
@@ -60,8 +60,8 @@ module _ {rs : List (List ℕ)} {st : State} {z : List ℕ} {j : ℕ} (c n p s :
     staying = rw (back s h) (k.locked s h);
   }
 
-  pub seen-counts : Seen rs st s (wayTo c n p (other s)) z j → CountsOf rs st (countsAt c p) n z j
-  unfolding wayTo
+  pub seen-counts : Seen rs st s (way_to c n p (other s)) z j → CountsOf rs st (counts_at c p) n z j
+  unfolding way_to
   seen-counts k = record {
     on = λ u l. elim (ℕ_discrete u s) [
       | yes e ↦ rw e (rw (back s h) at k.left)
@@ -112,7 +112,7 @@ places l j h = omega arith
 
 -- the counts of another recipe i stand elsewhere
 elsewhere : {at n : ℕ} {way : Way} → TwoLists at n way → (j i : ℕ) → j < n → i < n → i ≢ j → (u : ℕ) → u ≤ 1
-    → Elsewhere way j (sideAt at n u + i) × Elsewhere way j (sideAt at n u + i + 2 * n)
+    → Elsewhere way j (side_at at n u + i) × Elsewhere way j (side_at at n u + i + 2 * n)
 elsewhere l j i h h' ne zero m = omega arith
 elsewhere l j i h h' ne (suc zero) m = omega arith
 elsewhere l j i h h' ne (suc (suc u)) m = absurd (omega arith)
@@ -133,20 +133,20 @@ module _ {at n : ℕ} {way : Way} {j : ℕ} (l : Places at n way j) (z : List �
       }
 
   module _ (fits : at + 4 * n ≤ length z) where
-    recount-left : get_or (recount way j z) (way.left + j) 0 ≡ countF way j z
+    recount-left : get_or (recount way j z) (way.left + j) 0 ≡ count_f way j z
     unfolding recount
-    recount-left = rw (get_or-set_other, l.apart.1, get_or-set_other, l.apart.0, get_or-set_same z (way.left + j) (countF way j z) 0 (omega arith))
+    recount-left = rw (get_or-set_other, l.apart.1, get_or-set_other, l.apart.0, get_or-set_same z (way.left + j) (count_f way j z) 0 (omega arith))
 
     recount-there : get_or (recount way j z) (way.there + j) 0 ≡ count_t way j z + 1
     unfolding recount
     recount-there =
-        let h : way.there + j < length (set z (way.left + j) (countF way j z)) = simp length-set (omega arith) in
+        let h : way.there + j < length (set z (way.left + j) (count_f way j z)) = simp length-set (omega arith) in
         rw (get_or-set_other, l.apart.2, get_or-set_same)
 
-    recount-locked : get_or (recount way j z) (way.there + j + 2 * way.recipes) 0 ≡ lockedT way j z + 1
+    recount-locked : get_or (recount way j z) (way.there + j + 2 * way.recipes) 0 ≡ locked_t way j z + 1
     unfolding recount
     recount-locked =
-        let h : way.there + j + 2 * way.recipes < length (set (set z (way.left + j) (countF way j z)) (way.there + j) (count_t way j z + 1)) = simp length-set (omega arith) in
+        let h : way.there + j + 2 * way.recipes < length (set (set z (way.left + j) (count_f way j z)) (way.there + j) (count_t way j z + 1)) = simp length-set (omega arith) in
         rw get_or-set_same
 
 -- what the recount of recipe j makes of z
@@ -159,14 +159,14 @@ pub record Recounted (rs : List (List ℕ)) (st' : State) (at n j : ℕ) (z z' :
 others-stay : {rs : List (List ℕ)} {st : State} {at n : ℕ} {way : Way} {z : List ℕ} → TwoLists at n way → (j i : ℕ) → j < n → i < n → i ≢ j
     → CountsOf rs st at n z i → CountsOf rs st at n (recount way j z) i
 others-stay {at} {n} {way} {z} l j i h h' ne k = record {
-  on = λ u m. recount-stays way j z (sideAt at n u + i) (elsewhere l j i h h' ne u m).0 ∙ k.on u m;
-  locked = λ u m. recount-stays way j z (sideAt at n u + i + 2 * n) (elsewhere l j i h h' ne u m).1 ∙ k.locked u m;
+  on = λ u m. recount-stays way j z (side_at at n u + i) (elsewhere l j i h h' ne u m).0 ∙ k.on u m;
+  locked = λ u m. recount-stays way j z (side_at at n u + i + 2 * n) (elsewhere l j i h h' ne u m).1 ∙ k.locked u m;
 }
 
 -- where recipe j holds the moved file, its counts become those after the move
-pub recounted : {rs : List (List ℕ)} {st st' : State} {f : ℕ} → Moves st st' f → (c n p : ℕ) (z : List ℕ) → countsAt c p + 4 * n ≤ length z
-    → (j : ℕ) → j < n → times f (get_or rs j []) ≡ 1 → CountsOf rs st (countsAt c p) n z j
-    → Recounted rs st' (countsAt c p) n j z (recount (wayTo c n p (other (side_of st.sides f))) j z)
+pub recounted : {rs : List (List ℕ)} {st st' : State} {f : ℕ} → Moves st st' f → (c n p : ℕ) (z : List ℕ) → counts_at c p + 4 * n ≤ length z
+    → (j : ℕ) → j < n → times f (get_or rs j []) ≡ 1 → CountsOf rs st (counts_at c p) n z j
+    → Recounted rs st' (counts_at c p) n j z (recount (way_to c n p (other (side_of st.sides f))) j z)
 recounted {rs} {st} {f} m c n p z fits j h o k =
     let s = side_of st.sides f in
     let r = get_or rs j [] in
@@ -178,7 +178,7 @@ recounted {rs} {st} {f} m c n p z fits j h o k =
         there = omega (arith, recount-there q z fits, a.there, there-count m r o);
         left = omega (arith, recount-left q z fits, a.left, left-count m r o);
         locked = omega (arith, recount-locked q z fits, a.locked, there-locked m r o);
-        staying = recount-stays (wayTo c n p (other s)) j z _ q.stays ∙ a.staying ∙ sym (left-locked m r o);
+        staying = recount-stays (way_to c n p (other s)) j z _ q.stays ∙ a.staying ∙ sym (left-locked m r o);
       };
       others = λ st i h' ne. others-stay l j i h h' ne;
       beside = recount-beside q z;

@@ -8,7 +8,7 @@ use native.Mathlib.Omega.{arith}
 use lib.IntN.{ℤ, pos, ◌+ℤ◌}
 use lib.ListN.{length, get_or, set, take, length-take}
 use lib.Seq.{take-suc, set-get_or}
-use Rattle.rules.specs.Move.{State, touches, change, scanPins}
+use Rattle.rules.specs.Move.{State, touches, change, scan_pins}
 use Rattle.rules.proofs.Signed.{abs}
 use Rattle.rules.proofs.Steps.{scan-more}
 use Rattle.split.specs.Scanning.{shifted_by, RoomFor}
@@ -20,12 +20,12 @@ set-cond true g x v = refl
 set-cond false g x v = set-get_or g x (pos 0)
 
 -- one pin more, as a loop has it: the file's gain is stored, changed or not
-pub scan-pin : (st : State) (t k : ℕ) (r : List ℕ) (i : ℕ) (g : List ℤ) {h : List ℤ} → i < length r → h ≡ scanPins st t k (take i r) g
+pub scan-pin : (st : State) (t k : ℕ) (r : List ℕ) (i : ℕ) (g : List ℤ) {h : List ℤ} → i < length r → h ≡ scan_pins st t k (take i r) g
     → set h (get_or r i 0) (shifted_by (get_or h (get_or r i 0) (pos 0)) (get_or st.locks (get_or r i 0) 0) (get_or st.sides (get_or r i 0) 0) t (1 - t) k)
-    ≡ scanPins st t k (take (i + 1) r) g
+    ≡ scan_pins st t k (take (i + 1) r) g
 scan-pin st t k r i g {h} l e =
     let x : ℕ = get_or r i 0 in
-    let q : scanPins st t k (take (i + 1) r) g ≡ scanPins st t k (take i r ++ (x ∷ [])) g = rw (add-one, take-suc r i 0) in
+    let q : scan_pins st t k (take (i + 1) r) g ≡ scan_pins st t k (take i r ++ (x ∷ [])) g = rw (add-one, take-suc r i 0) in
     set-cond (touches st t k x) h x (get_or h x (pos 0) +ℤ change k)
     ∙ ap (λ (y : List ℤ). cond (touches st t k x) (set y x (get_or y x (pos 0) +ℤ change k)) y) e
     ∙ sym (scan-more st t k (take i r) x g)
@@ -44,13 +44,13 @@ cond-abs true g x f k = set-abs g x f k
 cond-abs false g x f k = omega arith
 
 -- an entry goes up or down by at most the number of pins
-pub scan-abs : (st : State) (t k : ℕ) (r : List ℕ) (g : List ℤ) (f : ℕ) → abs (get_or (scanPins st t k r g) f (pos 0)) ≤ abs (get_or g f (pos 0)) + length r
-unfolding scanPins
+pub scan-abs : (st : State) (t k : ℕ) (r : List ℕ) (g : List ℤ) (f : ℕ) → abs (get_or (scan_pins st t k r g) f (pos 0)) ≤ abs (get_or g f (pos 0)) + length r
+unfolding scan_pins
 scan-abs st t k [] g f = omega arith
 scan-abs st t k (x ∷ r) g f = omega (arith, scan-abs st t k r (cond (touches st t k x) (set g x (get_or g x (pos 0) +ℤ change k)) g) f, cond-abs (touches st t k x) g x f k)
 
 -- on the way an entry has room for one step more
-pub scan-room : (st : State) (t k : ℕ) (r : List ℕ) (i : ℕ) (g : List ℤ) {h : List ℤ} → i < length r → h ≡ scanPins st t k (take i r) g → RoomFor g (length r)
+pub scan-room : (st : State) (t k : ℕ) (r : List ℕ) (i : ℕ) (g : List ℤ) {h : List ℤ} → i < length r → h ≡ scan_pins st t k (take i r) g → RoomFor g (length r)
     → (f : ℕ) → abs (get_or h f (pos 0)) < 2 ^ 31 - 1
 scan-room st t k r i g {h} l e room f =
     omega (arith, ap (λ (y : List ℤ). abs (get_or y f (pos 0))) e, scan-abs st t k (take i r) g f, length-take i r, room f)

@@ -7,7 +7,7 @@ use Rattle.rules.proofs.Settling.{Settles, both}
 use Rattle.rules.specs.declared.Figures.{Figures}
 use Rattle.rules.specs.Job.{lent_of}
 use Rattle.rules.specs.Run.{Ended}
-use Rattle.rules.specs.Balance.{Balancing, balancingOf}
+use Rattle.rules.specs.Balance.{Balancing, balancing_of}
 use Rattle.split.proofs.balancing.balance.Kinds as balance-kinds
 use Rattle.split.proofs.balancing.balance.Reads as balance
 use Rattle.split.proofs.pass_once.Kinds as pass-kinds
@@ -32,8 +32,8 @@ pub refused-settled : Settles 0 refused-kinds.ps refused-kinds.r Figures (λ κs
 refused-settled κs a x y e f p q = both p q
 
 -- the answer of the balancing, the sides and the scratch
-abbrev balancingLeaves : (κs : Lfts 6) → (res_t balance-kinds.r κs).Denot → AtExit (ended_of 6 balance-kinds.ps balance-kinds.r) κs → Balancing
-balancingLeaves κs x e = balancingOf x e.1.1.0.now e.1.1.1.1.1.1.0.now
+abbrev balancing_leaves : (κs : Lfts 6) → (res_t balance-kinds.r κs).Denot → AtExit (ended_of 6 balance-kinds.ps balance-kinds.r) κs → Balancing
+balancing_leaves κs x e = balancing_of x e.1.1.0.now e.1.1.1.1.1.1.0.now
 
-pub balance-settled : Settles 6 balance-kinds.ps balance-kinds.r Balancing balancingLeaves balance.Post
+pub balance-settled : Settles 6 balance-kinds.ps balance-kinds.r Balancing balancing_leaves balance.Post
 balance-settled κs a x y e f p q = both p q

@@ -4,10 +4,10 @@ use Rattle.rules.specs.Job.{view_of}
 use Rattle.rules.specs.Split.{side_of}
 use Rattle.rules.proofs.Signed.{up, down}
 use Rattle.split.specs.declared.progress.Progress.{Progress}
-use Rattle.tables.specs.Zones.{cellsAt, countsAt, start_in, end_in, cells_of}
+use Rattle.tables.specs.Zones.{cells_at, counts_at, start_in, end_in, cells_of}
 use Rattle.split.specs.Scanning.{Treated, NearVisits, Fits, Ready}
 use Rattle.tables.specs.Ending.{turned}
-use Rattle.split.specs.Moving.{wayTo, treatFrom}
+use Rattle.split.specs.Moving.{way_to, treat_from}
 
 -- |A| and the cut after the move of f are small enough
 pub record Shiftable (sizes sides : List ℕ) (gains : List ℤ) (f : ℕ) (p : Progress) : Type 0 where
@@ -19,17 +19,17 @@ pub record Shiftable (sizes sides : List ℕ) (gains : List ℤ) (f : ℕ) (p : 
 pub record Movable (sizes bounds pins : List ℕ) (f : ℕ) (sides : List ℕ) (y : Treated) : Type 0 where
   -- the lists are as long as the job says, and the job is small
   pub file : f < length sizes
-  pub sidesLong : length sides ≡ length sizes
-  pub gainsLong : length y.scanned.gains ≡ length sizes
-  pub scratchLong : countsAt (length sizes) (length pins) + 4 * (length bounds - 1) ≤ length y.scratch
+  pub sides_long : length sides ≡ length sizes
+  pub gains_long : length y.scanned.gains ≡ length sizes
+  pub scratch_long : counts_at (length sizes) (length pins) + 4 * (length bounds - 1) ≤ length y.scratch
   pub few : (length sizes < 65536) × (length bounds < 65536) × (length pins < 65536)
   -- the file's cells, and its recipes one after the other
   pub order : start_in (length sizes) (length pins) y.scratch f ≤ end_in (length sizes) (length pins) y.scratch f
   pub inside : end_in (length sizes) (length pins) y.scratch f ≤ length pins
   pub ready :
-      Ready (wayTo (length sizes) (length bounds - 1) (length pins) (side_of (turned sides f) f)) (view_of bounds pins)
-      (cellsAt (length sizes) + end_in (length sizes) (length pins) y.scratch f) (cells_of (length sizes) (length pins) y.scratch f) (set y.scratch f 1)
+      Ready (way_to (length sizes) (length bounds - 1) (length pins) (side_of (turned sides f) f)) (view_of bounds pins)
+      (cells_at (length sizes) + end_in (length sizes) (length pins) y.scratch f) (cells_of (length sizes) (length pins) y.scratch f) (set y.scratch f 1)
   pub room : NearVisits y.scanned.gains y.scanned.progress.visits
-  pub fits : Fits (treatFrom sizes bounds pins f sides y).scanned
+  pub fits : Fits (treat_from sizes bounds pins f sides y).scanned
   -- |A| and the cut after it
   pub shift : Shiftable sizes sides y.scanned.gains f y.scanned.progress

@@ -1,7 +1,7 @@
 -- What the code of a move's scans does, on lists. Assumes nothing.
 use Rattle.std.specs.Prelude.{ℕ, ◌+◌, ◌-◌, ◌*◌, ◌≤◌, ◌<◌, ◌^◌, Bool, cond, ◌&&◌, List, [], ◌∷◌, length, get_or, set, eqb, ℤ, pos, ◌+ℤ◌}
-use Rattle.rules.specs.Lists.{allBelow}
-use Rattle.rules.specs.Move.{State, reaches, change, scanPins}
+use Rattle.rules.specs.Lists.{AllBelow}
+use Rattle.rules.specs.Move.{State, reaches, change, scan_pins}
 use Rattle.rules.proofs.Signed.{abs}
 use Rattle.split.specs.declared.progress.Progress.{Progress}
 use Rattle.split.specs.declared.scan.Way.{Way}
@@ -10,16 +10,16 @@ use Rattle.split.specs.declared.scan.Kinds.{Kinds}
 -- ---- one pin, one scan
 
 -- a scan of this kind changes a file with this lock on this side
-abbrev pub changedBy : ℕ → ℕ → ℕ → ℕ → ℕ → Bool
-changedBy lock side there left kind = eqb lock 0 && reaches (eqb side there) (eqb side left) kind
+abbrev pub changed_by : ℕ → ℕ → ℕ → ℕ → ℕ → Bool
+changed_by lock side there left kind = eqb lock 0 && reaches (eqb side there) (eqb side left) kind
 
 -- a file's gain after it
 abbrev pub shifted_by : ℤ → ℕ → ℕ → ℕ → ℕ → ℕ → ℤ
-shifted_by g lock side there left kind = cond (changedBy lock side there left kind) (g +ℤ change kind) g
+shifted_by g lock side there left kind = cond (changed_by lock side there left kind) (g +ℤ change kind) g
 
 -- one scan more, of a recipe with this many files
-unfoldable pub visitedBy : Progress → ℕ → Progress
-visitedBy p len = record {
+unfoldable pub visited_by : Progress → ℕ → Progress
+visited_by p len = record {
   size = p.size;
   cut = p.cut;
   moves = p.moves;
@@ -41,11 +41,11 @@ abbrev pub scanned : List ℤ → List ℕ → List ℕ → Progress → Scanned
 scanned gains recipes kinds p = record { gains = gains; recipes = recipes; kinds = kinds; progress = p }
 
 -- the scan of recipe j, whose files are r, in the state after the move to side t; kind 0 is none
-unfoldable pub scanIf : State → ℕ → ℕ → List ℕ → ℕ → Scanned → Scanned
-scanIf st t j r kind x =
+unfoldable pub scan_if : State → ℕ → ℕ → List ℕ → ℕ → Scanned → Scanned
+scan_if st t j r kind x =
     cond (eqb kind 0) x
-    (scanned (scanPins st t kind r x.gains) (set x.recipes x.progress.scans j) (set x.kinds x.progress.scans kind)
-    (visitedBy x.progress (length r)))
+    (scanned (scan_pins st t kind r x.gains) (set x.recipes x.progress.scans j) (set x.kinds x.progress.scans kind)
+    (visited_by x.progress (length r)))
 
 -- the gains are within the visits made and some more, so a scan's changes fit
 pub record NearVisits (gains : List ℤ) (visits : ℕ) : Type 0 where
@@ -64,15 +64,15 @@ pub record Fits (x : Scanned) : Type 0 where
 -- ---- one recipe
 
 -- a kind by a count of files and of the locked ones among them: k where there is none, the next where there is one and it is free, else 0
-abbrev pub kindBy : ℕ → ℕ → ℕ → ℕ
-kindBy k count locked = cond (eqb count 0) k (cond (eqb count 1 && eqb locked 0) (k + 1) 0)
+abbrev pub kind_by : ℕ → ℕ → ℕ → ℕ
+kind_by k count locked = cond (eqb count 0) k (cond (eqb count 1 && eqb locked 0) (k + 1) 0)
 
 -- kinds 1 and 2 by T, kinds 3 and 4 by F
-abbrev pub kindThere : ℕ → ℕ → ℕ
-kindThere = kindBy 1
+abbrev pub kind_there : ℕ → ℕ → ℕ
+kind_there = kind_by 1
 
-abbrev pub kindLeft : ℕ → ℕ → ℕ
-kindLeft = kindBy 3
+abbrev pub kind_left : ℕ → ℕ → ℕ
+kind_left = kind_by 3
 
 -- what treating a recipe changes
 pub record Treated : Type 0 where
@@ -86,39 +86,39 @@ treated scratch gains recipes kinds p = record { scratch = scratch; scanned = sc
 abbrev pub count_t : Way → ℕ → List ℕ → ℕ
 count_t way j z = get_or z (way.there + j) 0
 
-abbrev pub lockedT : Way → ℕ → List ℕ → ℕ
-lockedT way j z = get_or z (way.there + j + 2 * way.recipes) 0
+abbrev pub locked_t : Way → ℕ → List ℕ → ℕ
+locked_t way j z = get_or z (way.there + j + 2 * way.recipes) 0
 
-abbrev pub countF : Way → ℕ → List ℕ → ℕ
-countF way j z = get_or z (way.left + j) 0 - 1
+abbrev pub count_f : Way → ℕ → List ℕ → ℕ
+count_f way j z = get_or z (way.left + j) 0 - 1
 
-abbrev pub lockedF : Way → ℕ → List ℕ → ℕ
-lockedF way j z = get_or z (way.left + j + 2 * way.recipes) 0
+abbrev pub locked_f : Way → ℕ → List ℕ → ℕ
+locked_f way j z = get_or z (way.left + j + 2 * way.recipes) 0
 
 -- the moved file leaves one side and joins the other, locked
 unfoldable pub recount : Way → ℕ → List ℕ → List ℕ
 recount way j z =
-    set (set (set z (way.left + j) (countF way j z)) (way.there + j) (count_t way j z + 1)) (way.there + j + 2 * way.recipes) (lockedT way j z + 1)
+    set (set (set z (way.left + j) (count_f way j z)) (way.there + j) (count_t way j z + 1)) (way.there + j + 2 * way.recipes) (locked_t way j z + 1)
 
 -- the kinds of its scans
-abbrev pub kindsNow : Way → ℕ → List ℕ → Kinds
-kindsNow way j z = record { first = kindThere (count_t way j z) (lockedT way j z); second = kindLeft (countF way j z) (lockedF way j z) }
+abbrev pub kinds_now : Way → ℕ → List ℕ → Kinds
+kinds_now way j z = record { first = kind_there (count_t way j z) (locked_t way j z); second = kind_left (count_f way j z) (locked_f way j z) }
 
 -- r the files of recipe j
-unfoldable pub treatOne : State → Way → ℕ → List ℕ → Treated → Treated
-treatOne st way j r y =
+unfoldable pub treat_one : State → Way → ℕ → List ℕ → Treated → Treated
+treat_one st way j r y =
     let z = y.scratch in
     record {
       scratch = recount way j z;
       scanned =
-          scanIf st way.side j r (kindLeft (countF way j z) (lockedF way j z))
-          (scanIf st way.side j r (kindThere (count_t way j z) (lockedT way j z)) y.scanned);
+          scan_if st way.side j r (kind_left (count_f way j z) (locked_f way j z))
+          (scan_if st way.side j r (kind_there (count_t way j z) (locked_t way j z)) y.scanned);
     }
 
 -- recipe after recipe
-unfoldable pub treatAll : State → Way → (ℕ → List ℕ) → List ℕ → Treated → Treated
-treatAll st way look [] y = y
-treatAll st way look (j ∷ js) y = treatAll st way look js (treatOne st way j (look j) y)
+unfoldable pub treat_all : State → Way → (ℕ → List ℕ) → List ℕ → Treated → Treated
+treat_all st way look [] y = y
+treat_all st way look (j ∷ js) y = treat_all st way look js (treat_one st way j (look j) y)
 
 -- ---- what makes it safe
 
@@ -133,7 +133,7 @@ pub record Countable (way : Way) (z : List ℕ) (j : ℕ) : Type 0 where
 pub record Treatable (way : Way) (look : ℕ → List ℕ) (e : ℕ) (z : List ℕ) (j : ℕ) : Type 0 where
   pub counts : Countable way z j
   pub above : (e ≤ way.left + j) × (e ≤ way.there + j)
-  pub below : allBelow way.files (look j)
+  pub below : AllBelow way.files (look j)
 
 -- so does each recipe of the list when its turn comes
 pub data Ready (way : Way) (look : ℕ → List ℕ) (e : ℕ) : List ℕ → List ℕ → Type 0 where

@@ -1,8 +1,8 @@
 // Making a balanced start: document 02, order 3. What it has in common with a pass is a pass's code: laying out, turning a file over, treating its recipes.
 ghost use Rattle.std.specs.Prelude.{◌≡◌, min, length};
-ghost use Rattle.rules.specs.Job.{limitsOf};
-ghost use Rattle.rules.specs.Balance.{noBalanceFigures, balancingOf, «balancing»};
-ghost use Rattle.job.specs.Parts.{wholeJob};
+ghost use Rattle.rules.specs.Job.{limits_of};
+ghost use Rattle.rules.specs.Balance.{no_balance_figures, balancing_of, «balancing»};
+ghost use Rattle.job.specs.Parts.{whole_job};
 ghost use Rattle.split.specs.OwnLists.{OwnLists};
 
 use super::from_job::{extent_of, window_of};
@@ -15,7 +15,7 @@ use tables::{ListLengths, MOST_SCANS, end_scans, lay_out};
 
 // A refusal: all other numbers are 0.
 fn none_made(verdict: Verdict) -> BalanceFigures
-    ensures { result ≡ noBalanceFigures verdict }
+    ensures { result ≡ no_balance_figures verdict }
 {
     BalanceFigures {
         verdict,
@@ -41,7 +41,7 @@ fn balance_with(
     scratch: &mut [u16],
 ) -> BalanceFigures
     requires* { do ⌜ OwnLists (← ⟦Job::MOST_FILES⟧) (← ⟦Job::MOST_RECIPES⟧) (length sizes.now) (length gains.old) (length recipes.old) (length kinds.old) ⌝ }
-    ensures* { do ⌜ balancingOf result sides.new scratch.new ≡ «balancing» (limitsOf (← (⟦Job::MOST_FILES⟧).entry) (← (⟦Job::MOST_RECIPES⟧).entry) (← (⟦Job::MOST_PINS⟧).entry) (← (⟦Job::MOST_DEN⟧).entry)) (wholeJob job sizes.now sides.old marks.now bounds.now pins.now) scratch.old ⌝ }
+    ensures* { do ⌜ balancing_of result sides.new scratch.new ≡ «balancing» (limits_of (← (⟦Job::MOST_FILES⟧).entry) (← (⟦Job::MOST_RECIPES⟧).entry) (← (⟦Job::MOST_PINS⟧).entry) (← (⟦Job::MOST_DEN⟧).entry)) (whole_job job sizes.now sides.old marks.now bounds.now pins.now) scratch.old ⌝ }
 {
     let c = sizes.len();
     let lists = ListLengths {
@@ -96,7 +96,7 @@ pub fn balance(
     pins: &[u16],
     scratch: &mut [u16],
 ) -> BalanceFigures
-    ensures* { do ⌜ balancingOf result sides.new scratch.new ≡ «balancing» (limitsOf (← (⟦Job::MOST_FILES⟧).entry) (← (⟦Job::MOST_RECIPES⟧).entry) (← (⟦Job::MOST_PINS⟧).entry) (← (⟦Job::MOST_DEN⟧).entry)) (wholeJob job sizes.now sides.old marks.now bounds.now pins.now) scratch.old ⌝ }
+    ensures* { do ⌜ balancing_of result sides.new scratch.new ≡ «balancing» (limits_of (← (⟦Job::MOST_FILES⟧).entry) (← (⟦Job::MOST_RECIPES⟧).entry) (← (⟦Job::MOST_PINS⟧).entry) (← (⟦Job::MOST_DEN⟧).entry)) (whole_job job sizes.now sides.old marks.now bounds.now pins.now) scratch.old ⌝ }
 {
     let mut gains = [0i32; Job::MOST_FILES];
     let mut recipes = [0u16; MOST_SCANS];

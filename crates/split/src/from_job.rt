@@ -1,10 +1,10 @@
 // What a pass has from its job once that is checked: the balance window and the extent, or the answer of a refusal.
 ghost use Rattle.std.specs.Prelude.{◌≡◌, ◌-◌, ◌*◌, ◌<◌, ◌^◌, length};
-ghost use Rattle.rules.specs.Check.{checkEdition};
-ghost use Rattle.rules.specs.Run.{noFigures};
-ghost use Rattle.job.specs.Parts.{ofFigures};
-ghost use Rattle.tables.specs.Zones.{extentOf};
-ghost use Rattle.choice.specs.Choosing.{windowOf};
+ghost use Rattle.rules.specs.Check.{check_edition};
+ghost use Rattle.rules.specs.Run.{no_figures};
+ghost use Rattle.job.specs.Parts.{of_figures};
+ghost use Rattle.tables.specs.Zones.{extent_of};
+ghost use Rattle.choice.specs.Choosing.{window_of};
 
 use choice::Window;
 use job::{Job, recipe_count, refuse_if};
@@ -13,7 +13,7 @@ use tables::Extent;
 
 // 32 for an edition of the choice that there is not.
 pub(crate) fn check_edition(edition: u16) -> Verdict
-    ensures { result ≡ checkEdition edition }
+    ensures { result ≡ check_edition edition }
 {
     refuse_if(!((edition == 1) | (edition == 2) | (edition == 3)), 32, 0)
 }
@@ -21,7 +21,7 @@ pub(crate) fn check_edition(edition: u16) -> Verdict
 // Den, and typeof.num.W and den times the tolerance.
 pub(crate) fn window_of(job: Job, weight: u64, tolerance: u64) -> Window
     requires { (weight < 2 ^ 32) × (tolerance < 2 ^ 32) }
-    ensures { result ≡ windowOf (ofFigures job) weight tolerance }
+    ensures { result ≡ window_of (of_figures job) weight tolerance }
 {
     Window {
         den: job.den,
@@ -33,7 +33,7 @@ pub(crate) fn window_of(job: Job, weight: u64, tolerance: u64) -> Window
 // C, N and P.
 pub(crate) fn extent_of(c: usize, bounds: &[u16], pins: &[u16]) -> Extent
     requires { (c < 65536) × (length bounds.now < 65536) × (length pins.now < 65536) }
-    ensures { result ≡ extentOf c (length bounds.now - 1) (length pins.now) }
+    ensures { result ≡ extent_of c (length bounds.now - 1) (length pins.now) }
 {
     Extent {
         files: c as u16,
@@ -44,7 +44,7 @@ pub(crate) fn extent_of(c: usize, bounds: &[u16], pins: &[u16]) -> Extent
 
 // A refusal: all other numbers are 0.
 pub fn refused(verdict: Verdict) -> Figures
-    ensures { result ≡ noFigures verdict }
+    ensures { result ≡ no_figures verdict }
 {
     Figures {
         verdict,

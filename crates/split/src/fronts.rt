@@ -1,10 +1,10 @@
 // Edition 2's buckets in the scratch of a pass: entered before the first move, asked for the choice, kept up after each move. By editions 1 and 3 nothing of it is done but the choice.
 ghost use Rattle.std.specs.Prelude.{◌≡◌, ◌&&◌, ◌+◌, ◌-◌, ◌≤◌, ◌<◌, eqb, length, take, drop};
-ghost use Rattle.rules.specs.Lists.{allBelow};
+ghost use Rattle.rules.specs.Lists.{AllBelow};
 ghost use Rattle.rules.specs.Job.{view_of};
 ghost use Rattle.rules.specs.Theorems.{Binary};
-ghost use Rattle.tables.specs.Zones.{stateIn};
-ghost use Rattle.split.specs.Links.{linksAt, linksLong, shape_of, HasLinks, enteredBy, pickedIs, pickedBy, broughtIf, broughtPins, broughtScans, leftIn, followedBy};
+ghost use Rattle.tables.specs.Zones.{state_in};
+ghost use Rattle.split.specs.Links.{links_at, links_long, shape_of, HasLinks, entered_by, picked_is, picked_by, brought_if, brought_pins, brought_scans, left_in, followed_by};
 
 use super::moves::Span;
 use super::scan::is_changed;
@@ -16,7 +16,7 @@ use tables::{Extent, zones_of};
 
 // Where the links begin and end in the scratch: right behind the counts.
 fn links_of(extent: Extent) -> Span
-    ensures { (result.from ≡ linksAt extent.files extent.recipes extent.pins) × (result.to ≡ result.from + linksLong extent.files extent.recipes) }
+    ensures { (result.from ≡ links_at extent.files extent.recipes extent.pins) × (result.to ≡ result.from + links_long extent.files extent.recipes) }
 {
     let zones = zones_of(extent);
     let n = 4 * wide(extent.recipes);
@@ -47,7 +47,7 @@ pub(crate) fn enter_by(
     extent: Extent,
 )
     requires { HasLinks edition extent.files extent.recipes extent.pins scratch.old }
-    ensures { scratch.new ≡ enteredBy edition extent.files extent.recipes extent.pins marks.now sides.now gains.now scratch.old }
+    ensures { scratch.new ≡ entered_by edition extent.files extent.recipes extent.pins marks.now sides.now gains.now scratch.old }
 {
     if edition != 2 {
         return;
@@ -76,7 +76,7 @@ pub(crate) fn choose_by(
     extent: Extent,
 ) -> Best
     requires { HasLinks edition extent.files extent.recipes extent.pins scratch.old }
-    ensures { pickedIs result scratch.new ≡ pickedBy edition extent.files extent.recipes extent.pins window size sizes.now sides.now gains.now scratch.old }
+    ensures { picked_is result scratch.new ≡ picked_by edition extent.files extent.recipes extent.pins window size sizes.now sides.now gains.now scratch.old }
 {
     if edition == 3 {
         return choose_vector(window, size, sizes, sides, gains, scratch, extent);
@@ -109,8 +109,8 @@ fn bring_one(
     extent: Extent,
 )
     requires side_bound { (side ≤ 1) × (length gains.now ≡ extent.files) × (length sides.now ≡ extent.files) × (f < extent.files) }
-    requires recipes_in_bounds { linksAt extent.files extent.recipes extent.pins + linksLong extent.files extent.recipes ≤ length scratch.old }
-    ensures { scratch.new ≡ broughtIf extent.files extent.recipes extent.pins gains.now (stateIn extent.files sides.now scratch.old) side kind scratch.old f }
+    requires recipes_in_bounds { links_at extent.files extent.recipes extent.pins + links_long extent.files extent.recipes ≤ length scratch.old }
+    ensures { scratch.new ≡ brought_if extent.files extent.recipes extent.pins gains.now (state_in extent.files sides.now scratch.old) side kind scratch.old f }
 {
     let i = wide(f);
     let own = sides[i];
@@ -134,9 +134,9 @@ fn bring_pins(
     extent: Extent,
 )
     requires side_bound { (side ≤ 1) × (length gains.now ≡ extent.files) × (length sides.now ≡ extent.files) }
-    requires all_below { allBelow extent.files pins.now }
-    requires recipes_in_bounds { linksAt extent.files extent.recipes extent.pins + linksLong extent.files extent.recipes ≤ length scratch.old }
-    ensures { scratch.new ≡ broughtPins extent.files extent.recipes extent.pins gains.now (stateIn extent.files sides.now scratch.old) side kind pins.now scratch.old }
+    requires all_below { AllBelow extent.files pins.now }
+    requires recipes_in_bounds { links_at extent.files extent.recipes extent.pins + links_long extent.files extent.recipes ≤ length scratch.old }
+    ensures { scratch.new ≡ brought_pins extent.files extent.recipes extent.pins gains.now (state_in extent.files sides.now scratch.old) side kind pins.now scratch.old }
 {
     let mut k = 0;
     while k < pins.len() {
@@ -161,9 +161,9 @@ fn bring_scans(
 )
     requires side_bound { (side ≤ 1) × (length gains.now ≡ extent.files) × (length sides.now ≡ extent.files) }
     requires from_le_to { (from ≤ to) × (to ≤ length recipes.now) × (to ≤ length kinds.now) }
-    requires all_below { allBelow extent.files pins.now }
-    requires recipes_in_bounds { linksAt extent.files extent.recipes extent.pins + linksLong extent.files extent.recipes ≤ length scratch.old }
-    ensures { scratch.new ≡ broughtScans extent.files extent.recipes extent.pins gains.now (stateIn extent.files sides.now scratch.old) side (view_of bounds.now pins.now) (take (to - from) (drop from recipes.now)) (take (to - from) (drop from kinds.now)) scratch.old }
+    requires all_below { AllBelow extent.files pins.now }
+    requires recipes_in_bounds { links_at extent.files extent.recipes extent.pins + links_long extent.files extent.recipes ≤ length scratch.old }
+    ensures { scratch.new ≡ brought_scans extent.files extent.recipes extent.pins gains.now (state_in extent.files sides.now scratch.old) side (view_of bounds.now pins.now) (take (to - from) (drop from recipes.now)) (take (to - from) (drop from kinds.now)) scratch.old }
 {
     let mut i = from;
     while i < to {
@@ -175,8 +175,8 @@ fn bring_scans(
 
 // File f leaves its bucket.
 fn leave(scratch: &mut [u16], f: u16, extent: Extent)
-    requires { linksAt extent.files extent.recipes extent.pins + linksLong extent.files extent.recipes ≤ length scratch.old }
-    ensures { scratch.new ≡ leftIn extent.files extent.recipes extent.pins scratch.old f }
+    requires { links_at extent.files extent.recipes extent.pins + links_long extent.files extent.recipes ≤ length scratch.old }
+    ensures { scratch.new ≡ left_in extent.files extent.recipes extent.pins scratch.old f }
 {
     let at = links_of(extent);
     let from = at.from;
@@ -201,9 +201,9 @@ pub(crate) fn follow_by(
 )
     requires f_lt_files { (f < extent.files) × (length gains.now ≡ extent.files) × (length sides.now ≡ extent.files) }
     requires from_le_to { (from ≤ to) × (to ≤ length recipes.now) × (to ≤ length kinds.now) }
-    requires all_below { allBelow extent.files pins.now × Binary sides.now }
+    requires all_below { AllBelow extent.files pins.now × Binary sides.now }
     requires has_links { HasLinks edition extent.files extent.recipes extent.pins scratch.old }
-    ensures { scratch.new ≡ followedBy edition extent.files extent.recipes extent.pins gains.now sides.now (view_of bounds.now pins.now) (take (to - from) (drop from recipes.now)) (take (to - from) (drop from kinds.now)) f scratch.old }
+    ensures { scratch.new ≡ followed_by edition extent.files extent.recipes extent.pins gains.now sides.now (view_of bounds.now pins.now) (take (to - from) (drop from recipes.now)) (take (to - from) (drop from kinds.now)) f scratch.old }
 {
     if edition != 2 {
         return;

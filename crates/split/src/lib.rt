@@ -7,9 +7,9 @@ mod progress;
 mod scan;
 
 ghost use Rattle.std.specs.Prelude.{◌≡◌};
-ghost use Rattle.rules.specs.Job.{limitsOf, lent_of};
-ghost use Rattle.job.specs.Parts.{wholeJob};
-ghost use Rattle.rules.specs.Run.{ended_of, passEnds};
+ghost use Rattle.rules.specs.Job.{limits_of, lent_of};
+ghost use Rattle.job.specs.Parts.{whole_job};
+ghost use Rattle.rules.specs.Run.{ended_of, pass_ends};
 
 pub use balancing::balance;
 pub use from_job::refused;
@@ -41,7 +41,7 @@ pub fn pass_once(
     kinds: &mut [u16],
     scratch: &mut [u16],
 ) -> Figures
-    ensures* { do ⌜ ended_of result sides.new (lent_of gains.new tried.new gained.new cuts.new ends.new recipes.new kinds.new scratch.new) ≡ passEnds edition (limitsOf (← (⟦Job::MOST_FILES⟧).entry) (← (⟦Job::MOST_RECIPES⟧).entry) (← (⟦Job::MOST_PINS⟧).entry) (← (⟦Job::MOST_DEN⟧).entry)) (wholeJob job sizes.now sides.old marks.now bounds.now pins.now) (lent_of gains.old tried.old gained.old cuts.old ends.old recipes.old kinds.old scratch.old) ⌝ }
+    ensures* { do ⌜ ended_of result sides.new (lent_of gains.new tried.new gained.new cuts.new ends.new recipes.new kinds.new scratch.new) ≡ pass_ends edition (limits_of (← (⟦Job::MOST_FILES⟧).entry) (← (⟦Job::MOST_RECIPES⟧).entry) (← (⟦Job::MOST_PINS⟧).entry) (← (⟦Job::MOST_DEN⟧).entry)) (whole_job job sizes.now sides.old marks.now bounds.now pins.now) (lent_of gains.old tried.old gained.old cuts.old ends.old recipes.old kinds.old scratch.old) ⌝ }
 {
     let known = check_edition(edition);
     if known.number != 0 {

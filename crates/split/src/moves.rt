@@ -1,10 +1,10 @@
 // A move: its file is turned over, locked and its recipes treated.
 ghost use Rattle.std.specs.Prelude.{◌≡◌, ◌+◌, ◌≤◌, ◌<◌, ◌^◌, length};
 ghost use Rattle.rules.proofs.Signed.{up, down};
-ghost use Rattle.tables.specs.Zones.{countsAt};
+ghost use Rattle.tables.specs.Zones.{counts_at};
 ghost use Rattle.split.specs.Scanning.{treated};
 ghost use Rattle.tables.specs.Ending.{turned};
-ghost use Rattle.split.specs.Moving.{cutBy, wayTo, Locked, shift_of, treatFrom};
+ghost use Rattle.split.specs.Moving.{cut_by, way_to, Locked, shift_of, treat_from};
 ghost use Rattle.split.specs.Movable.{Shiftable, Movable};
 
 use super::from_job::extent_of;
@@ -17,7 +17,7 @@ use tables::{Extent, side_at, turn, zones_of};
 // The cut less a gain.
 fn cut_after(cut: usize, gain: i32) -> usize
     requires { (up gain ≤ cut) × (cut + down gain < 2 ^ 32) }
-    ensures { result ≡ cutBy cut gain }
+    ensures { result ≡ cut_by cut gain }
 {
     let after = (cut as i64) - (gain as i64);
     after as usize
@@ -26,7 +26,7 @@ fn cut_after(cut: usize, gain: i32) -> usize
 // The way of a move to this side.
 fn way_to(extent: Extent, side: u16) -> Way
     requires { side ≤ 1 }
-    ensures { result ≡ wayTo extent.files extent.recipes extent.pins side }
+    ensures { result ≡ way_to extent.files extent.recipes extent.pins side }
 {
     Way {
         side,
@@ -46,7 +46,7 @@ pub(crate) struct Span {
 
 // The file is locked; the span of its cells.
 fn lock(scratch: &mut [u16], extent: Extent, f: usize) -> Span
-    requires { (f < extent.files) × (countsAt extent.files extent.pins ≤ length scratch.old) }
+    requires { (f < extent.files) × (counts_at extent.files extent.pins ≤ length scratch.old) }
     ensures { Locked extent.files extent.pins f scratch.old scratch.new result.from result.to }
 {
     let zones = zones_of(extent);
@@ -81,7 +81,7 @@ pub(crate) fn treat_move(
 ) -> Progress
     requires { Movable sizes.now bounds.now pins.now f sides.old (treated scratch.old gains.old recipes.old kinds.old p) }
     ensures sides_after { sides.new ≡ turned sides.old f }
-    ensures result_after { treated scratch.new gains.new recipes.new kinds.new result ≡ treatFrom sizes.now bounds.now pins.now f sides.old (treated scratch.old gains.old recipes.old kinds.old p) }
+    ensures result_after { treated scratch.new gains.new recipes.new kinds.new result ≡ treat_from sizes.now bounds.now pins.now f sides.old (treated scratch.old gains.old recipes.old kinds.old p) }
 {
     let q = shift(sizes, sides, gains, f, p);
     let side = turn(sides, f);

@@ -1,9 +1,9 @@
 // A pass in progress: a small record of numbers, handed in and handed back with each move.
 // `best` moves are the shortest prefix of least cut so far, `least` is its cut and `atbest` its |A|.
 ghost use Rattle.std.specs.Prelude.{◌≡◌, ◌+◌, ◌<◌, ◌^◌};
-ghost use Rattle.split.specs.Scanning.{visitedBy};
-ghost use Rattle.split.specs.Moving.{begun, shiftedTo, countedOn};
-ghost use Rattle.split.specs.Playing.{figuresFrom, balancedFrom};
+ghost use Rattle.split.specs.Scanning.{visited_by};
+ghost use Rattle.split.specs.Moving.{begun, shifted_to, counted_on};
+ghost use Rattle.split.specs.Playing.{figures_from, balanced_from};
 
 use rules::{BalanceFigures, Figures, Verdict};
 use tables::shown;
@@ -38,7 +38,7 @@ impl Progress {
 
     // |A| and the cut after a move.
     pub fn shifted(mut self, size: u64, cut: usize) -> Self
-        ensures { result ≡ shiftedTo self size cut }
+        ensures { result ≡ shifted_to self size cut }
     {
         self.size = size;
         self.cut = cut;
@@ -48,7 +48,7 @@ impl Progress {
     // One scan more, which visits so many files.
     pub fn visited(mut self, len: usize) -> Self
         requires { (self.scans < 2 ^ 63) × (self.visits + len < 2 ^ 63) }
-        ensures { result ≡ visitedBy self len }
+        ensures { result ≡ visited_by self len }
     {
         self.scans += 1;
         self.visits += len as u64;
@@ -58,7 +58,7 @@ impl Progress {
     // One move more: the best prefix so far is the shortest of least cut.
     pub fn counted(mut self) -> Self
         requires { self.moves < 2 ^ 32 }
-        ensures { result ≡ countedOn self }
+        ensures { result ≡ counted_on self }
     {
         self.moves += 1;
         if self.cut < self.least {
@@ -72,7 +72,7 @@ impl Progress {
 
     // The figures of the pass, once its moves have ended; what could not be read is the job's.
     pub fn figures(self, edition: u16, before: usize, unread: usize, holding: usize) -> Figures
-        ensures { result ≡ figuresFrom edition before unread holding self }
+        ensures { result ≡ figures_from edition before unread holding self }
     {
         let verdict = Verdict {
             number: 0,
@@ -93,7 +93,7 @@ impl Progress {
     }
     // The answer of the balancing, once its moves have ended.
     pub fn balanced(self, unread: usize, holding: usize) -> BalanceFigures
-        ensures { result ≡ balancedFrom unread holding self }
+        ensures { result ≡ balanced_from unread holding self }
     {
         let verdict = Verdict {
             number: 0,

@@ -1,11 +1,11 @@
 // The scans of a move: its recipes are treated in rising number, and only a listed scan walks a recipe.
 ghost use Rattle.std.specs.Prelude.{◌≡◌, ◌+◌, ◌-◌, ◌≤◌, ◌<◌, ◌^◌, length, take};
-ghost use Rattle.rules.specs.Lists.{allBelow};
+ghost use Rattle.rules.specs.Lists.{AllBelow};
 ghost use Rattle.rules.specs.Job.{view_of};
-ghost use Rattle.rules.specs.Move.{scanPins};
+ghost use Rattle.rules.specs.Move.{scan_pins};
 ghost use Rattle.rules.proofs.Signed.{abs};
 ghost use Rattle.tables.specs.Zones.{part, state_of};
-ghost use Rattle.split.specs.Scanning.{changedBy, shifted_by, RoomFor, NearVisits, Fits, scanned, scanIf, kindBy, kindsNow, recount, treated, treatAll, Countable, Ready};
+ghost use Rattle.split.specs.Scanning.{changed_by, shifted_by, RoomFor, NearVisits, Fits, scanned, scan_if, kind_by, kinds_now, recount, treated, treat_all, Countable, Ready};
 
 use super::progress::Progress;
 use job::wide;
@@ -30,7 +30,7 @@ pub(crate) struct Kinds {
 
 // Whether a scan of this kind changes a file: it reaches the file on the sides that the kind names, if the file is free.
 pub(crate) fn is_changed(lock: u16, side: u16, there: u16, left: u16, kind: u16) -> bool
-    ensures { result ≡ changedBy lock side there left kind }
+    ensures { result ≡ changed_by lock side there left kind }
 {
     let reached = (kind == 1)
         | (kind == 3)
@@ -56,10 +56,10 @@ fn shifted(g: i32, lock: u16, side: u16, there: u16, left: u16, kind: u16) -> i3
 // One scan over the pins of its recipe, whole: an unread file is locked, so that nothing of it changes. The locks of the files stand at the start of the scratch.
 fn scan_pins(gains: &mut [i32], sides: &[u16], scratch: &[u16], pins: &[u16], way: Way, kind: u16)
     requires side_bound { way.side ≤ 1 }
-    requires all_below { allBelow way.files pins.now }
+    requires all_below { AllBelow way.files pins.now }
     requires gains_len { (length gains.old ≡ way.files) × (length sides.now ≡ way.files) × (way.files ≤ length scratch.now) }
     requires room_for { RoomFor gains.old (length pins.now) }
-    ensures { gains.new ≡ scanPins (state_of sides.now (take way.files scratch.now)) way.side kind pins.now gains.old }
+    ensures { gains.new ≡ scan_pins (state_of sides.now (take way.files scratch.now)) way.side kind pins.now gains.old }
 {
     let there = way.side;
     let left = 1 - there;
@@ -85,11 +85,11 @@ fn scan_if(
     p: Progress,
 ) -> Progress
     requires side_bound { way.side ≤ 1 }
-    requires all_below { allBelow way.files pins.now }
+    requires all_below { AllBelow way.files pins.now }
     requires gains_len { (length gains.old ≡ way.files) × (length sides.now ≡ way.files) × (way.files ≤ length scratch.now) }
     requires near_visits { NearVisits gains.old p.visits }
-    requires fits { Fits (scanIf (state_of sides.now (take way.files scratch.now)) way.side j pins.now kind (scanned gains.old recipes.old kinds.old p)) }
-    ensures { scanned gains.new recipes.new kinds.new result ≡ scanIf (state_of sides.now (take way.files scratch.now)) way.side j pins.now kind (scanned gains.old recipes.old kinds.old p) }
+    requires fits { Fits (scan_if (state_of sides.now (take way.files scratch.now)) way.side j pins.now kind (scanned gains.old recipes.old kinds.old p)) }
+    ensures { scanned gains.new recipes.new kinds.new result ≡ scan_if (state_of sides.now (take way.files scratch.now)) way.side j pins.now kind (scanned gains.old recipes.old kinds.old p) }
 {
     if kind == 0 {
         return p;
@@ -104,7 +104,7 @@ fn scan_if(
 // By a count of files: the first kind where there is none, the next where there is one and it is free, else 0. Kinds 1 and 2 go by T, 3 and 4 by F.
 fn kind_by(first: u16, count: u16, locked: u16) -> u16
     requires { first < 65535 }
-    ensures { result ≡ kindBy first count locked }
+    ensures { result ≡ kind_by first count locked }
 {
     if count == 0 {
         return first;
@@ -121,7 +121,7 @@ fn kind_by(first: u16, count: u16, locked: u16) -> u16
 // The kinds of recipe j's scans by its counts; then the moved file leaves one side and joins the other, locked.
 fn recount_one(scratch: &mut [u16], j: u16, way: Way) -> Kinds
     requires { Countable way scratch.old j }
-    ensures { (result ≡ kindsNow way j scratch.old) × (scratch.new ≡ recount way j scratch.old) }
+    ensures { (result ≡ kinds_now way j scratch.old) × (scratch.new ≡ recount way j scratch.old) }
 {
     let k = j as usize;
     let left = way.left + k;
@@ -159,8 +159,8 @@ pub(crate) fn treat_all(
     requires gains_len { (length gains.old ≡ way.files) × (length sides.now ≡ way.files) × (e ≤ length scratch.old) }
     requires ready { Ready way (view_of bounds.now pins.now) e (part a (e - a) scratch.old) scratch.old }
     requires near_visits { NearVisits gains.old p.visits }
-    requires fits { Fits (treatAll (state_of sides.now (take way.files scratch.old)) way (view_of bounds.now pins.now) (part a (e - a) scratch.old) (treated scratch.old gains.old recipes.old kinds.old p)).scanned }
-    ensures { treated scratch.new gains.new recipes.new kinds.new result ≡ treatAll (state_of sides.now (take way.files scratch.old)) way (view_of bounds.now pins.now) (part a (e - a) scratch.old) (treated scratch.old gains.old recipes.old kinds.old p) }
+    requires fits { Fits (treat_all (state_of sides.now (take way.files scratch.old)) way (view_of bounds.now pins.now) (part a (e - a) scratch.old) (treated scratch.old gains.old recipes.old kinds.old p)).scanned }
+    ensures { treated scratch.new gains.new recipes.new kinds.new result ≡ treat_all (state_of sides.now (take way.files scratch.old)) way (view_of bounds.now pins.now) (part a (e - a) scratch.old) (treated scratch.old gains.old recipes.old kinds.old p) }
 {
     let mut q = p;
     let mut i = a;

@@ -8,8 +8,8 @@ use lib.ListN.{length, get_or, take, drop, set, length-drop}
 use lib.Seq.{take-suc, take-suc-set, get_or-drop}
 use Rattle.rules.specs.declared.Verdict.{Verdict}
 use Rattle.rules.specs.declared.Header.{Header}
-use Rattle.rules.specs.Stored.{block_at, kind_of, valuesIn, blockVerdict}
-use Rattle.stored.specs.Steps.{verdictOf}
+use Rattle.rules.specs.Stored.{block_at, kind_of, values_in, block_verdict}
+use Rattle.stored.specs.Steps.{verdict_of}
 
 -- one byte more of the block is in place
 pub fill_more : (s : List ℕ) (at : ℕ) (block : List ℕ) (i : ℕ) → i < length block → at + i < length s → take i block ≡ take i (drop at s)
@@ -19,6 +19,6 @@ fill_more s at block i h k e =
     rw (add-one, take-suc-set block i (get_or s (at + i) 0) h, take-suc (drop at s) i 0 l, e, get_or-drop at s i 0)
 
 -- the verdict on the block that was filled is that on the block of the bytes
-pub block-told : (h : Header) (bytes : List ℕ) (b : ℕ) {block : List ℕ} {v : Verdict} → block ≡ block_at bytes b → v ≡ verdictOf block b (kind_of h b) (valuesIn h b) → v ≡ blockVerdict h bytes b
-unfolding blockVerdict
-block-told h bytes b q e = e ∙ ap (λ (x : List ℕ). verdictOf x b (kind_of h b) (valuesIn h b)) q
+pub block-told : (h : Header) (bytes : List ℕ) (b : ℕ) {block : List ℕ} {v : Verdict} → block ≡ block_at bytes b → v ≡ verdict_of block b (kind_of h b) (values_in h b) → v ≡ block_verdict h bytes b
+unfolding block_verdict
+block-told h bytes b q e = e ∙ ap (λ (x : List ℕ). verdict_of x b (kind_of h b) (values_in h b)) q

@@ -9,8 +9,8 @@ use mathlib.Core.List.{List, map}
 use lib.ListN.{length, get_or, take, set, length-set}
 use lib.Seq.{take-suc, length-take-le, get_or-set_same, get_or-set_other, ext_get_or}
 use Rattle.rules.specs.Lists.{up_to, onto}
-use Rattle.rules.specs.Stored.{heldIn}
-use Rattle.rules.proofs.Count.{getD-tabled, length-tabled}
+use Rattle.rules.specs.Stored.{held_in}
+use Rattle.rules.proofs.Count.{get_d-tabled, length-tabled}
 use Rattle.rules.proofs.Entries.{onto-length, onto-in, onto-stays, onto-set}
 use Rattle.stored.specs.Steps.{Put, Taken}
 
@@ -57,7 +57,7 @@ spread F m k v h =
     sym (ap₂ F q r)
 
 -- block k is taken too
-pub taken-block : {f g : ℕ → ℕ} {n : ℕ} {old mid new : List ℕ} (m k x : ℕ) → m * k ≤ x → n ≡ heldIn m x k → Taken g (min (m * k) x) old mid → Put f (m * k) n mid new
+pub taken-block : {f g : ℕ → ℕ} {n : ℕ} {old mid new : List ℕ} (m k x : ℕ) → m * k ≤ x → n ≡ held_in m x k → Taken g (min (m * k) x) old mid → Put f (m * k) n mid new
     → ((v : ℕ) → v < m → f v ≡ g (m * k + v)) → Taken g (min (m * (k + 1)) x) old new
 taken-block {f} {g} {n} m k x h e t p s =
     let q : m * (k + 1) ≡ m * k + m = mul-add m k 1 ∙ ap (λ (i : ℕ). m * k + i) (mul-one m) in
@@ -71,7 +71,7 @@ taken-all {g} {n} {old} {new} t h =
     let l : length xs ≡ n = length-tabled g n in
     ext_get_or 0 new (onto xs old) (t.long ∙ sym (onto-length 0 xs old (omega arith)))
     (λ i k. elim (dec_lt i n) [
-      | yes q ↦ t.taken i q ∙ sym (onto-in 0 xs old i (omega arith) ∙ getD-tabled g n i 0 q)
+      | yes q ↦ t.taken i q ∙ sym (onto-in 0 xs old i (omega arith) ∙ get_d-tabled g n i 0 q)
       | no q ↦ t.after i (omega arith) ∙ sym (onto-stays 0 xs old i (omega arith))
     ])
 

@@ -10,66 +10,66 @@ use Rattle.rules.specs.declared.Verdict.{Verdict}
 use Rattle.rules.specs.declared.ReadFigures.{ReadFigures}
 use Rattle.rules.specs.declared.Header.{Header}
 use Rattle.job.specs.declared.Job.{Job as Figures}
-use Rattle.job.specs.Parts.{wholeJob}
+use Rattle.job.specs.Parts.{whole_job}
 use Rattle.rules.specs.Job.{Job, Limits}
-use Rattle.rules.specs.Stored.{Room, headerOf, blockCount, job_of, Reading, written, reading, readVerdict}
-use Rattle.rules.specs.Report.{allRoom, ownLent}
-use Rattle.rules.specs.Writing.{headerFor}
-use Rattle.rules.specs.Theorems.{mostBytes}
+use Rattle.rules.specs.Stored.{Room, header_of, block_count, job_of, Reading, written, reading, read_verdict}
+use Rattle.rules.specs.Report.{all_room, own_lent}
+use Rattle.rules.specs.Writing.{header_for}
+use Rattle.rules.specs.Theorems.{most_bytes}
 use Rattle.rules.proofs.Entries.{onto-least, take-replicate}
 use Rattle.rules.proofs.Reading.{read-files, read-sides, read-marks, read-bounds, read-pins, read-holds, reading-verdict}
 use Rattle.rules.proofs.CutOff.{read_no}
 use Rattle.rules.proofs.RoundTrip.{read_length}
 use Rattle.stored.specs.declared.TakenUp.{TakenUp}
 use Rattle.stored.specs.Room.{lists_of}
-use Rattle.stored.specs.Steps.{figuresIn, first_of, jobTaken, Held}
+use Rattle.stored.specs.Steps.{figures_in, first_of, job_taken, Held}
 use Rattle.stored.proofs.Readings.{first-written}
 
 -- ---- the job in the first entries of the lists
 
-pub figures-whole : (figures : Figures) (h : Header) → (figures.num ≡ h.num) × (figures.den ≡ h.den) × (figures.k ≡ h.k) → figures ≡ figuresIn h
+pub figures-whole : (figures : Figures) (h : Header) → (figures.num ≡ h.num) × (figures.den ≡ h.den) × (figures.k ≡ h.k) → figures ≡ figures_in h
 figures-whole figures h e = λ i. record { num = e.0 i; den = e.1 i; k = e.2 i }
 
 -- the figures of the header are those of the job
-pub first-whole : (h : Header) (lists : Room) (figures : Figures) → figures ≡ figuresIn h
-    → wholeJob figures (take h.files lists.sizes) (take h.files lists.sides) (take h.files lists.marks) (take (h.recipes + 1) lists.bounds) (take h.pins lists.pins)
+pub first-whole : (h : Header) (lists : Room) (figures : Figures) → figures ≡ figures_in h
+    → whole_job figures (take h.files lists.sizes) (take h.files lists.sides) (take h.files lists.marks) (take (h.recipes + 1) lists.bounds) (take h.pins lists.pins)
     ≡ first_of h lists
 first-whole h lists figures e =
-    ap (λ (g : Figures). wholeJob g (take h.files lists.sizes) (take h.files lists.sides) (take h.files lists.marks) (take (h.recipes + 1) lists.bounds) (take h.pins lists.pins)) e
+    ap (λ (g : Figures). whole_job g (take h.files lists.sizes) (take h.files lists.sides) (take h.files lists.marks) (take (h.recipes + 1) lists.bounds) (take h.pins lists.pins)) e
 
 -- lists of a program's own, the gain list cut to the files
-pub own-lent : (most : Limits) (sizes : List ℕ) (n : ℕ) → length sizes ≡ n → n ≤ most.files → ownLent most (take n (replicate most.files (pos 0))) ≡ ownLent most (replicate (length sizes) (pos 0))
-own-lent most sizes n e few = ap (ownLent most) (take-replicate n most.files (pos 0) few ∙ ap (λ (i : ℕ). replicate i (pos 0)) (sym e))
+pub own-lent : (most : Limits) (sizes : List ℕ) (n : ℕ) → length sizes ≡ n → n ≤ most.files → own_lent most (take n (replicate most.files (pos 0))) ≡ own_lent most (replicate (length sizes) (pos 0))
+own-lent most sizes n e few = ap (own_lent most) (take-replicate n most.files (pos 0) few ∙ ap (λ (i : ℕ). replicate i (pos 0)) (sym e))
 
 -- ---- what was read
 
-module _ (most : Limits) (bytes : List ℕ) (t : TakenUp) (e : t.read ≡ (reading most bytes (allRoom most)).answer) (f : lists_of t ≡ (reading most bytes (allRoom most)).room) where
-  pub verdict-read : t.read.verdict ≡ readVerdict most bytes (allRoom most)
-  verdict-read = ap (λ (x : ReadFigures). x.verdict) e ∙ reading-verdict most bytes (allRoom most)
+module _ (most : Limits) (bytes : List ℕ) (t : TakenUp) (e : t.read ≡ (reading most bytes (all_room most)).answer) (f : lists_of t ≡ (reading most bytes (all_room most)).room) where
+  pub verdict-read : t.read.verdict ≡ read_verdict most bytes (all_room most)
+  verdict-read = ap (λ (x : ReadFigures). x.verdict) e ∙ reading-verdict most bytes (all_room most)
 
-  pub number_read : t.read.verdict.number ≡ (readVerdict most bytes (allRoom most)).number
+  pub number_read : t.read.verdict.number ≡ (read_verdict most bytes (all_room most)).number
   number_read = ap (λ (v : Verdict). v.number) verdict-read
 
   module _ (z : t.read.verdict.number ≡ 0) where
-    read : reading most bytes (allRoom most) ≡ record { answer = record { verdict = readVerdict most bytes (allRoom most); header = headerOf bytes }; room = written (job_of bytes) (allRoom most) }
-    read = (read-holds most bytes (allRoom most)).reads (sym number_read ∙ z)
+    read : reading most bytes (all_room most) ≡ record { answer = record { verdict = read_verdict most bytes (all_room most); header = header_of bytes }; room = written (job_of bytes) (all_room most) }
+    read = (read-holds most bytes (all_room most)).reads (sym number_read ∙ z)
 
-    header_read : t.read.header ≡ headerOf bytes
+    header_read : t.read.header ≡ header_of bytes
     header_read = ap (λ (x : ReadFigures). x.header) e ∙ ap (λ (x : Reading). x.answer.header) read
 
-    lists-read : lists_of t ≡ written (job_of bytes) (allRoom most)
+    lists-read : lists_of t ≡ written (job_of bytes) (all_room most)
     lists-read = f ∙ ap (λ (x : Reading). x.room) read
 
-    pub job_read : jobTaken t ≡ job_of bytes
-    job_read = ap₂ first_of header_read lists-read ∙ first-written bytes (allRoom most)
+    pub job_read : job_taken t ≡ job_of bytes
+    job_read = ap₂ first_of header_read lists-read ∙ first-written bytes (all_room most)
 
     -- the input is as long as the job's blocks, and no longer than what the programs take up
-    pub bytes_read : length bytes ≡ 512 * blockCount (headerFor (jobTaken t))
-    bytes_read = read_length most bytes (allRoom most) (sym number_read ∙ z) ∙ ap (λ (j : Job). 512 * blockCount (headerFor j)) (sym job_read)
+    pub bytes_read : length bytes ≡ 512 * block_count (header_for (job_taken t))
+    bytes_read = read_length most bytes (all_room most) (sym number_read ∙ z) ∙ ap (λ (j : Job). 512 * block_count (header_for j)) (sym job_read)
 
-    pub within-read : (k : ℕ) → mostBytes most < k → length bytes ≤ k
+    pub within-read : (k : ℕ) → most_bytes most < k → length bytes ≤ k
     within-read k more = elim (dec_lt k (length bytes)) [
-      | yes long ↦ absurd (read_no most k bytes more long (allRoom most) (sym number_read ∙ z))
+      | yes long ↦ absurd (read_no most k bytes more long (all_room most) (sym number_read ∙ z))
       | no n ↦ omega arith
     ]
 
@@ -77,13 +77,13 @@ module _ (most : Limits) (bytes : List ℕ) (t : TakenUp) (e : t.read ≡ (readi
     pub held-read : Held most t
     held-read =
         let j = job_of bytes in
-        let o = allRoom most in
+        let o = all_room most in
         let h = t.read.header in
-        let files : h.files ≡ (headerOf bytes).files = ap (λ (x : Header). x.files) header_read in
-        let recipes : h.recipes ≡ (headerOf bytes).recipes = ap (λ (x : Header). x.recipes) header_read in
-        let pins : h.pins ≡ (headerOf bytes).pins = ap (λ (x : Header). x.pins) header_read in
+        let files : h.files ≡ (header_of bytes).files = ap (λ (x : Header). x.files) header_read in
+        let recipes : h.recipes ≡ (header_of bytes).recipes = ap (λ (x : Header). x.recipes) header_read in
+        let pins : h.pins ≡ (header_of bytes).pins = ap (λ (x : Header). x.pins) header_read in
         let at : (g : Room → List ℕ) → length (g (lists_of t)) ≡ length (g (written j o)) = λ g. ap (λ (x : Room). length (g x)) lists-read in
-        let s = (read-holds most bytes (allRoom most)).sound (sym number_read ∙ z) in
+        let s = (read-holds most bytes (all_room most)).sound (sym number_read ∙ z) in
         record {
           enough = record {
             sizes = omega (arith, files, at (λ x. x.sizes), onto-least j.sizes o.sizes, read-files bytes);
@@ -92,7 +92,7 @@ module _ (most : Limits) (bytes : List ℕ) (t : TakenUp) (e : t.read ≡ (readi
             bounds = omega (arith, recipes, at (λ x. x.bounds), onto-least j.bounds o.bounds, read-bounds bytes);
             pins = omega (arith, pins, at (λ x. x.pins), onto-least j.pins o.pins, read-pins bytes);
           };
-          fewFiles = omega (arith, files, read-files bytes, s.fewFiles);
-          fewRecipes = omega (arith, recipes, read-bounds bytes, s.fewRecipes);
-          fewPins = omega (arith, pins, read-pins bytes, s.fewPins);
+          few_files = omega (arith, files, read-files bytes, s.few_files);
+          few_recipes = omega (arith, recipes, read-bounds bytes, s.few_recipes);
+          few_pins = omega (arith, pins, read-pins bytes, s.few_pins);
         }

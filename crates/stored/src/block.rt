@@ -1,8 +1,8 @@
 // A block of 512 bytes: filled, then its check and its layout.
 ghost use Rattle.std.specs.Prelude.{◌≡◌, ◌+◌, ◌*◌, ◌≤◌, length};
-ghost use Rattle.rules.specs.Lists.{someBelow};
-ghost use Rattle.rules.specs.Stored.{block_at, kind_of, laidOut, valuesIn};
-ghost use Rattle.stored.specs.Steps.{leftOver, badSecond, verdictOf};
+ghost use Rattle.rules.specs.Lists.{some_below};
+ghost use Rattle.rules.specs.Stored.{block_at, kind_of, laid_out, values_in};
+ghost use Rattle.stored.specs.Steps.{left_over, bad_second, verdict_of};
 
 use job::refuse_if;
 use layout::{check_of, kind_of, value_in, values_in, word_at};
@@ -25,7 +25,7 @@ pub(crate) fn block_at(bytes: &[u8], b: u16) -> [u8; 512]
 
 // Whether a value from n on is not zero.
 fn has_left_over(block: &[u8; 512], n: u8) -> bool
-    ensures { result ≡ someBelow (leftOver block.now n) 253 }
+    ensures { result ≡ some_below (left_over block.now n) 253 }
 {
     let mut v = n;
     while v < 253 {
@@ -39,7 +39,7 @@ fn has_left_over(block: &[u8; 512], n: u8) -> bool
 
 // Whether a file of a block of n values has a second value over 5.
 fn has_bad_second(block: &[u8; 512], n: u8) -> bool
-    ensures { result ≡ someBelow (badSecond block.now n) 126 }
+    ensures { result ≡ some_below (bad_second block.now n) 126 }
 {
     let mut f: u8 = 0;
     while f < 126 {
@@ -52,7 +52,7 @@ fn has_bad_second(block: &[u8; 512], n: u8) -> bool
 }
 
 fn is_laid_out(block: &[u8; 512], b: u16, kind: u8, n: u8) -> bool
-    ensures { result ≡ laidOut block.now b kind n }
+    ensures { result ≡ laid_out block.now b kind n }
 {
     let named = word_at(block, 0) == b;
     let of_kind = block[2] == kind;
@@ -64,7 +64,7 @@ fn is_laid_out(block: &[u8; 512], b: u16, kind: u8, n: u8) -> bool
 
 // 21 or 22, if the block is not block b of its kind and its n values.
 pub(crate) fn block_verdict(block: &[u8; 512], b: u16, kind: u8, n: u8) -> Verdict
-    ensures { result ≡ verdictOf block.now b kind n }
+    ensures { result ≡ verdict_of block.now b kind n }
 {
     let v = refuse_if(word_at(block, 510) != check_of(block), 21, b as usize);
     if v.number != 0 {
@@ -75,7 +75,7 @@ pub(crate) fn block_verdict(block: &[u8; 512], b: u16, kind: u8, n: u8) -> Verdi
 
 // The same of a block past the header, which says what it must be.
 pub(crate) fn further_verdict(block: &[u8; 512], h: Header, b: u16) -> Verdict
-    ensures { result ≡ verdictOf block.now b (kind_of h b) (valuesIn h b) }
+    ensures { result ≡ verdict_of block.now b (kind_of h b) (values_in h b) }
 {
     let kind = kind_of(h, b);
     let n = values_in(h, b);

@@ -1,9 +1,9 @@
 // Blocks taken apart into lists, and lists handed over.
 ghost use Rattle.std.specs.Prelude.{◌≡◌, ◌+◌, ◌-◌, ◌*◌, ◌/◌, ◌%◌, ◌<◌, ◌≤◌, length, take};
 ghost use Rattle.rules.specs.Lists.{onto};
-ghost use Rattle.rules.specs.Stored.{valueIn, headerOf, blocksFor, blockCount, blocksVerdict};
-ghost use Rattle.stored.specs.Room.{roomOf};
-ghost use Rattle.stored.specs.Steps.{Put, Taken, TakenFiles, files_of, Ample, Gathered, storedValue};
+ghost use Rattle.rules.specs.Stored.{value_in, header_of, blocks_for, block_count, blocks_verdict};
+ghost use Rattle.stored.specs.Room.{room_of};
+ghost use Rattle.stored.specs.Steps.{Put, Taken, TakenFiles, files_of, Ample, Gathered, stored_value};
 
 use crate::block::{block_at, further_verdict};
 use job::or_else;
@@ -13,7 +13,7 @@ use rules::{Header, Verdict};
 // The first n values of a block, into the entries from a on.
 fn put_values(block: &[u8; 512], n: u8, into: &mut [u16], a: usize)
     requires { a + n ≤ length into.old }
-    ensures { Put (valueIn block.now) a n into.old into.new }
+    ensures { Put (value_in block.now) a n into.old into.new }
 {
     let mut v: u8 = 0;
     while v < n {
@@ -33,9 +33,9 @@ fn put_files(
     a: usize,
 )
     requires { (n ≤ 126) × (a + n ≤ length sizes.old) × (a + n ≤ length sides.old) × (a + n ≤ length marks.old) }
-    ensures put { Put (λ f. valueIn block.now (2 * f)) a n sizes.old sizes.new }
-    ensures put_2 { Put (λ f. valueIn block.now (2 * f + 1) % 2) a n sides.old sides.new }
-    ensures put_3 { Put (λ f. valueIn block.now (2 * f + 1) / 2) a n marks.old marks.new }
+    ensures put { Put (λ f. value_in block.now (2 * f)) a n sizes.old sizes.new }
+    ensures put_2 { Put (λ f. value_in block.now (2 * f + 1) % 2) a n sides.old sides.new }
+    ensures put_3 { Put (λ f. value_in block.now (2 * f + 1) / 2) a n marks.old marks.new }
 {
     let mut f: u8 = 0;
     while f < n {
@@ -57,10 +57,10 @@ fn take_values(
     x: usize,
     into: &mut [u16],
 ) -> Verdict
-    requires blocks_value { (blocks ≡ blocksFor 253 x) × (first + blocks < 65536) × (512 * (first + blocks) ≤ length bytes.now) }
+    requires blocks_value { (blocks ≡ blocks_for 253 x) × (first + blocks < 65536) × (512 * (first + blocks) ≤ length bytes.now) }
     requires x_in_bounds { x ≤ length into.old }
-    ensures value { result ≡ blocksVerdict h bytes.now first blocks }
-    ensures taken { result.number ≡ 0 → Taken (storedValue bytes.now first) x into.old into.new }
+    ensures value { result ≡ blocks_verdict h bytes.now first blocks }
+    ensures taken { result.number ≡ 0 → Taken (stored_value bytes.now first) x into.old into.new }
 {
     let mut k: u16 = 0;
     while k < blocks {
@@ -88,9 +88,9 @@ fn take_files(
     sides: &mut [u16],
     marks: &mut [u16],
 ) -> Verdict
-    requires blocks_value { (blocks ≡ blocksFor 126 c) × (1 + blocks < 65536) × (512 * (1 + blocks) ≤ length bytes.now) }
+    requires blocks_value { (blocks ≡ blocks_for 126 c) × (1 + blocks < 65536) × (512 * (1 + blocks) ≤ length bytes.now) }
     requires c_in_bounds { (c ≤ length sizes.old) × (c ≤ length sides.old) × (c ≤ length marks.old) }
-    ensures value { result ≡ blocksVerdict h bytes.now 1 blocks }
+    ensures value { result ≡ blocks_verdict h bytes.now 1 blocks }
     ensures taken_files { result.number ≡ 0 → TakenFiles bytes.now c (files_of sizes.old sides.old marks.old) (files_of sizes.new sides.new marks.new) }
 {
     let mut k: u16 = 0;
@@ -126,10 +126,10 @@ pub(crate) fn take_blocks(
     bounds: &mut [u16],
     pins: &mut [u16],
 ) -> Verdict
-    requires h_value { (h ≡ headerOf bytes.now) × (length bytes.now ≡ 512 * blockCount h) }
-    requires ample { Ample h.files h.recipes h.pins (roomOf sizes.old sides.old marks.old bounds.old pins.old) }
-    ensures value { result ≡ blocksVerdict h bytes.now 1 (blockCount h - 1) }
-    ensures gathered { result.number ≡ 0 → Gathered bytes.now h (roomOf sizes.new sides.new marks.new bounds.new pins.new) }
+    requires h_value { (h ≡ header_of bytes.now) × (length bytes.now ≡ 512 * block_count h) }
+    requires ample { Ample h.files h.recipes h.pins (room_of sizes.old sides.old marks.old bounds.old pins.old) }
+    ensures value { result ≡ blocks_verdict h bytes.now 1 (block_count h - 1) }
+    ensures gathered { result.number ≡ 0 → Gathered bytes.now h (room_of sizes.new sides.new marks.new bounds.new pins.new) }
 {
     let c = h.files as usize;
     let n = h.recipes as usize + 1;

@@ -1,9 +1,9 @@
 // Block 0: its check and layout, then the header that it holds, then what follows from that.
 ghost use Rattle.std.specs.Prelude.{◌≡◌};
-ghost use Rattle.rules.specs.Job.{limitsOf};
-ghost use Rattle.rules.specs.Stored.{headerOf, no_header};
-ghost use Rattle.stored.specs.Room.{roomLong};
-ghost use Rattle.stored.specs.Steps.{kIn, headerIn, figuresVerdict, openingVerdict, answerBy, readFigures};
+ghost use Rattle.rules.specs.Job.{limits_of};
+ghost use Rattle.rules.specs.Stored.{header_of, no_header};
+ghost use Rattle.stored.specs.Room.{room_long};
+ghost use Rattle.stored.specs.Steps.{k_in, header_in, figures_verdict, opening_verdict, answer_by, read_figures};
 
 use crate::block::{block_at, block_verdict};
 use job::{Job, bad_k, check_counts, or_else, refuse_if};
@@ -21,7 +21,7 @@ pub(crate) struct Lengths {
 }
 
 pub(crate) fn refused(verdict: Verdict) -> ReadFigures
-    ensures { result ≡ readFigures verdict no_header }
+    ensures { result ≡ read_figures verdict no_header }
 {
     let header = Header {
         files: 0,
@@ -37,7 +37,7 @@ pub(crate) fn refused(verdict: Verdict) -> ReadFigures
 
 // The header's figures, where the verdict lets through.
 pub(crate) fn answer_by(verdict: Verdict, header: Header) -> ReadFigures
-    ensures { result ≡ answerBy verdict header }
+    ensures { result ≡ answer_by verdict header }
 {
     if verdict.number != 0 {
         return refused(verdict);
@@ -47,7 +47,7 @@ pub(crate) fn answer_by(verdict: Verdict, header: Header) -> ReadFigures
 
 // A header with six values means k = 1, one with seven carries k: document 02, order 6.
 fn k_in(block: &[u8; 512]) -> u16
-    ensures { result ≡ kIn block.now }
+    ensures { result ≡ k_in block.now }
 {
     if block[3] == 7 {
         return value_in(block, 6);
@@ -57,7 +57,7 @@ fn k_in(block: &[u8; 512]) -> u16
 
 // The values of block 0.
 fn header_in(block: &[u8; 512]) -> Header
-    ensures { result ≡ headerIn block.now }
+    ensures { result ≡ header_in block.now }
 {
     let files = value_in(block, 0);
     let recipes = value_in(block, 1);
@@ -79,7 +79,7 @@ fn header_in(block: &[u8; 512]) -> Header
 
 // 22 for a k that is none, 23 for a cap, then 1 to 3, of the header's figures.
 fn figures_verdict(h: Header, lent: Lengths) -> Verdict
-    ensures* { do ⌜ result ≡ figuresVerdict (limitsOf (← (⟦Job::MOST_FILES⟧).entry) (← (⟦Job::MOST_RECIPES⟧).entry) (← (⟦Job::MOST_PINS⟧).entry) (← (⟦Job::MOST_DEN⟧).entry)) h (roomLong lent) ⌝ }
+    ensures* { do ⌜ result ≡ figures_verdict (limits_of (← (⟦Job::MOST_FILES⟧).entry) (← (⟦Job::MOST_RECIPES⟧).entry) (← (⟦Job::MOST_PINS⟧).entry) (← (⟦Job::MOST_DEN⟧).entry)) h (room_long lent) ⌝ }
 {
     let files = h.files as usize;
     let recipes = h.recipes as usize;
@@ -98,7 +98,7 @@ fn figures_verdict(h: Header, lent: Lengths) -> Verdict
 
 // Block 0, filled, checked and then taken apart; its k is looked at first, since the count of its values goes by it. Then k, the cap, 1 to 3 and the total length by its header.
 pub(crate) fn opening(bytes: &[u8], lent: Lengths) -> ReadFigures
-    ensures* { do ⌜ result ≡ answerBy (openingVerdict (limitsOf (← (⟦Job::MOST_FILES⟧).entry) (← (⟦Job::MOST_RECIPES⟧).entry) (← (⟦Job::MOST_PINS⟧).entry) (← (⟦Job::MOST_DEN⟧).entry)) bytes.now (roomLong lent)) (headerOf bytes.now) ⌝ }
+    ensures* { do ⌜ result ≡ answer_by (opening_verdict (limits_of (← (⟦Job::MOST_FILES⟧).entry) (← (⟦Job::MOST_RECIPES⟧).entry) (← (⟦Job::MOST_PINS⟧).entry) (← (⟦Job::MOST_DEN⟧).entry)) bytes.now (room_long lent)) (header_of bytes.now) ⌝ }
 {
     if bytes.len() < 512 {
         return refused(refuse_if(true, 20, 0));

@@ -4,11 +4,11 @@ mod entries;
 mod header;
 
 ghost use Rattle.std.specs.Prelude.{◌≡◌};
-ghost use Rattle.rules.specs.Job.{limitsOf};
-ghost use Rattle.rules.specs.Check.{checkContents};
+ghost use Rattle.rules.specs.Job.{limits_of};
+ghost use Rattle.rules.specs.Check.{check_contents};
 ghost use Rattle.rules.specs.Stored.{reading};
-ghost use Rattle.stored.specs.Room.{roomOf, roomLong, takingUp, lists_of};
-ghost use Rattle.stored.specs.Steps.{figuresIn, Allowed, Ample, Gathered, first_of};
+ghost use Rattle.stored.specs.Room.{room_of, room_long, taking_up, lists_of};
+ghost use Rattle.stored.specs.Steps.{figures_in, Allowed, Ample, Gathered, first_of};
 
 use entries::{hand_over, take_blocks};
 use header::{Lengths, answer_by, opening, refused};
@@ -28,7 +28,7 @@ pub struct TakenUp {
 
 // The figures of a stored job.
 pub fn figures_of(h: Header) -> Job
-    ensures { result ≡ figuresIn h }
+    ensures { result ≡ figures_in h }
 {
     Job::new(h.num, h.den, h.k)
 }
@@ -42,9 +42,9 @@ fn sound_verdict(
     bounds: &[u16],
     pins: &[u16],
 ) -> Verdict
-    requires* fact { do ⌜ Allowed (limitsOf (← ⟦Job::MOST_FILES⟧) (← ⟦Job::MOST_RECIPES⟧) (← ⟦Job::MOST_PINS⟧) (← ⟦Job::MOST_DEN⟧)) h ⌝ }
-    requires ample { Ample h.files h.recipes h.pins (roomOf sizes.now sides.now marks.now bounds.now pins.now) }
-    ensures { result ≡ checkContents (first_of h (roomOf sizes.now sides.now marks.now bounds.now pins.now)) }
+    requires* fact { do ⌜ Allowed (limits_of (← ⟦Job::MOST_FILES⟧) (← ⟦Job::MOST_RECIPES⟧) (← ⟦Job::MOST_PINS⟧) (← ⟦Job::MOST_DEN⟧)) h ⌝ }
+    requires ample { Ample h.files h.recipes h.pins (room_of sizes.now sides.now marks.now bounds.now pins.now) }
+    ensures { result ≡ check_contents (first_of h (room_of sizes.now sides.now marks.now bounds.now pins.now)) }
 {
     let figures = figures_of(h);
     let c = h.files as usize;
@@ -71,9 +71,9 @@ fn take_job(
     bounds: &mut [u16],
     pins: &mut [u16],
 ) -> ReadFigures
-    requires* { do ⌜ Ample (← ⟦Job::MOST_FILES⟧) (← ⟦Job::MOST_RECIPES⟧) (← ⟦Job::MOST_PINS⟧) (roomOf sizes.old sides.old marks.old bounds.old pins.old) ⌝ }
-    ensures* result_value { do ⌜ result ≡ (reading (limitsOf (← (⟦Job::MOST_FILES⟧).entry) (← (⟦Job::MOST_RECIPES⟧).entry) (← (⟦Job::MOST_PINS⟧).entry) (← (⟦Job::MOST_DEN⟧).entry)) bytes.now (roomLong lent)).answer ⌝ }
-    ensures gathered { result.verdict.number ≡ 0 → Gathered bytes.now result.header (roomOf sizes.new sides.new marks.new bounds.new pins.new) }
+    requires* { do ⌜ Ample (← ⟦Job::MOST_FILES⟧) (← ⟦Job::MOST_RECIPES⟧) (← ⟦Job::MOST_PINS⟧) (room_of sizes.old sides.old marks.old bounds.old pins.old) ⌝ }
+    ensures* result_value { do ⌜ result ≡ (reading (limits_of (← (⟦Job::MOST_FILES⟧).entry) (← (⟦Job::MOST_RECIPES⟧).entry) (← (⟦Job::MOST_PINS⟧).entry) (← (⟦Job::MOST_DEN⟧).entry)) bytes.now (room_long lent)).answer ⌝ }
+    ensures gathered { result.verdict.number ≡ 0 → Gathered bytes.now result.header (room_of sizes.new sides.new marks.new bounds.new pins.new) }
 {
     let opened = opening(bytes, lent);
     if opened.verdict.number != 0 {
@@ -99,8 +99,8 @@ pub fn read(
     bounds: &mut [u16],
     pins: &mut [u16],
 ) -> ReadFigures
-    ensures* result_value { do ⌜ result ≡ (reading (limitsOf (← (⟦Job::MOST_FILES⟧).entry) (← (⟦Job::MOST_RECIPES⟧).entry) (← (⟦Job::MOST_PINS⟧).entry) (← (⟦Job::MOST_DEN⟧).entry)) bytes.now (roomOf sizes.old sides.old marks.old bounds.old pins.old)).answer ⌝ }
-    ensures* pins_after { do ⌜ roomOf sizes.new sides.new marks.new bounds.new pins.new ≡ (reading (limitsOf (← (⟦Job::MOST_FILES⟧).entry) (← (⟦Job::MOST_RECIPES⟧).entry) (← (⟦Job::MOST_PINS⟧).entry) (← (⟦Job::MOST_DEN⟧).entry)) bytes.now (roomOf sizes.old sides.old marks.old bounds.old pins.old)).room ⌝ }
+    ensures* result_value { do ⌜ result ≡ (reading (limits_of (← (⟦Job::MOST_FILES⟧).entry) (← (⟦Job::MOST_RECIPES⟧).entry) (← (⟦Job::MOST_PINS⟧).entry) (← (⟦Job::MOST_DEN⟧).entry)) bytes.now (room_of sizes.old sides.old marks.old bounds.old pins.old)).answer ⌝ }
+    ensures* pins_after { do ⌜ room_of sizes.new sides.new marks.new bounds.new pins.new ≡ (reading (limits_of (← (⟦Job::MOST_FILES⟧).entry) (← (⟦Job::MOST_RECIPES⟧).entry) (← (⟦Job::MOST_PINS⟧).entry) (← (⟦Job::MOST_DEN⟧).entry)) bytes.now (room_of sizes.old sides.old marks.old bounds.old pins.old)).room ⌝ }
 {
     let lent = Lengths {
         sizes: sizes.len(),
@@ -140,8 +140,8 @@ pub fn read(
 
 // A stored job, read into lists of its own: the answer and the lists are those of the reading, for every input.
 pub fn take_up(bytes: &[u8]) -> TakenUp
-    ensures* read_value { do ⌜ result.read ≡ (takingUp (limitsOf (← (⟦Job::MOST_FILES⟧).entry) (← (⟦Job::MOST_RECIPES⟧).entry) (← (⟦Job::MOST_PINS⟧).entry) (← (⟦Job::MOST_DEN⟧).entry)) bytes.now).answer ⌝ }
-    ensures* result_value { do ⌜ lists_of result ≡ (takingUp (limitsOf (← (⟦Job::MOST_FILES⟧).entry) (← (⟦Job::MOST_RECIPES⟧).entry) (← (⟦Job::MOST_PINS⟧).entry) (← (⟦Job::MOST_DEN⟧).entry)) bytes.now).room ⌝ }
+    ensures* read_value { do ⌜ result.read ≡ (taking_up (limits_of (← (⟦Job::MOST_FILES⟧).entry) (← (⟦Job::MOST_RECIPES⟧).entry) (← (⟦Job::MOST_PINS⟧).entry) (← (⟦Job::MOST_DEN⟧).entry)) bytes.now).answer ⌝ }
+    ensures* result_value { do ⌜ lists_of result ≡ (taking_up (limits_of (← (⟦Job::MOST_FILES⟧).entry) (← (⟦Job::MOST_RECIPES⟧).entry) (← (⟦Job::MOST_PINS⟧).entry) (← (⟦Job::MOST_DEN⟧).entry)) bytes.now).room ⌝ }
 {
     let mut sizes = [0u16; Job::MOST_FILES];
     let mut sides = [0u16; Job::MOST_FILES];

@@ -9,19 +9,19 @@ use lib.ListN.{length, replicate, length-replicate}
 use lib.IntN.{ℤ, pos}
 use borrow.Author.Tests.{eq-eqb, ne_eqb}
 use Rattle.rules.specs.declared.Verdict.{Verdict}
-use Rattle.rules.specs.Job.{Job, Limits, fileCount, recipeCount, pinCount, views, recipes, Lent, lent_of, fits}
-use Rattle.rules.specs.Split.{weight, tolerance, cut, sizeA, unreadFiles, unreadRecipes}
-use Rattle.rules.specs.Check.{◌orElse◌, checkSound, checkGoal}
+use Rattle.rules.specs.Job.{Job, Limits, file_count, recipe_count, pin_count, views, recipes, Lent, lent_of, fits}
+use Rattle.rules.specs.Split.{weight, tolerance, cut, size_a, unread_files, unread_recipes}
+use Rattle.rules.specs.Check.{◌or_else◌, check_sound, check_goal}
 use Rattle.rules.specs.Theorems.{Binary, Sound}
 use Rattle.rules.proofs.Fits.{numbers-least, LongEnough, long-enough}
 use Rattle.rules.proofs.SoundJob.{ratio-pass, goal-pass, sound, views-distinct}
 use Rattle.rules.proofs.Verdicts.{zero_of, passes-both}
 use Rattle.rules.proofs.Proved.{lent-sound}
 use Rattle.job.specs.declared.figures.Survey.{Survey}
-use Rattle.job.specs.Survey.{checkFor, surveyOf}
-use Rattle.job.specs.Totals.{startFor}
+use Rattle.job.specs.Survey.{check_for, survey_of}
+use Rattle.job.specs.Totals.{start_for}
 use Rattle.job.proofs.Whole.{start-last}
-use Rattle.tables.specs.Zones.{countsAt}
+use Rattle.tables.specs.Zones.{counts_at}
 use Rattle.tables.specs.Building.{Buildable}
 use Rattle.tables.specs.declared.lent.ListLengths.{ListLengths}
 use Rattle.tables.specs.LentFits.{fits_of, WordOn}
@@ -38,50 +38,50 @@ pub record Narrow (most : Limits) : Type 0 where
 -- ---- the survey's fields
 
 module _ (balancing : Bool) (most : Limits) (job : Job) (word : Bool) where
-  pub verdict-is : (surveyOf balancing most job word).verdict ≡ checkFor balancing most job word
-  unfolding surveyOf
-  verdict-is = elim (ℕ_discrete (checkFor balancing most job word).number 0) [
-    | yes e ↦ rw (eq-eqb (checkFor balancing most job word).number 0 e, surveyOf)
-    | no n ↦ rw (ne_eqb (checkFor balancing most job word).number 0 n, surveyOf)
+  pub verdict-is : (survey_of balancing most job word).verdict ≡ check_for balancing most job word
+  unfolding survey_of
+  verdict-is = elim (ℕ_discrete (check_for balancing most job word).number 0) [
+    | yes e ↦ rw (eq-eqb (check_for balancing most job word).number 0 e, survey_of)
+    | no n ↦ rw (ne_eqb (check_for balancing most job word).number 0 n, survey_of)
   ]
 
-  pub survey-is : (checkFor balancing most job word).number ≡ 0
-      → surveyOf balancing most job word ≡ record { verdict = checkFor balancing most job word; weight = weight job; tolerance = tolerance job; size = sizeA job job.sides; cut = cut job.sides (recipes job); unread = unreadFiles job; holding = unreadRecipes job }
-  unfolding surveyOf
-  survey-is e = rw (eq-eqb (checkFor balancing most job word).number 0 e, surveyOf)
+  pub survey-is : (check_for balancing most job word).number ≡ 0
+      → survey_of balancing most job word ≡ record { verdict = check_for balancing most job word; weight = weight job; tolerance = tolerance job; size = size_a job job.sides; cut = cut job.sides (recipes job); unread = unread_files job; holding = unread_recipes job }
+  unfolding survey_of
+  survey-is e = rw (eq-eqb (check_for balancing most job word).number 0 e, survey_of)
 
   -- where it lets through, so do 1 to 6
-  pub let_through : {s : Survey} → s ≡ surveyOf balancing most job word → s.verdict.number ≡ 0 → (checkSound most job word).number ≡ 0
+  pub let_through : {s : Survey} → s ≡ survey_of balancing most job word → s.verdict.number ≡ 0 → (check_sound most job word).number ≡ 0
   let_through e z =
-      (passes-both (checkSound most job word) (checkGoal most job or_else startFor balancing job)
+      (passes-both (check_sound most job word) (check_goal most job or_else start_for balancing job)
       (zero_of (ap (λ (x : Survey). x.verdict) e ∙ verdict-is ∙ start-last balancing most job word) z)).0
 
   -- and 7: k is 1 to 4
-  pub wide-through : (checkFor balancing most job word).number ≡ 0 → (1 ≤ job.k) × (job.k ≤ 4)
+  pub wide-through : (check_for balancing most job word).number ≡ 0 → (1 ≤ job.k) × (job.k ≤ 4)
   wide-through z =
-      let later = (passes-both (checkSound most job word) (checkGoal most job or_else startFor balancing job) (zero_of (start-last balancing most job word) z)).1 in
-      (ratio-pass most job (goal-pass most job (passes-both (checkGoal most job) (startFor balancing job) later).0).0).1
+      let later = (passes-both (check_sound most job word) (check_goal most job or_else start_for balancing job) (zero_of (start-last balancing most job word) z)).1 in
+      (ratio-pass most job (goal-pass most job (passes-both (check_goal most job) (start_for balancing job) later).0).0).1
 
 -- any word that is right for a job within its limits has one answer
-pub survey-late : (balancing : Bool) (most : Limits) (job : Job) (a b : Bool) → WordOn most.files most.recipes most.pins (fileCount job) (recipeCount job) (pinCount job) a b
-    → surveyOf balancing most job a ≡ surveyOf balancing most job b
-unfolding surveyOf
+pub survey-late : (balancing : Bool) (most : Limits) (job : Job) (a b : Bool) → WordOn most.files most.recipes most.pins (file_count job) (recipe_count job) (pin_count job) a b
+    → survey_of balancing most job a ≡ survey_of balancing most job b
+unfolding survey_of
 survey-late balancing most job a b h =
     let w = word-late balancing most job a b h in
-    let number : (checkFor balancing most job a).number ≡ (checkFor balancing most job b).number = ap (λ (v : Verdict). v.number) w in
-    elim (ℕ_discrete (checkFor balancing most job a).number 0) [
-      | yes e ↦ rw (eq-eqb (checkFor balancing most job a).number 0 e, eq-eqb (checkFor balancing most job b).number 0 (sym number ∙ e), surveyOf, w)
-      | no n ↦ rw (ne_eqb (checkFor balancing most job a).number 0 n, ne_eqb (checkFor balancing most job b).number 0 (λ e. n (number ∙ e)), surveyOf, w)
+    let number : (check_for balancing most job a).number ≡ (check_for balancing most job b).number = ap (λ (v : Verdict). v.number) w in
+    elim (ℕ_discrete (check_for balancing most job a).number 0) [
+      | yes e ↦ rw (eq-eqb (check_for balancing most job a).number 0 e, eq-eqb (check_for balancing most job b).number 0 (sym number ∙ e), survey_of, w)
+      | no n ↦ rw (ne_eqb (check_for balancing most job a).number 0 n, ne_eqb (check_for balancing most job b).number 0 (λ e. n (number ∙ e)), survey_of, w)
     ]
 
 -- s is the survey's answer, told whether the lent lists fit
 pub record Surveyed (balancing : Bool) (most : Limits) (job : Job) (word : Bool) (s : Survey) : Type 0 where
   pub narrow : Narrow most
-  pub answered : s ≡ surveyOf balancing most job word
+  pub answered : s ≡ survey_of balancing most job word
 
 -- from what the steps before it promise
 pub surveyed : {s : Survey} (balancing : Bool) (most : Limits) (job : Job) (a b : Bool) → Narrow most
-    → WordOn most.files most.recipes most.pins (fileCount job) (recipeCount job) (pinCount job) a b → s ≡ surveyOf balancing most job a → Surveyed balancing most job b s
+    → WordOn most.files most.recipes most.pins (file_count job) (recipe_count job) (pin_count job) a b → s ≡ survey_of balancing most job a → Surveyed balancing most job b s
 surveyed balancing most job a b n h e = record { narrow = n; answered = e ∙ survey-late balancing most job a b h }
 
 -- ---- what the builders ask
@@ -89,40 +89,40 @@ surveyed balancing most job a b n h e = record { narrow = n; answered = e ∙ su
 pub buildable : {most : Limits} {job : Job} → Narrow most → Sound most job → Buildable job.bounds job.pins (length job.sides)
 unfolding views
 buildable {most} {job} n s =
-    subst (λ (c : ℕ). Buildable job.bounds job.pins c) (sym s.sidesLong) (record {
+    subst (λ (c : ℕ). Buildable job.bounds job.pins c) (sym s.sides_long) (record {
       first = s.first;
       rise = λ j h. omega (arith, s.two j h);
       last = s.last;
-      files = s.pinsBelow;
+      files = s.pins_below;
       distinct = views-distinct most job s;
-      fewFiles = omega (arith, s.fewFiles, n.files);
-      fewPins = omega (arith, s.fewPins, n.pins);
-      fewRecipes = omega (arith, s.fewRecipes, n.recipes);
+      few_files = omega (arith, s.few_files, n.files);
+      few_pins = omega (arith, s.few_pins, n.pins);
+      few_recipes = omega (arith, s.few_recipes, n.recipes);
     })
 
 -- of six of the lent lists only the lengths are told
 module _ (edition : ℕ) (job : Job) (gains : List ℤ) (z : List ℕ) (l : ListLengths) where
-  abbrev pub fitWord : Bool
-  fitWord = fits_of edition (fileCount job) (recipeCount job) (pinCount job) (length gains) (length z) l
+  abbrev pub fit_word : Bool
+  fit_word = fits_of edition (file_count job) (recipe_count job) (pin_count job) (length gains) (length z) l
 
   -- some lists of these lengths
   abbrev some : Lent
   some =
       lent_of gains (replicate l.tried 0) (replicate l.gained (pos 0)) (replicate l.cuts 0) (replicate l.ends 0) (replicate l.recipes 0) (replicate l.kinds 0) z
 
-  some_fit : fits edition job some ≡ fitWord
+  some_fit : fits edition job some ≡ fit_word
   some_fit = rw (length-replicate {A = ℕ} l.tried 0, length-replicate l.gained (pos 0), length-replicate {A = ℕ} l.cuts 0, length-replicate {A = ℕ} l.ends 0, length-replicate {A = ℕ} l.recipes 0, length-replicate {A = ℕ} l.kinds 0) refl
 
-  pub builders-ask : (most : Limits) → Narrow most → (checkSound most job fitWord).number ≡ 0
+  pub builders-ask : (most : Limits) → Narrow most → (check_sound most job fit_word).number ≡ 0
       → Buildable job.bounds job.pins (length job.sides)
       × (((length gains ≡ length job.sides) × (length job.marks ≡ length job.sides))
-      × ((countsAt (length job.sides) (pinCount job) + 4 * recipeCount job ≤ length z) × Binary job.sides))
+      × ((counts_at (length job.sides) (pin_count job) + 4 * recipe_count job ≤ length z) × Binary job.sides))
   builders-ask most n ok =
-      let s = sound most job fitWord ok in
-      let r : LongEnough edition job some = long-enough edition job some (some_fit ∙ lent-sound most job fitWord ok) in (
+      let s = sound most job fit_word ok in
+      let r : LongEnough edition job some = long-enough edition job some (some_fit ∙ lent-sound most job fit_word ok) in (
         buildable n s,
         (
-          (r.gains ∙ sym s.sidesLong, s.marksLong ∙ sym s.sidesLong),
-          (omega (arith, r.scratch, numbers-least edition (pinCount job) (fileCount job) (recipeCount job), s.sidesLong), s.binary),
+          (r.gains ∙ sym s.sides_long, s.marks_long ∙ sym s.sides_long),
+          (omega (arith, r.scratch, numbers-least edition (pin_count job) (file_count job) (recipe_count job), s.sides_long), s.binary),
         ),
       )

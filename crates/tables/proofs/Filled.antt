@@ -11,7 +11,7 @@ use lib.Seq.{get_or-set_same, get_or-set_other, ext_get_or}
 use borrow.Author.Count.{below_more}
 use borrow.Author.Tests.{ltb-false, leb-true, le-ltb, le-leb}
 use Rattle.rules.proofs.Tests.{clash, or_no, and_yes, contra}
-use Rattle.tables.specs.Clearing.{cleared, clearedIn}
+use Rattle.tables.specs.Clearing.{cleared, cleared_in}
 
 -- ---- entries made one value
 
@@ -22,10 +22,10 @@ places-in a b n e =
     (ltb-false b a p.0, ltb-false n b p.1)
 
 module _ {A : Type 0} (a b : ℕ) (v : A) (xs : List A) where
-  pub cleared-in : a ≤ b → b ≤ length xs → clearedIn a b v xs ≡ cleared a b v xs
+  pub cleared-in : a ≤ b → b ≤ length xs → cleared_in a b v xs ≡ cleared a b v xs
   cleared-in h k = rw (le-leb a b h, le-leb b (length xs) k) refl
 
-  pub cleared-out : (ltb b a || ltb (length xs) b) ≡ true → xs ≡ clearedIn a b v xs
+  pub cleared-out : (ltb b a || ltb (length xs) b) ≡ true → xs ≡ cleared_in a b v xs
   cleared-out e =
       let none : (leb a b && leb b (length xs)) ≡ false = contra (leb a b && leb b (length xs)) (λ t.
       let p = and_yes (leb a b) (leb b (length xs)) t in
@@ -79,11 +79,11 @@ module _ {A : Type 0} where
             ∙ ap₂ (λ (i j : ℕ). take a old ++ (replicate i v ++ drop j old)) n (ap suc e ∙ sym (add-one k));
       }
 
-  pub clearing-all : {v : A} {a : ℕ} {old : List A} {k to : ℕ} {xs : List A} → k ≡ to → to ≤ length old → Clearing v a old k xs → xs ≡ clearedIn a to v old
+  pub clearing-all : {v : A} {a : ℕ} {old : List A} {k to : ℕ} {xs : List A} → k ≡ to → to ≤ length old → Clearing v a old k xs → xs ≡ cleared_in a to v old
   clearing-all {v} {a} {old} {k} {to} e h f = f.holds ∙ ap (λ (k : ℕ). cleared a k v old) e ∙ sym (cleared-in a to v old (omega (arith, f.from)) h)
 
   -- a list cleared whole, and up to n
-  pub cleared-all : (v : A) (old : List A) → clearedIn 0 (length old) v old ≡ replicate (length old) v
+  pub cleared-all : (v : A) (old : List A) → cleared_in 0 (length old) v old ≡ replicate (length old) v
   cleared-all v old =
       let e : length old - 0 ≡ length old = omega arith in
       let l : length old ≤ length old = omega arith in

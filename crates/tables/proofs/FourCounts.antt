@@ -7,38 +7,38 @@ use native.Mathlib.Omega.{arith}
 use lib.ListN.{length, get_or, set, length-set}
 use lib.Seq.{get_or-set_other}
 use borrow.Author.Count.{below_more}
-use Rattle.rules.specs.Split.{countOn}
+use Rattle.rules.specs.Split.{count_on}
 use Rattle.rules.specs.Move.{State}
-use Rattle.rules.specs.Move.{lockedOn}
-use Rattle.tables.specs.Zones.{sideAt, CountsOf, Counts}
-use Rattle.tables.specs.Counting.{countedSide, counted}
+use Rattle.rules.specs.Move.{locked_on}
+use Rattle.tables.specs.Zones.{side_at, CountsOf, Counts}
+use Rattle.tables.specs.Counting.{counted_side, counted}
 use Rattle.tables.proofs.Parts.{at_set}
 
 -- ---- one side of a recipe
 
 module _ (st : State) (n u i : ℕ) (r z : List ℕ) where
   abbrev one : List ℕ
-  one = set z i (countOn st.sides u r)
+  one = set z i (count_on st.sides u r)
 
-  side-long : length (countedSide st n u i r z) ≡ length z
+  side-long : length (counted_side st n u i r z) ≡ length z
   side-long = length-set one (i + 2 * n) _ ∙ length-set z i _
 
   -- every other place stays
-  side-off : (k : ℕ) → k ≢ i → k ≢ i + 2 * n → get_or (countedSide st n u i r z) k 0 ≡ get_or z k 0
+  side-off : (k : ℕ) → k ≢ i → k ≢ i + 2 * n → get_or (counted_side st n u i r z) k 0 ≡ get_or z k 0
   side-off k a b = get_or-set_other one (i + 2 * n) k _ 0 b ∙ get_or-set_other z i k _ 0 a
 
   module _ (some : 0 < n) (h : i + 2 * n < length z) where
-    side-on : (k : ℕ) → k ≡ i → get_or (countedSide st n u i r z) k 0 ≡ countOn st.sides u r
+    side-on : (k : ℕ) → k ≡ i → get_or (counted_side st n u i r z) k 0 ≡ count_on st.sides u r
     side-on k e = get_or-set_other one (i + 2 * n) k _ 0 (λ q. omega arith) ∙ at_set z i k _ e (omega arith)
 
-    side-locked : (k : ℕ) → k ≡ i + 2 * n → get_or (countedSide st n u i r z) k 0 ≡ lockedOn st u r
-    side-locked k e = at_set one (i + 2 * n) k _ e (omega (arith, length-set z i (countOn st.sides u r)))
+    side-locked : (k : ℕ) → k ≡ i + 2 * n → get_or (counted_side st n u i r z) k 0 ≡ locked_on st u r
+    side-locked k e = at_set one (i + 2 * n) k _ e (omega (arith, length-set z i (count_on st.sides u r)))
 
 -- ---- both sides
 
 module _ (st : State) (n j : ℕ) (r z : List ℕ) (h : j < n) (e : length z ≡ 4 * n) where
   abbrev first : List ℕ
-  first = countedSide st n 0 j r z
+  first = counted_side st n 0 j r z
 
   first-long : length first ≡ 4 * n
   first-long = side-long st n 0 j r z ∙ e
@@ -55,12 +55,12 @@ module _ (st : State) (n j : ℕ) (r z : List ℕ) (h : j < n) (e : length z ≡
   counts-stay : (rs : List (List ℕ)) (i : ℕ) → i < n → i ≢ j → CountsOf rs st 0 n z i → CountsOf rs st 0 n (counted st n j r z) i
   counts-stay rs i l d s = record { on = on; locked = locked }
     where
-      on : (u : ℕ) → u ≤ 1 → get_or (counted st n j r z) (sideAt 0 n u + i) 0 ≡ countOn st.sides u (get_or rs i [])
+      on : (u : ℕ) → u ≤ 1 → get_or (counted st n j r z) (side_at 0 n u + i) 0 ≡ count_on st.sides u (get_or rs i [])
       on zero m = counted-off (0 + i) (λ q. d (omega arith)) (λ q. omega arith) (λ q. omega arith) (λ q. omega arith) ∙ s.on 0 m
       on (suc zero) m = counted-off (0 + n + i) (λ q. omega arith) (λ q. omega arith) (λ q. d (omega arith)) (λ q. omega arith) ∙ s.on 1 m
       on (suc (suc u)) m = absurd (omega arith)
 
-      locked : (u : ℕ) → u ≤ 1 → get_or (counted st n j r z) (sideAt 0 n u + i + 2 * n) 0 ≡ lockedOn st u (get_or rs i [])
+      locked : (u : ℕ) → u ≤ 1 → get_or (counted st n j r z) (side_at 0 n u + i + 2 * n) 0 ≡ locked_on st u (get_or rs i [])
       locked zero m = counted-off (0 + i + 2 * n) (λ q. omega arith) (λ q. d (omega arith)) (λ q. omega arith) (λ q. omega arith) ∙ s.locked 0 m
       locked (suc zero) m = counted-off (0 + n + i + 2 * n) (λ q. omega arith) (λ q. omega arith) (λ q. omega arith) (λ q. d (omega arith)) ∙ s.locked 1 m
       locked (suc (suc u)) m = absurd (omega arith)
@@ -69,18 +69,18 @@ module _ (st : State) (n j : ℕ) (r z : List ℕ) (h : j < n) (e : length z ≡
   unfolding counted
   counts-set rs q = record { on = on; locked = locked }
     where
-      on : (u : ℕ) → u ≤ 1 → get_or (counted st n j r z) (sideAt 0 n u + j) 0 ≡ countOn st.sides u (get_or rs j [])
+      on : (u : ℕ) → u ≤ 1 → get_or (counted st n j r z) (side_at 0 n u + j) 0 ≡ count_on st.sides u (get_or rs j [])
       on zero m =
           side-off st n 1 (n + j) r first (0 + j) (λ q. omega arith) (λ q. omega arith) ∙ side-on st n 0 j r z (omega arith) (omega arith) (0 + j) (omega arith)
-          ∙ ap (countOn st.sides 0) q
-      on (suc zero) m = side-on st n 1 (n + j) r first (omega arith) (omega (arith, first-long)) (0 + n + j) (omega arith) ∙ ap (countOn st.sides 1) q
+          ∙ ap (count_on st.sides 0) q
+      on (suc zero) m = side-on st n 1 (n + j) r first (omega arith) (omega (arith, first-long)) (0 + n + j) (omega arith) ∙ ap (count_on st.sides 1) q
       on (suc (suc u)) m = absurd (omega arith)
 
-      locked : (u : ℕ) → u ≤ 1 → get_or (counted st n j r z) (sideAt 0 n u + j + 2 * n) 0 ≡ lockedOn st u (get_or rs j [])
+      locked : (u : ℕ) → u ≤ 1 → get_or (counted st n j r z) (side_at 0 n u + j + 2 * n) 0 ≡ locked_on st u (get_or rs j [])
       locked zero m =
           side-off st n 1 (n + j) r first (0 + j + 2 * n) (λ q. omega arith) (λ q. omega arith) ∙ side-locked st n 0 j r z (omega arith) (omega arith) (0 + j + 2 * n) (omega arith)
-          ∙ ap (lockedOn st 0) q
-      locked (suc zero) m = side-locked st n 1 (n + j) r first (omega arith) (omega (arith, first-long)) (0 + n + j + 2 * n) (omega arith) ∙ ap (lockedOn st 1) q
+          ∙ ap (locked_on st 0) q
+      locked (suc zero) m = side-locked st n 1 (n + j) r first (omega arith) (omega (arith, first-long)) (0 + n + j + 2 * n) (omega arith) ∙ ap (locked_on st 1) q
       locked (suc (suc u)) m = absurd (omega arith)
 
 -- the first j recipes are counted

@@ -5,25 +5,25 @@ use mathlib.Core.Bool.{Bool, true, false, ◌||◌}
 use lib.Dec.{ltb}
 use borrow.Author.Tests.{ltb-false, le-ltb}
 use Rattle.rules.specs.declared.Verdict.{Verdict}
-use Rattle.rules.specs.Job.{Job, Limits, fileCount, recipeCount, pinCount}
-use Rattle.rules.specs.Check.{◌orElse◌, checkCounts, checkLists, checkLengths, checkContents, checkSound, checkGoal}
+use Rattle.rules.specs.Job.{Job, Limits, file_count, recipe_count, pin_count}
+use Rattle.rules.specs.Check.{◌or_else◌, check_counts, check_lists, check_lengths, check_contents, check_sound, check_goal}
 use Rattle.rules.proofs.Verdicts.{chain_same}
 use Rattle.rules.proofs.SoundJob.{few-of, counts-pass}
 use Rattle.rules.proofs.Tests.{clash, or_no}
-use Rattle.job.specs.Survey.{checkFor}
-use Rattle.job.specs.Totals.{startFor}
+use Rattle.job.specs.Survey.{check_for}
+use Rattle.job.specs.Totals.{start_for}
 use Rattle.job.proofs.Whole.{start-last}
 
 pub word-late : (balancing : Bool) (most : Limits) (job : Job) (a b : Bool)
-    → (fileCount job ≤ most.files → recipeCount job ≤ most.recipes → pinCount job ≤ most.pins → a ≡ b) → checkFor balancing most job a ≡ checkFor balancing most job b
-unfolding checkSound checkLengths checkCounts checkLists checkContents
+    → (file_count job ≤ most.files → recipe_count job ≤ most.recipes → pin_count job ≤ most.pins → a ≡ b) → check_for balancing most job a ≡ check_for balancing most job b
+unfolding check_sound check_lengths check_counts check_lists check_contents
 word-late balancing most job a b h =
-    let counts : Verdict = checkCounts most (fileCount job) (recipeCount job) (pinCount job) in
+    let counts : Verdict = check_counts most (file_count job) (recipe_count job) (pin_count job) in
     start-last balancing most job a
-    ∙ ap (λ (v : Verdict). v or_else checkGoal most job or_else startFor balancing job)
-    (ap (λ (v : Verdict). v or_else checkContents job)
-    (chain_same counts (checkLists job a) (checkLists job b)
-    (λ z. let r = few-of most (fileCount job) (recipeCount job) (pinCount job) (counts-pass most (fileCount job) (recipeCount job) (pinCount job) z).1 in ap (checkLists job) (h r.0 r.1 r.2))))
+    ∙ ap (λ (v : Verdict). v or_else check_goal most job or_else start_for balancing job)
+    (ap (λ (v : Verdict). v or_else check_contents job)
+    (chain_same counts (check_lists job a) (check_lists job b)
+    (λ z. let r = few-of most (file_count job) (recipe_count job) (pin_count job) (counts-pass most (file_count job) (recipe_count job) (pin_count job) z).1 in ap (check_lists job) (h r.0 r.1 r.2))))
     ∙ sym (start-last balancing most job b)
 
 -- ---- three numbers, each against its most

@@ -10,9 +10,9 @@ use lib.ListN.{length, get_or}
 use lib.Seq.{get_or-drop, ext_get_or}
 use lib.IntN.{ℤ}
 use Rattle.rules.specs.Job.{Job, Limits}
-use Rattle.rules.specs.Split.{recipesOf}
+use Rattle.rules.specs.Split.{recipes_of}
 use Rattle.job.specs.declared.figures.Survey.{Survey}
-use Rattle.tables.specs.Zones.{cellsAt, startsAt, countsAt, sideAt, part, start_in, end_in}
+use Rattle.tables.specs.Zones.{cells_at, starts_at, counts_at, side_at, part, start_in, end_in}
 use Rattle.tables.specs.Building.{read_of}
 use Rattle.tables.specs.Filling.{start_of}
 use Rattle.tables.specs.LayingOut.{Prepared, LaysOut}
@@ -35,20 +35,20 @@ module _ {bounds pins sides marks z₀ z : List ℕ} {g : List ℤ} {n : ℕ} (d
   rs = read_of marks bounds pins
 
   abbrev mine : ℕ → List ℕ
-  mine f = recipesOf rs f
+  mine f = recipes_of rs f
 
   -- a cell of file f is the recipe of its place
-  cell-is : (f i : ℕ) → f < length sides → start_of rs f ≤ i → i < start_of rs f + length (mine f) → get_or z (cellsAt (length sides) + i) 0 ≡ get_or (mine f) (i - start_of rs f) 0
+  cell-is : (f i : ℕ) → f < length sides → start_of rs f ≤ i → i < start_of rs f + length (mine f) → get_or z (cells_at (length sides) + i) 0 ≡ get_or (mine f) (i - start_of rs f) 0
   cell-is f i h from to =
-      let e : cellsAt (length sides) + start_of rs f + (i - start_of rs f) ≡ cellsAt (length sides) + i = omega arith in
-      let next : startsAt (length sides) (length pins) + (f + 1) ≡ startsAt (length sides) (length pins) + f + 1 = omega arith in
+      let e : cells_at (length sides) + start_of rs f + (i - start_of rs f) ≡ cells_at (length sides) + i = omega arith in
+      let next : starts_at (length sides) (length pins) + (f + 1) ≡ starts_at (length sides) (length pins) + f + 1 = omega arith in
       let last : end_in (length sides) (length pins) z f ≡ start_of rs (f + 1) = ap (λ (k : ℕ). get_or z k 0) (sym next) ∙ d.starts (f + 1) (omega arith) in
       let many : end_in (length sides) (length pins) z f - start_in (length sides) (length pins) z f ≡ length (mine f)
       = omega (arith, last, d.starts f (omega arith), start-more rs f, ap (start_of rs) (add-one f)) in
       ap (λ (k : ℕ). get_or z k 0) (sym e)
-      ∙ sym (part-entry (cellsAt (length sides) + start_of rs f) (length (mine f)) z (i - start_of rs f) (omega arith))
+      ∙ sym (part-entry (cells_at (length sides) + start_of rs f) (length (mine f)) z (i - start_of rs f) (omega arith))
       ∙ ap (λ (l : List ℕ). get_or l (i - start_of rs f) 0)
-      (ap₂ (λ (a k : ℕ). part (cellsAt (length sides) + a) k z) (sym (d.starts f (omega arith))) (sym many) ∙ d.cells.hold f h)
+      (ap₂ (λ (a k : ℕ). part (cells_at (length sides) + a) k z) (sym (d.starts f (omega arith))) (sym many) ∙ d.cells.hold f h)
 
 -- ---- two
 
@@ -61,12 +61,12 @@ module _ {bounds pins sides marks z₀ z z' : List ℕ} {g g' : List ℤ} {n : �
   p = length pins
 
   abbrev at : ℕ
-  at = countsAt c p
+  at = counts_at c p
 
   abbrev Same : ℕ → Type 0
   Same i = get_or z i 0 ≡ get_or z' i 0
 
-  same-cells : (i : ℕ) → i < p → Same (cellsAt c + i)
+  same-cells : (i : ℕ) → i < p → Same (cells_at c + i)
   same-cells i h = elim (dec_lt i (start_of (read_of marks bounds pins) c)) [
     | yes l ↦
         let r = cell-of (read_of marks bounds pins) c i l in
@@ -76,8 +76,8 @@ module _ {bounds pins sides marks z₀ z z' : List ℕ} {g g' : List ℤ} {n : �
 
   same-before : (i : ℕ) → i < at → Same i
   same-before =
-      further Same (startsAt c p) (c + 1) at (omega arith)
-      (further Same (cellsAt c) p (startsAt c p) (omega arith)
+      further Same (starts_at c p) (c + 1) at (omega arith)
+      (further Same (cells_at c) p (starts_at c p) (omega arith)
       (front-entry c z z' (d.locks ∙ sym d'.locks))
       same-cells)
       (λ f h. d.starts f (omega arith) ∙ sym (d'.starts f (omega arith)))
@@ -92,12 +92,12 @@ module _ {bounds pins sides marks z₀ z z' : List ℕ} {g g' : List ℤ} {n : �
       (locked 0 (omega arith)))
       (locked 1 (omega arith))
     where
-      on : (u : ℕ) → u ≤ 1 → (j : ℕ) → j < n → Same (sideAt at n u + j)
+      on : (u : ℕ) → u ≤ 1 → (j : ℕ) → j < n → Same (side_at at n u + j)
       on u l j h = (d.counts.each j h).on u l ∙ sym ((d'.counts.each j h).on u l)
 
-      locked : (u : ℕ) → u ≤ 1 → (j : ℕ) → j < n → Same (sideAt at n u + 2 * n + j)
+      locked : (u : ℕ) → u ≤ 1 → (j : ℕ) → j < n → Same (side_at at n u + 2 * n + j)
       locked u l j h =
-          let e : sideAt at n u + j + 2 * n ≡ sideAt at n u + 2 * n + j = omega arith in
+          let e : side_at at n u + j + 2 * n ≡ side_at at n u + 2 * n + j = omega arith in
           rw e at ((d.counts.each j h).locked u l ∙ sym ((d'.counts.each j h).locked u l))
 
   same-beyond : (j : ℕ) → Same (at + 4 * n + j)

@@ -11,17 +11,17 @@ use lib.IntN.{ℤ, pos, ◌-ℤ◌}
 use mir.Syntax.{w32}
 use mir.Val.{SFits, to_z, of_z}
 use mir.Facts.{to_z-of_z, to_z_pos}
-use Rattle.rules.specs.Lists.{bit, total, count, allBelow, diff}
-use Rattle.rules.specs.Split.{other, side_of, onSide, countOn, holds, alone, together, gain}
+use Rattle.rules.specs.Lists.{bit, total, count, AllBelow, diff}
+use Rattle.rules.specs.Split.{other, side_of, on_side, count_on, holds, alone, together, gain}
 use Rattle.rules.specs.Move.{free}
-use Rattle.rules.specs.Pass.{standing, gainsAfter, startGains}
+use Rattle.rules.specs.Pass.{standing, gains_after, start_gains}
 use Rattle.rules.specs.Theorems.{Binary}
-use Rattle.rules.proofs.Count.{getD-tabled, length-tabled}
+use Rattle.rules.proofs.Count.{get_d-tabled, length-tabled}
 use Rattle.rules.proofs.Signed.{abs_diff}
 use Rattle.rules.proofs.Machine.{abs-fits}
-use Rattle.rules.specs.Split.{recipesFrom, recipesOf}
-use Rattle.tables.specs.Zones.{cellsAt, countsAt, sideAt, part, state_of, start_in, end_in, Cells, Counts}
-use Rattle.tables.specs.Counting.{gainBy, startGain}
+use Rattle.rules.specs.Split.{recipes_from, recipes_of}
+use Rattle.tables.specs.Zones.{cells_at, counts_at, side_at, part, state_of, start_in, end_in, Cells, Counts}
+use Rattle.tables.specs.Counting.{gain_by, start_gain}
 use Rattle.tables.proofs.Parts.{part-entry}
 use Rattle.tables.proofs.Sides.{side-within}
 
@@ -45,30 +45,30 @@ module _ (a b : ℕ) (h : a < 65536) (k : b < 65536) where
 
 -- a count over the recipes that hold f is one over their numbers
 held-from : (q : List ℕ → Bool) (f : ℕ) (look : ℕ → List ℕ) (rs : List (List ℕ)) (j : ℕ) → ((i : ℕ) → look (j + i) ≡ get_or rs i [])
-    → count (λ r. holds r f && q r) rs ≡ count (λ i. q (look i)) (recipesFrom f j rs)
-unfolding count total recipesFrom
+    → count (λ r. holds r f && q r) rs ≡ count (λ i. q (look i)) (recipes_from f j rs)
+unfolding count total recipes_from
 held-from q f look [] j h = refl
 held-from q f look (r ∷ rs) j h = go (holds r f) (held-from q f look rs (suc j) (λ i. ap look (suc-add j i ∙ sym (add-suc j i)) ∙ h (suc i)))
   where
     e : look j ≡ r
     e = ap look (sym (add-zero j)) ∙ h 0
 
-    go : (b : Bool) → total (λ r. bit (holds r f && q r)) rs ≡ total (λ i. bit (q (look i))) (recipesFrom f (suc j) rs)
+    go : (b : Bool) → total (λ r. bit (holds r f && q r)) rs ≡ total (λ i. bit (q (look i))) (recipes_from f (suc j) rs)
         → bit (b && q r) + total (λ r. bit (holds r f && q r)) rs
-        ≡ total (λ i. bit (q (look i))) (cond b (j ∷ recipesFrom f (suc j) rs) (recipesFrom f (suc j) rs))
+        ≡ total (λ i. bit (q (look i))) (cond b (j ∷ recipes_from f (suc j) rs) (recipes_from f (suc j) rs))
     go true ih = ap₂ ◌+◌ (ap (λ x. bit (q x)) (sym e)) ih
     go false ih = omega (arith, ih)
 
-pub held-count : (q : List ℕ → Bool) (f : ℕ) (rs : List (List ℕ)) → count (λ r. holds r f && q r) rs ≡ count (λ j. q (get_or rs j [])) (recipesOf rs f)
+pub held-count : (q : List ℕ → Bool) (f : ℕ) (rs : List (List ℕ)) → count (λ r. holds r f && q r) rs ≡ count (λ j. q (get_or rs j [])) (recipes_of rs f)
 held-count q f rs = held-from q f (λ j. get_or rs j []) rs 0 (λ i. ap (λ n. get_or rs n []) (zero-add i))
 
-from-below : (f : ℕ) (rs : List (List ℕ)) (j : ℕ) → allBelow (j + length rs) (recipesFrom f j rs)
-unfolding recipesFrom
+from-below : (f : ℕ) (rs : List (List ℕ)) (j : ℕ) → AllBelow (j + length rs) (recipes_from f j rs)
+unfolding recipes_from
 from-below f [] j i l = absurd (omega arith)
 from-below f (r ∷ rs) j i l = go (holds r f) i l (from-below f rs (suc j))
   where
     js : List ℕ
-    js = recipesFrom f (suc j) rs
+    js = recipes_from f (suc j) rs
 
     go : (b : Bool) (i : ℕ) → i < length (cond b (j ∷ js) js) → ((k : ℕ) → k < length js → get_or js k 0 < suc j + length rs)
         → get_or (cond b (j ∷ js) js) i 0 < j + suc (length rs)
@@ -77,63 +77,63 @@ from-below f (r ∷ rs) j i l = go (holds r f) i l (from-below f rs (suc j))
     go false i l ih = omega (arith, ih i l)
 
 -- they are recipes
-pub recipes-below : (f : ℕ) (rs : List (List ℕ)) → allBelow (length rs) (recipesOf rs f)
+pub recipes-below : (f : ℕ) (rs : List (List ℕ)) → AllBelow (length rs) (recipes_of rs f)
 recipes-below f rs = rw zero-add at (from-below f rs 0)
 
 -- two tests that agree below n have one count over numbers below n
-count-agree : (n : ℕ) (p q : ℕ → Bool) → ((i : ℕ) → i < n → p i ≡ q i) → (js : List ℕ) → allBelow n js → count p js ≡ count q js
+count-agree : (n : ℕ) (p q : ℕ → Bool) → ((i : ℕ) → i < n → p i ≡ q i) → (js : List ℕ) → AllBelow n js → count p js ≡ count q js
 unfolding count total
 count-agree n p q h [] b = refl
 count-agree n p q h (j ∷ js) b = ap₂ ◌+◌ (ap bit (h j (b 0 (omega arith)))) (count-agree n p q h js (λ i l. b (suc i) (omega arith)))
 
 -- tables of the counts on f's own side and on the other give its gain
 gain-by : (sides : List ℕ) (rs : List (List ℕ)) (f : ℕ) (mine theirs : List ℕ)
-    → ((j : ℕ) → j < length rs → get_or mine j 0 ≡ countOn sides (side_of sides f) (get_or rs j []))
-    → ((j : ℕ) → j < length rs → get_or theirs j 0 ≡ countOn sides (other (side_of sides f)) (get_or rs j []))
-    → gainBy mine theirs (recipesOf rs f) ≡ gain sides rs f
-unfolding gainBy gain countOn alone together
+    → ((j : ℕ) → j < length rs → get_or mine j 0 ≡ count_on sides (side_of sides f) (get_or rs j []))
+    → ((j : ℕ) → j < length rs → get_or theirs j 0 ≡ count_on sides (other (side_of sides f)) (get_or rs j []))
+    → gain_by mine theirs (recipes_of rs f) ≡ gain sides rs f
+unfolding gain_by gain count_on alone together
 gain-by sides rs f mine theirs a b =
     ap₂ diff
-    (count-agree (length rs) (onSide mine 1) (λ j. eqb (countOn sides (side_of sides f) (get_or rs j [])) 1) (λ j l. ap (λ (k : ℕ). eqb k 1) (a j l)) (recipesOf rs f) (recipes-below f rs)
-    ∙ sym (held-count (λ r. eqb (countOn sides (side_of sides f) r) 1) f rs))
-    (count-agree (length rs) (onSide theirs 0) (λ j. eqb (countOn sides (other (side_of sides f)) (get_or rs j [])) 0) (λ j l. ap (λ (k : ℕ). eqb k 0) (b j l)) (recipesOf rs f) (recipes-below f rs)
-    ∙ sym (held-count (λ r. eqb (countOn sides (other (side_of sides f)) r) 0) f rs))
+    (count-agree (length rs) (on_side mine 1) (λ j. eqb (count_on sides (side_of sides f) (get_or rs j [])) 1) (λ j l. ap (λ (k : ℕ). eqb k 1) (a j l)) (recipes_of rs f) (recipes-below f rs)
+    ∙ sym (held-count (λ r. eqb (count_on sides (side_of sides f) r) 1) f rs))
+    (count-agree (length rs) (on_side theirs 0) (λ j. eqb (count_on sides (other (side_of sides f)) (get_or rs j [])) 0) (λ j l. ap (λ (k : ℕ). eqb k 0) (b j l)) (recipes_of rs f) (recipes-below f rs)
+    ∙ sym (held-count (λ r. eqb (count_on sides (other (side_of sides f)) r) 0) f rs))
 
 module _ (sides marks : List ℕ) (rs : List (List ℕ)) (c p n : ℕ) (z : List ℕ) (long : length rs ≡ n)
-    (binary : Binary sides) (cells : Cells rs c p z) (counts : Counts rs (state_of sides marks) (countsAt c p) n z) where
+    (binary : Binary sides) (cells : Cells rs c p z) (counts : Counts rs (state_of sides marks) (counts_at c p) n z) where
   -- the counts of side u as a table
-  table : (u : ℕ) → u ≤ 1 → (j : ℕ) → j < length rs → get_or (part (sideAt (countsAt c p) n u) n z) j 0 ≡ countOn sides u (get_or rs j [])
-  table u h j l = part-entry (sideAt (countsAt c p) n u) n z j (omega arith) ∙ (counts.each j (omega arith)).on u h
+  table : (u : ℕ) → u ≤ 1 → (j : ℕ) → j < length rs → get_or (part (side_at (counts_at c p) n u) n z) j 0 ≡ count_on sides u (get_or rs j [])
+  table u h j l = part-entry (side_at (counts_at c p) n u) n z j (omega arith) ∙ (counts.each j (omega arith)).on u h
 
   -- file f's cells, from s up to e
-  module _ (f s e : ℕ) (h : f < c) (at : s ≡ cellsAt c + start_in c p z f) (to : e ≡ cellsAt c + end_in c p z f) where
-    held : part s (e - s) z ≡ recipesOf rs f
+  module _ (f s e : ℕ) (h : f < c) (at : s ≡ cells_at c + start_in c p z f) (to : e ≡ cells_at c + end_in c p z f) where
+    held : part s (e - s) z ≡ recipes_of rs f
     held =
         let k : e - s ≡ end_in c p z f - start_in c p z f = omega arith in
         ap₂ (λ (i n : ℕ). part i n z) at k ∙ cells.hold f h
 
     -- what the code works out is entry f of the starting gains
-    pub start-gain-is : (mine theirs : ℕ) → mine ≡ sideAt (countsAt c p) n (side_of sides f) → theirs ≡ sideAt (countsAt c p) n (other (side_of sides f))
-        → startGain z (get_or marks f 0) s e mine theirs n ≡ get_or (startGains rs c (state_of sides marks)) f (pos 0)
-    unfolding startGain gainsAfter standing
+    pub start-gain-is : (mine theirs : ℕ) → mine ≡ side_at (counts_at c p) n (side_of sides f) → theirs ≡ side_at (counts_at c p) n (other (side_of sides f))
+        → start_gain z (get_or marks f 0) s e mine theirs n ≡ get_or (start_gains rs c (state_of sides marks)) f (pos 0)
+    unfolding start_gain gains_after standing
     start-gain-is mine theirs i o =
         rw (held, i, o)
         (ap (λ (g : ℤ). cond (eqb (get_or marks f 0) 0) g (pos 0))
-        (gain-by sides rs f (part (sideAt (countsAt c p) n (side_of sides f)) n z) (part (sideAt (countsAt c p) n (other (side_of sides f))) n z)
+        (gain-by sides rs f (part (side_at (counts_at c p) n (side_of sides f)) n z) (part (side_at (counts_at c p) n (other (side_of sides f))) n z)
         (table (side_of sides f) (binary f)) (table (other (side_of sides f)) (omega arith))))
-        ∙ sym (getD-tabled (λ f. cond (free (state_of sides marks) f) (gain sides rs f) (pos 0)) c f (pos 0) h)
+        ∙ sym (get_d-tabled (λ f. cond (free (state_of sides marks) f) (gain sides rs f) (pos 0)) c f (pos 0) h)
 
-pub start-gains-long : (rs : List (List ℕ)) (c : ℕ) (sides marks : List ℕ) → length (startGains rs c (state_of sides marks)) ≡ c
-unfolding gainsAfter
+pub start-gains-long : (rs : List (List ℕ)) (c : ℕ) (sides marks : List ℕ) → length (start_gains rs c (state_of sides marks)) ≡ c
+unfolding gains_after
 start-gains-long rs c sides marks = length-tabled _ c
 
 -- what the gain of a file asks: its cells, and the counts of both sides, stand in the scratch
-pub gain-asks : {rs : List (List ℕ)} {c p : ℕ} {z : List ℕ} (n f side : ℕ) {s e own other : ℕ} → Cells rs c p z → f < c → p < 65535 → countsAt c p + 4 * n ≤ length z
-    → s ≡ cellsAt c + start_in c p z f → e ≡ cellsAt c + end_in c p z f → own ≡ sideAt (countsAt c p) n side → other ≡ sideAt (countsAt c p) n (1 - side)
+pub gain-asks : {rs : List (List ℕ)} {c p : ℕ} {z : List ℕ} (n f side : ℕ) {s e own other : ℕ} → Cells rs c p z → f < c → p < 65535 → counts_at c p + 4 * n ≤ length z
+    → s ≡ cells_at c + start_in c p z f → e ≡ cells_at c + end_in c p z f → own ≡ side_at (counts_at c p) n side → other ≡ side_at (counts_at c p) n (1 - side)
     → ((s ≤ e) × (e ≤ length z) × (e - s < 65536)) × ((own + n ≤ length z) × (other + n ≤ length z))
 gain-asks {c = c} {p = p} n f side d h few fits x y u v =
     let a = d.order f h in
     let b = d.inside f h in
-    let i = side-within (countsAt c p) n side in
-    let j = side-within (countsAt c p) n (1 - side) in
+    let i = side-within (counts_at c p) n side in
+    let j = side-within (counts_at c p) n (1 - side) in
     ((omega arith, omega arith, omega arith), (omega arith, omega arith))

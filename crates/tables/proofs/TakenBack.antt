@@ -5,7 +5,7 @@ use Prim.Native.Nat.{ℕ, zero, suc, ◌+◌, ◌-◌, ◌≤◌, ◌<◌}
 use native.Mathlib.Omega.{arith}
 use lib.ListN.{length, get_or, set, length-set, get_or-eq_default}
 use Rattle.rules.specs.Split.{other, side_of}
-use Rattle.tables.specs.Ending.{turned, backTo}
+use Rattle.tables.specs.Ending.{turned, back_to}
 
 -- beyond the list nothing is stored
 set_beyond : {A : Type 0} (xs : List A) (i : ℕ) (a : A) → length xs ≤ i → set xs i a ≡ xs
@@ -19,14 +19,14 @@ turned-beyond sides f h = (ap (λ (s : ℕ). 1 - s) (sym (get_or-eq_default side
 -- the moves from k on are taken back
 pub record TakenBack (tried : List ℕ) (best moves : ℕ) (start : List ℕ) (k : ℕ) (sides : List ℕ) : Type 0 where
   pub long : length sides ≡ length start
-  pub same : backTo tried best (k - best) sides ≡ backTo tried best (moves - best) start
+  pub same : back_to tried best (k - best) sides ≡ back_to tried best (moves - best) start
 
-back_one : (tried : List ℕ) (best k : ℕ) (sides : List ℕ) → best < k → backTo tried best (k - best) sides ≡ backTo tried best (k - 1 - best) (turned sides (get_or tried (k - 1) 0))
-unfolding backTo
+back_one : (tried : List ℕ) (best k : ℕ) (sides : List ℕ) → best < k → back_to tried best (k - best) sides ≡ back_to tried best (k - 1 - best) (turned sides (get_or tried (k - 1) 0))
+unfolding back_to
 back_one tried best k sides h =
     let e : k - best ≡ suc (k - 1 - best) = omega arith in
     let a : best + (k - 1 - best) ≡ k - 1 = omega arith in
-    ap (λ (d : ℕ). backTo tried best d sides) e ∙ ap (λ (i : ℕ). backTo tried best (k - 1 - best) (turned sides (get_or tried i 0))) a
+    ap (λ (d : ℕ). back_to tried best d sides) e ∙ ap (λ (i : ℕ). back_to tried best (k - 1 - best) (turned sides (get_or tried i 0))) a
 
 module _ {tried : List ℕ} {best moves : ℕ} {start : List ℕ} where
   pub back_none : TakenBack tried best moves start moves start
@@ -38,8 +38,8 @@ module _ {tried : List ℕ} {best moves : ℕ} {start : List ℕ} where
     same = sym (back_one tried best k sides h) ∙ t.same;
   }
 
-  pub back-all : {k : ℕ} {sides : List ℕ} → k ≤ best → TakenBack tried best moves start k sides → sides ≡ backTo tried best (moves - best) start
-  unfolding backTo
+  pub back-all : {k : ℕ} {sides : List ℕ} → k ≤ best → TakenBack tried best moves start k sides → sides ≡ back_to tried best (moves - best) start
+  unfolding back_to
   back-all {k} {sides} h t =
       let e : k - best ≡ 0 = omega arith in
-      ap (λ (d : ℕ). backTo tried best d sides) (sym e) ∙ t.same
+      ap (λ (d : ℕ). back_to tried best d sides) (sym e) ∙ t.same

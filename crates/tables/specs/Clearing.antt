@@ -6,5 +6,5 @@ abbrev pub cleared {ℓ} : {A : Type ℓ} → ℕ → ℕ → A → List A → L
 cleared a b z xs = take a xs ++ (replicate (b - a) z ++ drop b xs)
 
 -- where these are places of the list, else the list as it is
-abbrev pub clearedIn {ℓ} : {A : Type ℓ} → ℕ → ℕ → A → List A → List A
-clearedIn a b z xs = cond (leb a b && leb b (length xs)) (cleared a b z xs) xs
+abbrev pub cleared_in {ℓ} : {A : Type ℓ} → ℕ → ℕ → A → List A → List A
+cleared_in a b z xs = cond (leb a b && leb b (length xs)) (cleared a b z xs) xs

@@ -7,10 +7,10 @@ abbrev pub turned : List ℕ → ℕ → List ℕ
 turned sides f = set sides f (other (side_of sides f))
 
 -- the last d of the first best + d moves taken back, the latest first
-unfoldable pub backTo : List ℕ → ℕ → ℕ → List ℕ → List ℕ
-backTo tried best zero sides = sides
-backTo tried best (suc d) sides = backTo tried best d (turned sides (get_or tried (best + d) 0))
+unfoldable pub back_to : List ℕ → ℕ → ℕ → List ℕ → List ℕ
+back_to tried best zero sides = sides
+back_to tried best (suc d) sides = back_to tried best d (turned sides (get_or tried (best + d) 0))
 
 -- how many scans, ends or visits are told, of so many: by edition 3 none
-abbrev pub shownOf : ℕ → ℕ → ℕ
-shownOf edition count = cond (eqb edition 3) 0 count
+abbrev pub shown_of : ℕ → ℕ → ℕ
+shown_of edition count = cond (eqb edition 3) 0 count

@@ -1,10 +1,10 @@
 // The counts of each recipe's files, and the gains that a pass starts with, worked out from them.
 ghost use Rattle.std.specs.Prelude.{◌≡◌, ◌+◌, ◌*◌, ◌-◌, ◌≤◌, ◌<◌, ◌^◌, length, set};
-ghost use Rattle.rules.specs.Pass.{startGains};
+ghost use Rattle.rules.specs.Pass.{start_gains};
 ghost use Rattle.rules.specs.Theorems.{Binary};
-ghost use Rattle.tables.specs.Zones.{countsAt, extentOf, state_of, Cells, Counts};
+ghost use Rattle.tables.specs.Zones.{counts_at, extent_of, state_of, Cells, Counts};
 ghost use Rattle.tables.specs.Building.{read_of, readable, Buildable};
-ghost use Rattle.tables.specs.Counting.{counted, gainBy, startGain};
+ghost use Rattle.tables.specs.Counting.{counted, gain_by, start_gain};
 
 use super::two_readable::two_readable;
 use super::zones::{Extent, side_at, zones_of};
@@ -53,7 +53,7 @@ pub(crate) fn fill_counts(
 // One up for each recipe of the list with a count of 1 on the file's own side, one down for each with none on the other.
 fn gain_by(list: &[u16], own: &[u16], other: &[u16]) -> i32
     requires { length list.now < 65536 }
-    ensures { result ≡ gainBy own.now other.now list.now }
+    ensures { result ≡ gain_by own.now other.now list.now }
 {
     let mut up = 0;
     let mut down = 0;
@@ -79,7 +79,7 @@ fn start_gain(
 ) -> i32
     requires s_le_e { (s ≤ e) × (e ≤ length scratch.now) × (e - s < 65536) }
     requires n_in_bounds { (own + n ≤ length scratch.now) × (other + n ≤ length scratch.now) }
-    ensures { result ≡ startGain scratch.now mark s e own other n }
+    ensures { result ≡ start_gain scratch.now mark s e own other n }
 {
     if mark != 0 {
         return 0;
@@ -102,12 +102,12 @@ pub(crate) fn start_gains(
     extent: Extent,
 )
     requires buildable { Buildable bounds.now pins.now (length sides.now) }
-    requires gains_len { (length gains.old ≡ length sides.now) × (length marks.now ≡ length sides.now) × (extent ≡ extentOf (length sides.now) (length bounds.now - 1) (length pins.now)) }
-    requires bounds_in_bounds { countsAt (length sides.now) (length pins.now) + 4 * (length bounds.now - 1) ≤ length scratch.now }
+    requires gains_len { (length gains.old ≡ length sides.now) × (length marks.now ≡ length sides.now) × (extent ≡ extent_of (length sides.now) (length bounds.now - 1) (length pins.now)) }
+    requires bounds_in_bounds { counts_at (length sides.now) (length pins.now) + 4 * (length bounds.now - 1) ≤ length scratch.now }
     requires binary { Binary sides.now }
     requires cells { Cells (read_of marks.now bounds.now pins.now) (length sides.now) (length pins.now) scratch.now }
-    requires counts { Counts (read_of marks.now bounds.now pins.now) (state_of sides.now marks.now) (countsAt (length sides.now) (length pins.now)) (length bounds.now - 1) scratch.now }
-    ensures { gains.new ≡ startGains (read_of marks.now bounds.now pins.now) (length sides.now) (state_of sides.now marks.now) }
+    requires counts { Counts (read_of marks.now bounds.now pins.now) (state_of sides.now marks.now) (counts_at (length sides.now) (length pins.now)) (length bounds.now - 1) scratch.now }
+    ensures { gains.new ≡ start_gains (read_of marks.now bounds.now pins.now) (length sides.now) (state_of sides.now marks.now) }
 {
     let zones = zones_of(extent);
     let n = wide(extent.recipes);

@@ -3,15 +3,15 @@
 // where the list has all the places, and a list without them stays as it is.
 ghost use Rattle.std.specs.Prelude.{◌≡◌, ◌-◌, ◌*◌, pos};
 ghost use Rattle.rules.specs.Split.{side_of};
-ghost use Rattle.rules.specs.Job.{scratchNumbers};
-ghost use Rattle.tables.specs.Clearing.{clearedIn};
-ghost use Rattle.tables.specs.Ending.{turned, backTo, shownOf};
+ghost use Rattle.rules.specs.Job.{scratch_numbers};
+ghost use Rattle.tables.specs.Clearing.{cleared_in};
+ghost use Rattle.tables.specs.Ending.{turned, back_to, shown_of};
 
 use super::zones::{Extent, numbers_for, scans_for};
 use job::{entry_at, wide};
 
 pub(crate) fn clear(list: &mut [u16], from: usize, to: usize)
-    ensures { list.new ≡ clearedIn from to 0 list.old }
+    ensures { list.new ≡ cleared_in from to 0 list.old }
 {
     if (to < from) | (list.len() < to) {
         return;
@@ -24,7 +24,7 @@ pub(crate) fn clear(list: &mut [u16], from: usize, to: usize)
 }
 
 fn clear_signed(list: &mut [i32], from: usize, to: usize)
-    ensures { list.new ≡ clearedIn from to (pos 0) list.old }
+    ensures { list.new ≡ cleared_in from to (pos 0) list.old }
 {
     if (to < from) | (list.len() < to) {
         return;
@@ -38,7 +38,7 @@ fn clear_signed(list: &mut [i32], from: usize, to: usize)
 
 // How many scans, ends or visits are told, of so many: by edition 3 none.
 pub fn shown(edition: u16, count: usize) -> usize
-    ensures { result ≡ shownOf edition count }
+    ensures { result ≡ shown_of edition count }
 {
     if edition == 3 {
         return 0;
@@ -58,7 +58,7 @@ pub fn end_moves(
     files: usize,
     edition: u16,
 )
-    ensures { (sides.new ≡ backTo tried.old best (moves - best) sides.old) × (tried.new ≡ clearedIn moves files 0 tried.old) × (gained.new ≡ clearedIn moves files (pos 0) gained.old) × (cuts.new ≡ clearedIn moves files 0 cuts.old) × (ends.new ≡ clearedIn (shownOf edition moves) files 0 ends.old) }
+    ensures { (sides.new ≡ back_to tried.old best (moves - best) sides.old) × (tried.new ≡ cleared_in moves files 0 tried.old) × (gained.new ≡ cleared_in moves files (pos 0) gained.old) × (cuts.new ≡ cleared_in moves files 0 cuts.old) × (ends.new ≡ cleared_in (shown_of edition moves) files 0 ends.old) }
 {
     take_back(sides, tried, best, moves);
     clear(tried, moves, files);
@@ -76,7 +76,7 @@ pub fn end_scans(
     edition: u16,
     extent: Extent,
 )
-    ensures { (recipes.new ≡ clearedIn (shownOf edition scans) (4 * extent.recipes) 0 recipes.old) × (kinds.new ≡ clearedIn (shownOf edition scans) (4 * extent.recipes) 0 kinds.old) × (scratch.new ≡ clearedIn 0 (scratchNumbers edition extent.pins extent.files extent.recipes) 0 scratch.old) }
+    ensures { (recipes.new ≡ cleared_in (shown_of edition scans) (4 * extent.recipes) 0 recipes.old) × (kinds.new ≡ cleared_in (shown_of edition scans) (4 * extent.recipes) 0 kinds.old) × (scratch.new ≡ cleared_in 0 (scratch_numbers edition extent.pins extent.files extent.recipes) 0 scratch.old) }
 {
     let most = scans_for(extent);
     let numbers = numbers_for(edition, extent);
@@ -109,7 +109,7 @@ pub fn turn(sides: &mut [u16], f: usize) -> u16
 
 // The moves from best up to moves taken back, the latest first.
 fn take_back(sides: &mut [u16], tried: &[u16], best: usize, moves: usize)
-    ensures { sides.new ≡ backTo tried.now best (moves - best) sides.old }
+    ensures { sides.new ≡ back_to tried.now best (moves - best) sides.old }
 {
     let mut k = moves;
     while best < k {

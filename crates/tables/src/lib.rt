@@ -8,8 +8,8 @@ mod two_readable;
 mod zones;
 
 ghost use Rattle.std.specs.Prelude.{◌-◌, length};
-ghost use Rattle.rules.specs.Job.{limitsOf};
-ghost use Rattle.job.specs.Parts.{wholeJob};
+ghost use Rattle.rules.specs.Job.{limits_of};
+ghost use Rattle.job.specs.Parts.{whole_job};
 ghost use Rattle.tables.specs.LentFits.{fits_of};
 ghost use Rattle.tables.specs.LayingOut.{LaysOut};
 
@@ -35,7 +35,7 @@ pub fn lay_out(
     lists: ListLengths,
     balancing: bool,
 ) -> Survey
-    ensures* { do ⌜ LaysOut balancing (limitsOf (← (⟦Job::MOST_FILES⟧).entry) (← (⟦Job::MOST_RECIPES⟧).entry) (← (⟦Job::MOST_PINS⟧).entry) (← (⟦Job::MOST_DEN⟧).entry)) (wholeJob job sizes.now sides.now marks.now bounds.now pins.now) (fits_of edition (length sizes.now) (length bounds.now - 1) (length pins.now) (length gains.old) (length scratch.old) lists) gains.old scratch.old gains.new scratch.new result ⌝ }
+    ensures* { do ⌜ LaysOut balancing (limits_of (← (⟦Job::MOST_FILES⟧).entry) (← (⟦Job::MOST_RECIPES⟧).entry) (← (⟦Job::MOST_PINS⟧).entry) (← (⟦Job::MOST_DEN⟧).entry)) (whole_job job sizes.now sides.now marks.now bounds.now pins.now) (fits_of edition (length sizes.now) (length bounds.now - 1) (length pins.now) (length gains.old) (length scratch.old) lists) gains.old scratch.old gains.new scratch.new result ⌝ }
 {
     let fit = lists_fit(
         edition,

@@ -1,7 +1,7 @@
 // What stands before the first move is built: locks, cells and counts in the scratch, and the starting gains.
 ghost use Rattle.std.specs.Prelude.{◌≡◌, ◌+◌, ◌-◌, ◌*◌, ◌≤◌, length};
 ghost use Rattle.rules.specs.Theorems.{Binary};
-ghost use Rattle.tables.specs.Zones.{countsAt};
+ghost use Rattle.tables.specs.Zones.{counts_at};
 ghost use Rattle.tables.specs.Building.{Buildable};
 ghost use Rattle.tables.specs.LayingOut.{Prepared};
 
@@ -33,7 +33,7 @@ pub(crate) fn prepare(
 )
     requires buildable { Buildable bounds.now pins.now (length sides.now) }
     requires gains_len { (length gains.old ≡ length sides.now) × (length marks.now ≡ length sides.now) }
-    requires bounds_in_bounds { countsAt (length sides.now) (length pins.now) + 4 * (length bounds.now - 1) ≤ length scratch.old }
+    requires bounds_in_bounds { counts_at (length sides.now) (length pins.now) + 4 * (length bounds.now - 1) ≤ length scratch.old }
     requires binary { Binary sides.now }
     ensures { Prepared bounds.now pins.now sides.now marks.now scratch.old scratch.new gains.new (length bounds.now - 1) }
 {

@@ -1,7 +1,7 @@
 // The zones of the scratch, by the extent of a job.
 ghost use Rattle.std.specs.Prelude.{◌≡◌, ◌*◌};
-ghost use Rattle.rules.specs.Job.{scratchNumbers};
-ghost use Rattle.tables.specs.Zones.{countsAt, sideAt, zonesOf};
+ghost use Rattle.rules.specs.Job.{scratch_numbers};
+ghost use Rattle.tables.specs.Zones.{counts_at, side_at, zones_of};
 
 use job::{Job, wide};
 
@@ -22,7 +22,7 @@ pub struct Zones {
 }
 
 pub fn zones_of(extent: Extent) -> Zones
-    ensures { result ≡ zonesOf extent.files extent.pins }
+    ensures { result ≡ zones_of extent.files extent.pins }
 {
     let c = wide(extent.files);
     let starts = c + wide(extent.pins);
@@ -35,7 +35,7 @@ pub fn zones_of(extent: Extent) -> Zones
 
 // Where the counts of side u begin.
 pub fn side_at(extent: Extent, u: u16) -> usize
-    ensures { result ≡ sideAt (countsAt extent.files extent.pins) extent.recipes u }
+    ensures { result ≡ side_at (counts_at extent.files extent.pins) extent.recipes u }
 {
     let zones = zones_of(extent);
     if u == 0 {
@@ -48,8 +48,8 @@ pub fn side_at(extent: Extent, u: u16) -> usize
 pub const MOST_NUMBERS: usize = Job::MOST_PINS + 4 * Job::MOST_FILES + 8 * Job::MOST_RECIPES + 16;
 
 pub(crate) fn numbers_for(edition: u16, extent: Extent) -> usize
-    ensures value { result ≡ scratchNumbers edition extent.pins extent.files extent.recipes }
-    ensures* do_value { do ⌜ (← (⟦MOST_NUMBERS⟧).entry) ≡ scratchNumbers 2 (← (⟦Job::MOST_PINS⟧).entry) (← (⟦Job::MOST_FILES⟧).entry) (← (⟦Job::MOST_RECIPES⟧).entry) ⌝ }
+    ensures value { result ≡ scratch_numbers edition extent.pins extent.files extent.recipes }
+    ensures* do_value { do ⌜ (← (⟦MOST_NUMBERS⟧).entry) ≡ scratch_numbers 2 (← (⟦Job::MOST_PINS⟧).entry) (← (⟦Job::MOST_FILES⟧).entry) (← (⟦Job::MOST_RECIPES⟧).entry) ⌝ }
 {
     let counts = scans_for(extent);
     let numbers = wide(extent.pins) + 4 * wide(extent.files) + counts + 16;

@@ -8,68 +8,68 @@ use native.Mathlib.Omega.{arith}
 use lib.ListN.{length, get_or}
 use lib.Dec.{eqb}
 use borrow.Author.Tests.{eqb-true, eqb-false, eq-eqb, ne_eqb, lt-ltb, le-ltb}
-use Rattle.rules.specs.Check.{isEdition}
-use Rattle.rules.specs.Report.{digitsIn, digits}
-use Rattle.teller.specs.Arguments.{ofDigit, editionIn, editionNamed, NamesHold}
+use Rattle.rules.specs.Check.{is_edition}
+use Rattle.rules.specs.Report.{digits_in, digits}
+use Rattle.teller.specs.Arguments.{of_digit, edition_in, edition_named, NamesHold}
 
 -- ---- as the code tells them apart
 
-pub other_length : (word : List ℕ) → length word ≢ 1 → 0 ≡ editionIn word
-unfolding editionIn
-other_length word n = rw (ne_eqb (length word) 1 n, editionIn) refl
+pub other_length : (word : List ℕ) → length word ≢ 1 → 0 ≡ edition_in word
+unfolding edition_in
+other_length word n = rw (ne_eqb (length word) 1 n, edition_in) refl
 
 module _ (word : List ℕ) (l : length word ≡ 1) where
-  by-digit : ofDigit (get_or word 0 0) ≡ editionIn word
-  unfolding editionIn
-  by-digit = rw (eq-eqb (length word) 1 l, editionIn) refl
+  by-digit : of_digit (get_or word 0 0) ≡ edition_in word
+  unfolding edition_in
+  by-digit = rw (eq-eqb (length word) 1 l, edition_in) refl
 
-  pub digit-one : get_or word 0 0 ≡ 49 → 1 ≡ editionIn word
+  pub digit-one : get_or word 0 0 ≡ 49 → 1 ≡ edition_in word
   digit-one d = rw (eq-eqb (get_or word 0 0) 49 d) at by-digit
 
   module _ (other : get_or word 0 0 ≢ 49) where
-    pub digit-two : get_or word 0 0 ≡ 50 → 2 ≡ editionIn word
+    pub digit-two : get_or word 0 0 ≡ 50 → 2 ≡ edition_in word
     digit-two d = rw (ne_eqb (get_or word 0 0) 49 other, eq-eqb (get_or word 0 0) 50 d) at by-digit
 
     module _ (neither : get_or word 0 0 ≢ 50) where
-      pub digit-three : get_or word 0 0 ≡ 51 → 3 ≡ editionIn word
+      pub digit-three : get_or word 0 0 ≡ 51 → 3 ≡ edition_in word
       digit-three d = rw (ne_eqb (get_or word 0 0) 49 other, ne_eqb (get_or word 0 0) 50 neither, eq-eqb (get_or word 0 0) 51 d) at by-digit
 
-      pub no_digit : get_or word 0 0 ≢ 51 → 0 ≡ editionIn word
+      pub no_digit : get_or word 0 0 ≢ 51 → 0 ≡ edition_in word
       no_digit n = rw (ne_eqb (get_or word 0 0) 49 other, ne_eqb (get_or word 0 0) 50 neither, ne_eqb (get_or word 0 0) 51 n) at by-digit
 
 module _ (words : ℕ) (word : List ℕ) (unsaid : ℕ) where
-  pub named-unsaid : words < 2 → unsaid ≡ editionNamed words word unsaid
-  unfolding editionNamed
-  named-unsaid h = rw (lt-ltb words 2 h, editionNamed) refl
+  pub named-unsaid : words < 2 → unsaid ≡ edition_named words word unsaid
+  unfolding edition_named
+  named-unsaid h = rw (lt-ltb words 2 h, edition_named) refl
 
   module _ (some : 2 ≤ words) where
-    pub named_more : 2 < words → 0 ≡ editionNamed words word unsaid
-    unfolding editionNamed
-    named_more h = rw (le-ltb words 2 some, lt-ltb 2 words h, editionNamed) refl
+    pub named_more : 2 < words → 0 ≡ edition_named words word unsaid
+    unfolding edition_named
+    named_more h = rw (le-ltb words 2 some, lt-ltb 2 words h, edition_named) refl
 
-    pub named-one : words ≤ 2 → editionIn word ≡ editionNamed words word unsaid
-    unfolding editionNamed
-    named-one h = rw (le-ltb words 2 some, le-ltb 2 words h, editionNamed) refl
+    pub named-one : words ≤ 2 → edition_in word ≡ edition_named words word unsaid
+    unfolding edition_named
+    named-one h = rw (le-ltb words 2 some, le-ltb 2 words h, edition_named) refl
 
 -- ---- what they mean
 
-only-digits : (word : List ℕ) (e : ℕ) → editionIn word ≡ e → e ≢ 0 → (isEdition e ≡ true) × (word ≡ digits e)
+only-digits : (word : List ℕ) (e : ℕ) → edition_in word ≡ e → e ≢ 0 → (is_edition e ≡ true) × (word ≡ digits e)
 only-digits [] e q n = absurd (n (sym q ∙ sym (other_length [] (λ l. omega arith))))
 only-digits (b ∷ []) e q n = go (eqb b 49) refl (eqb b 50) refl (eqb b 51) refl
   where
-    go : (x : Bool) → eqb b 49 ≡ x → (y : Bool) → eqb b 50 ≡ y → (z : Bool) → eqb b 51 ≡ z → (isEdition e ≡ true) × (b ∷ [] ≡ digits e)
+    go : (x : Bool) → eqb b 49 ≡ x → (y : Bool) → eqb b 50 ≡ y → (z : Bool) → eqb b 51 ≡ z → (is_edition e ≡ true) × (b ∷ [] ≡ digits e)
     go true p y t z u =
         let one : e ≡ 1 = sym q ∙ sym (digit-one (b ∷ []) refl (eqb-true b 49 p)) in
-        rw (one, eqb-true b 49 p) (unfold digitsIn in (refl, refl))
+        rw (one, eqb-true b 49 p) (unfold digits_in in (refl, refl))
     go false p true t z u =
         let two : e ≡ 2 = sym q ∙ sym (digit-two (b ∷ []) refl (eqb-false b 49 p) (eqb-true b 50 t)) in
-        rw (two, eqb-true b 50 t) (unfold digitsIn in (refl, refl))
+        rw (two, eqb-true b 50 t) (unfold digits_in in (refl, refl))
     go false p false t true u =
         let three : e ≡ 3 = sym q ∙ sym (digit-three (b ∷ []) refl (eqb-false b 49 p) (eqb-false b 50 t) (eqb-true b 51 u)) in
-        rw (three, eqb-true b 51 u) (unfold digitsIn in (refl, refl))
+        rw (three, eqb-true b 51 u) (unfold digits_in in (refl, refl))
     go false p false t false u = absurd (n (sym q ∙ sym (no_digit (b ∷ []) refl (eqb-false b 49 p) (eqb-false b 50 t) (eqb-false b 51 u))))
 only-digits (b ∷ c ∷ bs) e q n = absurd (n (sym q ∙ sym (other_length (b ∷ c ∷ bs) (λ l. omega (arith, l)))))
 
 pub names-hold : NamesHold
-unfolding editionIn digitsIn
+unfolding edition_in digits_in
 names-hold = record { one = refl; two = refl; three = refl; only = only-digits }

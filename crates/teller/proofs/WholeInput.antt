@@ -6,10 +6,10 @@ use lib.ListN.{take}
 use Rattle.rules.specs.Report.{prints}
 use Rattle.rules.specs.Trace.{traces}
 use Rattle.rules.proofs.CutOff.{longer-same}
-use Rattle.layout.proofs.WholeInput.{most, inputBytes, input-whole}
+use Rattle.layout.proofs.WholeInput.{most, input_bytes, input-whole}
 
-pub night-whole : (edition : ℕ) (bytes : List ℕ) → prints edition most (take inputBytes bytes) ≡ prints edition most bytes
-night-whole edition bytes = (longer-same most inputBytes bytes).same edition input-whole
+pub night-whole : (edition : ℕ) (bytes : List ℕ) → prints edition most (take input_bytes bytes) ≡ prints edition most bytes
+night-whole edition bytes = (longer-same most input_bytes bytes).same edition input-whole
 
-pub trace-whole : (edition : ℕ) (bytes : List ℕ) → traces edition most (take inputBytes bytes) ≡ traces edition most bytes
-trace-whole edition bytes = (longer-same most inputBytes bytes).traced edition input-whole
+pub trace-whole : (edition : ℕ) (bytes : List ℕ) → traces edition most (take input_bytes bytes) ≡ traces edition most bytes
+trace-whole edition bytes = (longer-same most input_bytes bytes).traced edition input-whole

@@ -2,14 +2,14 @@
 mod arguments;
 
 ghost use Rattle.std.specs.Prelude.{◌≡◌, ◌≢◌, ◌≤◌, length};
-ghost use Rattle.rules.specs.Job.{limitsOf, lent_of};
-ghost use Rattle.job.specs.Parts.{wholeJob};
-ghost use Rattle.rules.specs.Check.{checkEdition};
-ghost use Rattle.rules.specs.Report.{refusal, «printed», intoRoom, allLent, prints};
+ghost use Rattle.rules.specs.Job.{limits_of, lent_of};
+ghost use Rattle.job.specs.Parts.{whole_job};
+ghost use Rattle.rules.specs.Check.{check_edition};
+ghost use Rattle.rules.specs.Report.{refusal, «printed», into_room, all_lent, prints};
 ghost use Rattle.rules.specs.Trace.{traces};
 ghost use Rattle.report.specs.Lending.{Answered, Lendable};
-ghost use Rattle.stored.specs.Steps.{jobTaken, Held};
-ghost use Rattle.teller.specs.Telling.{runReport, passTrace};
+ghost use Rattle.stored.specs.Steps.{job_taken, Held};
+ghost use Rattle.teller.specs.Telling.{run_report, pass_trace};
 
 pub use arguments::edition_named;
 use job::Job;
@@ -38,7 +38,7 @@ pub const TRACE_BYTES: usize = TRACE_FIGURES_BYTES
 // What reading refused is told as a refused run is.
 fn print_refusal(verdict: Verdict, out: &mut [u8]) -> Printed
     requires { verdict.number ≢ 0 }
-    ensures out_after { «printed» result out.new ≡ intoRoom (refusal verdict) out.old }
+    ensures out_after { «printed» result out.new ≡ into_room (refusal verdict) out.old }
     ensures answered { Answered TEXT_BYTES result.verdict out.old }
 {
     report::report(runs::refused(verdict), &[], &[], &[], out)
@@ -46,7 +46,7 @@ fn print_refusal(verdict: Verdict, out: &mut [u8]) -> Printed
 
 // The line of an argument that names no edition there is.
 pub fn refuse_edition(out: &mut [u8]) -> Printed
-    ensures out_after { «printed» result out.new ≡ intoRoom (refusal (checkEdition 0)) out.old }
+    ensures out_after { «printed» result out.new ≡ into_room (refusal (check_edition 0)) out.old }
     ensures answered { Answered TEXT_BYTES result.verdict out.old × Lendable result.bytes out.new }
 {
     let verdict = Verdict {
@@ -76,8 +76,8 @@ fn report_run(
     out: &mut [u8],
 ) -> Printed
     requires* fact { do ⌜ (length sizes.now ≤ (← ⟦Job::MOST_FILES⟧)) × (length sides.old ≡ length sizes.now) × (length marks.now ≡ length sizes.now) ⌝ }
-    requires* scratch_value { do ⌜ lent_of gains.old tried.old gained.old cuts.old ends.old recipes.old kinds.old scratch.old ≡ allLent (limitsOf (← ⟦Job::MOST_FILES⟧) (← ⟦Job::MOST_RECIPES⟧) (← ⟦Job::MOST_PINS⟧) (← ⟦Job::MOST_DEN⟧)) (wholeJob job sizes.now sides.old marks.now bounds.now pins.now) ⌝ }
-    ensures* out_after { do ⌜ «printed» result out.new ≡ intoRoom (runReport edition (limitsOf (← (⟦Job::MOST_FILES⟧).entry) (← (⟦Job::MOST_RECIPES⟧).entry) (← (⟦Job::MOST_PINS⟧).entry) (← (⟦Job::MOST_DEN⟧).entry)) (wholeJob job sizes.now sides.old marks.now bounds.now pins.now)) out.old ⌝ }
+    requires* scratch_value { do ⌜ lent_of gains.old tried.old gained.old cuts.old ends.old recipes.old kinds.old scratch.old ≡ all_lent (limits_of (← ⟦Job::MOST_FILES⟧) (← ⟦Job::MOST_RECIPES⟧) (← ⟦Job::MOST_PINS⟧) (← ⟦Job::MOST_DEN⟧)) (whole_job job sizes.now sides.old marks.now bounds.now pins.now) ⌝ }
+    ensures* out_after { do ⌜ «printed» result out.new ≡ into_room (run_report edition (limits_of (← (⟦Job::MOST_FILES⟧).entry) (← (⟦Job::MOST_RECIPES⟧).entry) (← (⟦Job::MOST_PINS⟧).entry) (← (⟦Job::MOST_DEN⟧).entry)) (whole_job job sizes.now sides.old marks.now bounds.now pins.now)) out.old ⌝ }
     ensures answered { Answered TEXT_BYTES result.verdict out.old }
 {
     let f = runs::run(
@@ -89,8 +89,8 @@ fn report_run(
 
 // The same of a job that was taken up, with lists of the teller's own.
 fn report_job(edition: u16, t: TakenUp, out: &mut [u8]) -> Printed
-    requires* { do ⌜ Held (limitsOf (← ⟦Job::MOST_FILES⟧) (← ⟦Job::MOST_RECIPES⟧) (← ⟦Job::MOST_PINS⟧) (← ⟦Job::MOST_DEN⟧)) t ⌝ }
-    ensures* out_after { do ⌜ «printed» result out.new ≡ intoRoom (runReport edition (limitsOf (← (⟦Job::MOST_FILES⟧).entry) (← (⟦Job::MOST_RECIPES⟧).entry) (← (⟦Job::MOST_PINS⟧).entry) (← (⟦Job::MOST_DEN⟧).entry)) (jobTaken t)) out.old ⌝ }
+    requires* { do ⌜ Held (limits_of (← ⟦Job::MOST_FILES⟧) (← ⟦Job::MOST_RECIPES⟧) (← ⟦Job::MOST_PINS⟧) (← ⟦Job::MOST_DEN⟧)) t ⌝ }
+    ensures* out_after { do ⌜ «printed» result out.new ≡ into_room (run_report edition (limits_of (← (⟦Job::MOST_FILES⟧).entry) (← (⟦Job::MOST_RECIPES⟧).entry) (← (⟦Job::MOST_PINS⟧).entry) (← (⟦Job::MOST_DEN⟧).entry)) (job_taken t)) out.old ⌝ }
     ensures* fact { do ⌜ Answered (← (⟦TEXT_BYTES⟧).entry) result.verdict out.old ⌝ }
 {
     let read = t.read;
@@ -134,7 +134,7 @@ fn report_job(edition: u16, t: TakenUp, out: &mut [u8]) -> Printed
 
 // The night's report of a stored job by an edition: what the program `edition` prints where its argument names that edition, and `night` by edition 1, for every input.
 pub fn night(edition: u16, input: &[u8], out: &mut [u8]) -> Printed
-    ensures* out_after { do ⌜ «printed» result out.new ≡ intoRoom (prints edition (limitsOf (← (⟦Job::MOST_FILES⟧).entry) (← (⟦Job::MOST_RECIPES⟧).entry) (← (⟦Job::MOST_PINS⟧).entry) (← (⟦Job::MOST_DEN⟧).entry)) input.now) out.old ⌝ }
+    ensures* out_after { do ⌜ «printed» result out.new ≡ into_room (prints edition (limits_of (← (⟦Job::MOST_FILES⟧).entry) (← (⟦Job::MOST_RECIPES⟧).entry) (← (⟦Job::MOST_PINS⟧).entry) (← (⟦Job::MOST_DEN⟧).entry)) input.now) out.old ⌝ }
     ensures answered { Answered TEXT_BYTES result.verdict out.old × Lendable result.bytes out.new }
 {
     let t = stored::take_up(input);
@@ -166,8 +166,8 @@ fn trace_pass(
     out: &mut [u8],
 ) -> Printed
     requires* fact { do ⌜ (length sizes.now ≤ (← ⟦Job::MOST_FILES⟧)) × (length sides.old ≡ length sizes.now) × (length marks.now ≡ length sizes.now) ⌝ }
-    requires* scratch_value { do ⌜ lent_of gains.old tried.old gained.old cuts.old ends.old recipes.old kinds.old scratch.old ≡ allLent (limitsOf (← ⟦Job::MOST_FILES⟧) (← ⟦Job::MOST_RECIPES⟧) (← ⟦Job::MOST_PINS⟧) (← ⟦Job::MOST_DEN⟧)) (wholeJob job sizes.now sides.old marks.now bounds.now pins.now) ⌝ }
-    ensures* out_after { do ⌜ «printed» result out.new ≡ intoRoom (passTrace edition (limitsOf (← (⟦Job::MOST_FILES⟧).entry) (← (⟦Job::MOST_RECIPES⟧).entry) (← (⟦Job::MOST_PINS⟧).entry) (← (⟦Job::MOST_DEN⟧).entry)) (wholeJob job sizes.now sides.old marks.now bounds.now pins.now)) out.old ⌝ }
+    requires* scratch_value { do ⌜ lent_of gains.old tried.old gained.old cuts.old ends.old recipes.old kinds.old scratch.old ≡ all_lent (limits_of (← ⟦Job::MOST_FILES⟧) (← ⟦Job::MOST_RECIPES⟧) (← ⟦Job::MOST_PINS⟧) (← ⟦Job::MOST_DEN⟧)) (whole_job job sizes.now sides.old marks.now bounds.now pins.now) ⌝ }
+    ensures* out_after { do ⌜ «printed» result out.new ≡ into_room (pass_trace edition (limits_of (← (⟦Job::MOST_FILES⟧).entry) (← (⟦Job::MOST_RECIPES⟧).entry) (← (⟦Job::MOST_PINS⟧).entry) (← (⟦Job::MOST_DEN⟧).entry)) (whole_job job sizes.now sides.old marks.now bounds.now pins.now)) out.old ⌝ }
     ensures answered { Answered TRACE_BYTES result.verdict out.old }
 {
     let f = split::pass_once(
@@ -181,8 +181,8 @@ fn trace_pass(
 
 // The same of a job that was taken up, with lists of the teller's own.
 fn trace_job(edition: u16, t: TakenUp, out: &mut [u8]) -> Printed
-    requires* { do ⌜ Held (limitsOf (← ⟦Job::MOST_FILES⟧) (← ⟦Job::MOST_RECIPES⟧) (← ⟦Job::MOST_PINS⟧) (← ⟦Job::MOST_DEN⟧)) t ⌝ }
-    ensures* out_after { do ⌜ «printed» result out.new ≡ intoRoom (passTrace edition (limitsOf (← (⟦Job::MOST_FILES⟧).entry) (← (⟦Job::MOST_RECIPES⟧).entry) (← (⟦Job::MOST_PINS⟧).entry) (← (⟦Job::MOST_DEN⟧).entry)) (jobTaken t)) out.old ⌝ }
+    requires* { do ⌜ Held (limits_of (← ⟦Job::MOST_FILES⟧) (← ⟦Job::MOST_RECIPES⟧) (← ⟦Job::MOST_PINS⟧) (← ⟦Job::MOST_DEN⟧)) t ⌝ }
+    ensures* out_after { do ⌜ «printed» result out.new ≡ into_room (pass_trace edition (limits_of (← (⟦Job::MOST_FILES⟧).entry) (← (⟦Job::MOST_RECIPES⟧).entry) (← (⟦Job::MOST_PINS⟧).entry) (← (⟦Job::MOST_DEN⟧).entry)) (job_taken t)) out.old ⌝ }
     ensures* fact { do ⌜ Answered (← (⟦TRACE_BYTES⟧).entry) result.verdict out.old ⌝ }
 {
     let read = t.read;
@@ -226,7 +226,7 @@ fn trace_job(edition: u16, t: TakenUp, out: &mut [u8]) -> Printed
 
 // The trace of one pass by an edition over a stored job: what the program `trace` prints, for every input.
 pub fn trace(edition: u16, input: &[u8], out: &mut [u8]) -> Printed
-    ensures* out_after { do ⌜ «printed» result out.new ≡ intoRoom (traces edition (limitsOf (← (⟦Job::MOST_FILES⟧).entry) (← (⟦Job::MOST_RECIPES⟧).entry) (← (⟦Job::MOST_PINS⟧).entry) (← (⟦Job::MOST_DEN⟧).entry)) input.now) out.old ⌝ }
+    ensures* out_after { do ⌜ «printed» result out.new ≡ into_room (traces edition (limits_of (← (⟦Job::MOST_FILES⟧).entry) (← (⟦Job::MOST_RECIPES⟧).entry) (← (⟦Job::MOST_PINS⟧).entry) (← (⟦Job::MOST_DEN⟧).entry)) input.now) out.old ⌝ }
     ensures answered { Answered TRACE_BYTES result.verdict out.old × Lendable result.bytes out.new }
 {
     let t = stored::take_up(input);

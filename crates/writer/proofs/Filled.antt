@@ -7,13 +7,13 @@ use lib.ListN.{length, set, take, replicate, length-append, length-replicate}
 use Rattle.rules.specs.declared.Header.{Header}
 use Rattle.rules.specs.Lists.{up_to, onto, padded}
 use Rattle.rules.specs.Job.{Job}
-use Rattle.rules.specs.Stored.{block_check, kind_of, valuesIn}
-use Rattle.rules.specs.Writing.{twoBytes, valueBytes, contents, block_of, headerFor, jobValue, jobBlock}
+use Rattle.rules.specs.Stored.{block_check, kind_of, values_in}
+use Rattle.rules.specs.Writing.{two_bytes, value_bytes, contents, block_of, header_for, job_value, job_block}
 use Rattle.rules.proofs.Count.{tabled-more, length-tabled}
 use Rattle.rules.proofs.Entries.{onto-two, onto-take, onto-all, padded-onto}
 use Rattle.rules.proofs.Words.{values_length, values-more, contents-length, check-same}
 use Rattle.rules.proofs.RoundTrip.{few-values}
-use Rattle.writer.specs.Filling.{withWord, filled}
+use Rattle.writer.specs.Filling.{with_word, filled}
 
 abbrev zeros : List ℕ
 zeros = replicate 512 0
@@ -22,26 +22,26 @@ zeros-length : length zeros ≡ 512
 zeros-length = length-replicate {A = ℕ} 512 0
 
 abbrev first : ℕ → ℕ → ℕ → List ℕ → List ℕ
-first b kind n vs = twoBytes b ++ (kind ∷ n ∷ valueBytes vs)
+first b kind n vs = two_bytes b ++ (kind ∷ n ∷ value_bytes vs)
 
 first-length : (b kind n : ℕ) (vs : List ℕ) → length (first b kind n vs) ≡ 4 + 2 * length vs
 first-length b kind n vs = omega (arith, values_length vs)
 
 -- a word at the end of the bytes put in so far
-word_more : (xs : List ℕ) (i x : ℕ) → length xs ≡ i → i < 511 → withWord (onto xs zeros) i x ≡ onto (xs ++ twoBytes x) zeros
-word_more xs i x l h = ap (λ (k : ℕ). withWord (onto xs zeros) k x) (sym l) ∙ onto-two xs zeros (x % 256) (x / 256) (omega (arith, zeros-length))
+word_more : (xs : List ℕ) (i x : ℕ) → length xs ≡ i → i < 511 → with_word (onto xs zeros) i x ≡ onto (xs ++ two_bytes x) zeros
+word_more xs i x l h = ap (λ (k : ℕ). with_word (onto xs zeros) k x) (sym l) ∙ onto-two xs zeros (x % 256) (x / 256) (omega (arith, zeros-length))
 
-pub filled_none : (b kind n : ℕ) → set (set (withWord zeros 0 b) 2 kind) 3 n ≡ filled b kind n []
-unfolding filled onto valueBytes
+pub filled_none : (b kind n : ℕ) → set (set (with_word zeros 0 b) 2 kind) 3 n ≡ filled b kind n []
+unfolding filled onto value_bytes
 filled_none b kind n = refl
 
 pub filled_more : (b kind n : ℕ) (f : ℕ → ℕ) (v x : ℕ) → v < 253 → x ≡ f v
-    → withWord (filled b kind n (map f (up_to v))) (4 + 2 * v) x ≡ filled b kind n (map f (up_to (v + 1)))
+    → with_word (filled b kind n (map f (up_to v))) (4 + 2 * v) x ≡ filled b kind n (map f (up_to (v + 1)))
 unfolding filled
 filled_more b kind n f v x h e =
     let vs : List ℕ = map f (up_to v) in
     word_more (first b kind n vs) (4 + 2 * v) x (first-length b kind n vs ∙ ap (λ (k : ℕ). 4 + 2 * k) (length-tabled f v)) (omega arith)
-    ∙ ap (λ (t : List ℕ). onto (twoBytes b ++ (kind ∷ n ∷ t)) zeros) (sym (values-more vs x))
+    ∙ ap (λ (t : List ℕ). onto (two_bytes b ++ (kind ∷ n ∷ t)) zeros) (sym (values-more vs x))
     ∙ ap (λ (y : ℕ). onto (first b kind n (vs ++ (y ∷ []))) zeros) e
     ∙ ap (λ (t : List ℕ). onto (first b kind n t) zeros) (sym (tabled-more f v))
 
@@ -50,7 +50,7 @@ module _ (b kind : ℕ) (vs : List ℕ) (few : length vs ≤ 253) where
   unfolding contents padded
   contents-padded =
       let xs : List ℕ = first b kind (length vs) vs in
-      let k : 506 - length (valueBytes vs) ≡ 510 - length xs = omega (arith, values_length vs) in
+      let k : 506 - length (value_bytes vs) ≡ 510 - length xs = omega (arith, values_length vs) in
       ap (λ (m : ℕ). xs ++ replicate m 0) k
 
   -- its first 510 bytes are its contents
@@ -66,25 +66,25 @@ module _ (b kind : ℕ) (vs : List ℕ) (few : length vs ≤ 253) where
       check-same b kind vs few (filled b kind (length vs) vs)
       (ap (λ (t : List ℕ). take 510 t) filled-all ∙ ap (λ (k : ℕ). take k (onto c zeros)) (sym (contents-length b kind vs few)) ∙ onto-take c zeros)
 
-  pub filled-whole : withWord (filled b kind (length vs) vs) 510 (block_check (filled b kind (length vs) vs)) ≡ block_of b kind vs
+  pub filled-whole : with_word (filled b kind (length vs) vs) 510 (block_check (filled b kind (length vs) vs)) ≡ block_of b kind vs
   unfolding block_of
   filled-whole =
       let c : List ℕ = contents b kind vs in
       let k : ℕ = block_check c in
       let l : length c ≡ 510 = contents-length b kind vs few in
-      ap (λ (x : ℕ). withWord (filled b kind (length vs) vs) 510 x) (sym filled-check)
-      ∙ ap (λ (t : List ℕ). withWord t 510 k) filled-all
+      ap (λ (x : ℕ). with_word (filled b kind (length vs) vs) 510 x) (sym filled-check)
+      ∙ ap (λ (t : List ℕ). with_word t 510 k) filled-all
       ∙ word_more c 510 k l (omega arith)
-      ∙ onto-all (c ++ twoBytes k) zeros (zeros-length ∙ omega (arith, length-append c (twoBytes k)))
+      ∙ onto-all (c ++ two_bytes k) zeros (zeros-length ∙ omega (arith, length-append c (two_bytes k)))
 
 -- block b of the job whose header is h
-pub filled-block : (h : Header) (job : Job) (b n : ℕ) → h ≡ headerFor job → n ≡ valuesIn h b → (block : List ℕ)
-    → block ≡ filled b (kind_of h b) n (map (jobValue job b) (up_to n)) → withWord block 510 (block_check block) ≡ jobBlock job b
-unfolding jobBlock
+pub filled-block : (h : Header) (job : Job) (b n : ℕ) → h ≡ header_for job → n ≡ values_in h b → (block : List ℕ)
+    → block ≡ filled b (kind_of h b) n (map (job_value job b) (up_to n)) → with_word block 510 (block_check block) ≡ job_block job b
+unfolding job_block
 filled-block h job b n e k block p =
-    let vs : List ℕ = map (jobValue job b) (up_to n) in
-    let l : length vs ≡ n = length-tabled (jobValue job b) n in
-    ap (λ (t : List ℕ). withWord t 510 (block_check t)) (p ∙ ap (λ (m : ℕ). filled b (kind_of h b) m vs) (sym l))
+    let vs : List ℕ = map (job_value job b) (up_to n) in
+    let l : length vs ≡ n = length-tabled (job_value job b) n in
+    ap (λ (t : List ℕ). with_word t 510 (block_check t)) (p ∙ ap (λ (m : ℕ). filled b (kind_of h b) m vs) (sym l))
     ∙ filled-whole b (kind_of h b) vs (omega (arith, few-values h b))
-    ∙ ap (λ (m : ℕ). block_of b (kind_of h b) (map (jobValue job b) (up_to m))) k
-    ∙ ap (λ (g : Header). block_of b (kind_of g b) (map (jobValue job b) (up_to (valuesIn g b)))) e
+    ∙ ap (λ (m : ℕ). block_of b (kind_of h b) (map (job_value job b) (up_to m))) k
+    ∙ ap (λ (g : Header). block_of b (kind_of g b) (map (job_value job b) (up_to (values_in g b)))) e

@@ -1,8 +1,8 @@
 // A block of 512 bytes: filled from the job's values, its check put in, and copied to its place.
 ghost use Rattle.std.specs.Prelude.{◌≡◌, ◌+◌, ◌<◌, ◌≤◌, length, replicate};
 ghost use Rattle.std.proofs.Math.Seq.{paste};
-ghost use Rattle.rules.specs.Writing.{jobBlock};
-ghost use Rattle.writer.specs.Filling.{jobWith, Writable, withWord};
+ghost use Rattle.rules.specs.Writing.{job_block};
+ghost use Rattle.writer.specs.Filling.{job_with, Writable, with_word};
 
 use crate::values::job_value;
 use layout::{check_of, kind_of, values_in};
@@ -11,7 +11,7 @@ use rules::Header;
 // Two bytes, low byte first.
 fn put_word(block: &mut [u8; 512], i: usize, x: u16)
     requires { i < 511 }
-    ensures { block.new ≡ withWord block.old i x }
+    ensures { block.new ≡ with_word block.old i x }
 {
     block[i] = (x % 256) as u8;
     block[i + 1] = (x / 256) as u8;
@@ -29,8 +29,8 @@ pub(crate) fn fill(
     pins: &[u16],
 )
     requires block_value { block.old ≡ replicate 512 0 }
-    requires writable { Writable h (jobWith h sizes.now sides.now marks.now bounds.now pins.now) }
-    ensures { block.new ≡ jobBlock (jobWith h sizes.now sides.now marks.now bounds.now pins.now) b }
+    requires writable { Writable h (job_with h sizes.now sides.now marks.now bounds.now pins.now) }
+    ensures { block.new ≡ job_block (job_with h sizes.now sides.now marks.now bounds.now pins.now) b }
 {
     let n = values_in(h, b);
     put_word(block, 0, b);

@@ -3,11 +3,11 @@ mod block;
 mod values;
 
 ghost use Rattle.std.specs.Prelude.{◌≡◌, [], ◌*◌, ◌<◌, length};
-ghost use Rattle.rules.specs.Job.{limitsOf};
-ghost use Rattle.rules.specs.Stored.{blockCount};
-ghost use Rattle.rules.specs.Writing.{headerFor, blocksOf, writingOf, writing};
-ghost use Rattle.job.specs.Parts.{wholeJob};
-ghost use Rattle.writer.specs.Filling.{jobWith, Writable};
+ghost use Rattle.rules.specs.Job.{limits_of};
+ghost use Rattle.rules.specs.Stored.{block_count};
+ghost use Rattle.rules.specs.Writing.{header_for, blocks_of, writing_of, writing};
+ghost use Rattle.job.specs.Parts.{whole_job};
+ghost use Rattle.writer.specs.Filling.{job_with, Writable};
 
 use block::{fill, put_block};
 use job::{Job, bad_k, check_counts, check_sound, or_else, recipe_count, refuse_if, wide};
@@ -16,7 +16,7 @@ use rules::{Header, Verdict};
 
 fn header_for(job: Job, sizes: &[u16], bounds: &[u16], pins: &[u16]) -> Header
     requires { (length sizes.now < 65536) × (length bounds.now < 65536) × (length pins.now < 65536) }
-    ensures { result ≡ headerFor (wholeJob job sizes.now [] [] bounds.now pins.now) }
+    ensures { result ≡ header_for (whole_job job sizes.now [] [] bounds.now pins.now) }
 {
     Header {
         files: sizes.len() as u16,
@@ -39,9 +39,9 @@ fn put_blocks(
     pins: &[u16],
     out: &mut [u8],
 )
-    requires writable { Writable h (jobWith h sizes.now sides.now marks.now bounds.now pins.now) }
-    requires out_len { length out.old ≡ 512 * blockCount h }
-    ensures { out.new ≡ blocksOf (jobWith h sizes.now sides.now marks.now bounds.now pins.now) }
+    requires writable { Writable h (job_with h sizes.now sides.now marks.now bounds.now pins.now) }
+    requires out_len { length out.old ≡ 512 * block_count h }
+    ensures { out.new ≡ blocks_of (job_with h sizes.now sides.now marks.now bounds.now pins.now) }
 {
     let n = block_count(h);
     let mut b: u16 = 0;
@@ -63,7 +63,7 @@ pub fn write(
     pins: &[u16],
     out: &mut [u8],
 ) -> Verdict
-    ensures* { do ⌜ writingOf result out.new ≡ writing (limitsOf (← (⟦Job::MOST_FILES⟧).entry) (← (⟦Job::MOST_RECIPES⟧).entry) (← (⟦Job::MOST_PINS⟧).entry) (← (⟦Job::MOST_DEN⟧).entry)) (wholeJob job sizes.now sides.now marks.now bounds.now pins.now) out.old ⌝ }
+    ensures* { do ⌜ writing_of result out.new ≡ writing (limits_of (← (⟦Job::MOST_FILES⟧).entry) (← (⟦Job::MOST_RECIPES⟧).entry) (← (⟦Job::MOST_PINS⟧).entry) (← (⟦Job::MOST_DEN⟧).entry)) (whole_job job sizes.now sides.now marks.now bounds.now pins.now) out.old ⌝ }
 {
     let n = recipe_count(bounds);
     let counts = check_counts(sizes.len(), n, pins.len());

@@ -1,9 +1,9 @@
 // The values of a job's blocks.
 ghost use Rattle.std.specs.Prelude.{◌≡◌, ◌≤◌, get_or};
 ghost use Rattle.rules.specs.Theorems.{Binary};
-ghost use Rattle.rules.specs.Writing.{headerFigures, fileValue, jobValue};
-ghost use Rattle.job.specs.Parts.{ofFiles};
-ghost use Rattle.writer.specs.Filling.{jobWith, Writable};
+ghost use Rattle.rules.specs.Writing.{header_figures, file_value, job_value};
+ghost use Rattle.job.specs.Parts.{of_files};
+ghost use Rattle.writer.specs.Filling.{job_with, Writable};
 
 use job::{entry_at, wide};
 use layout::{bounds_at, pins_at};
@@ -11,7 +11,7 @@ use rules::Header;
 
 // Value v of the header's block.
 fn figure(h: Header, v: u8) -> u16
-    ensures { result ≡ get_or (headerFigures h) v 0 }
+    ensures { result ≡ get_or (header_figures h) v 0 }
 {
     let figures = [h.files, h.recipes, h.pins, h.num, h.den, h.cap, h.k];
     entry_at(&figures, v as usize)
@@ -20,7 +20,7 @@ fn figure(h: Header, v: u8) -> u16
 // Value v of file f: its size, and then side + 2·mark.
 fn file_value(sizes: &[u16], sides: &[u16], marks: &[u16], f: usize, v: u8) -> u16
     requires { Binary sides.now × ((f : _) → get_or marks.now f 0 ≤ 2) }
-    ensures { result ≡ fileValue (ofFiles sizes.now sides.now marks.now) f v }
+    ensures { result ≡ file_value (of_files sizes.now sides.now marks.now) f v }
 {
     if v == 0 {
         return entry_at(sizes, f);
@@ -39,8 +39,8 @@ pub(crate) fn job_value(
     bounds: &[u16],
     pins: &[u16],
 ) -> u16
-    requires { Writable h (jobWith h sizes.now sides.now marks.now bounds.now pins.now) }
-    ensures { result ≡ jobValue (jobWith h sizes.now sides.now marks.now bounds.now pins.now) b v }
+    requires { Writable h (job_with h sizes.now sides.now marks.now bounds.now pins.now) }
+    ensures { result ≡ job_value (job_with h sizes.now sides.now marks.now bounds.now pins.now) b v }
 {
     if b == 0 {
         return figure(h, v);

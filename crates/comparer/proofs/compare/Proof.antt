@@ -51,11 +51,11 @@ use denote.Exit.{yes}
 use denote.Signature.{plain}
 use Rattle.rules.specs.declared.Compared.{Compared}
 use Rattle.rules.specs.declared.Difference.{Difference}
-use Rattle.rules.specs.Job.{Limits, limitsOf}
+use Rattle.rules.specs.Job.{Limits, limits_of}
 use Rattle.rules.specs.Lists.{onto}
-use Rattle.rules.specs.Compare.{comparingOf, comparing}
+use Rattle.rules.specs.Compare.{comparing_of, comparing}
 use Rattle.comparer.specs.declared.Fitted.{Fitted}
-use Rattle.report.specs.Comparison.{recordsIn}
+use Rattle.report.specs.Comparison.{records_in}
 use Rattle.comparer.specs.Finding.{Fits}
 use Rattle.rules.specs.contracts.Compared as TC
 use Rattle.rules.proofs.Compared.TheLaws as TC'
@@ -129,7 +129,7 @@ module _ {M : Type 1} {𝓤 : Ura M} (𝓛 : Logic 𝓤) (run : Routine → Fun 
   module _ (φ : Limits → Type 0) where
     -- the clause φ of the limits, where the first three, two, one and none of them are answered
     abbrev Asking₃ : ℕ → ℕ → ℕ → SProp 𝓤
-    Asking₃ f r p = asked 𝓛 run den tt (λ d. fact 𝓤 (φ (limitsOf f r p d)))
+    Asking₃ f r p = asked 𝓛 run den tt (λ d. fact 𝓤 (φ (limits_of f r p d)))
 
     abbrev Asking₂ : ℕ → ℕ → SProp 𝓤
     Asking₂ f r = asked 𝓛 run pins tt (λ p. Asking₃ f r p)
@@ -141,12 +141,12 @@ module _ {M : Type 1} {𝓤 : Ura M} (𝓛 : Logic 𝓤) (run : Routine → Fun 
     Asking = asked 𝓛 run files tt (λ f. Asking₁ f)
 
     told-limits : ent 𝓤 Asking (fact 𝓤 ((l : Limits) × Limited l × φ l))
-    told-limits = told 𝓛 run files tt Asking₁ (λ f gf. told 𝓛 run recipes tt (Asking₂ f) (λ r gr. told 𝓛 run pins tt (Asking₃ f r) (λ p gp. told 𝓛 run den tt (λ d. fact 𝓤 (φ (limitsOf f r p d))) (λ d gd.
-        guard_e 𝓤 (φ (limitsOf f r p d)) (emp 𝓤) (λ h. fact_i 𝓤 ((l : Limits) × Limited l × φ l) (emp 𝓤) (limitsOf f r p d, (gf, gr, gp, gd), h))))))
+    told-limits = told 𝓛 run files tt Asking₁ (λ f gf. told 𝓛 run recipes tt (Asking₂ f) (λ r gr. told 𝓛 run pins tt (Asking₃ f r) (λ p gp. told 𝓛 run den tt (λ d. fact 𝓤 (φ (limits_of f r p d))) (λ d gd.
+        guard_e 𝓤 (φ (limits_of f r p d)) (emp 𝓤) (λ h. fact_i 𝓤 ((l : Limits) × Limited l × φ l) (emp 𝓤) (limits_of f r p d, (gf, gr, gp, gd), h))))))
 
     ask-limits : (l : Limits) → Limited l → φ l → ent 𝓤 (emp 𝓤) Asking
     ask-limits l g h = asks 𝓛 run files tt Asking₁ l.files g.0 (asks 𝓛 run recipes tt (Asking₂ l.files) l.recipes g.1 (asks 𝓛 run pins tt (Asking₃ l.files l.recipes) l.pins g.2
-        (asks 𝓛 run den tt (λ d. fact 𝓤 (φ (limitsOf l.files l.recipes l.pins d))) l.den g.3 (fact_i 𝓤 (φ l) (emp 𝓤) h))))
+        (asks 𝓛 run den tt (λ d. fact 𝓤 (φ (limits_of l.files l.recipes l.pins d))) l.den g.3 (fact_i 𝓤 (φ l) (emp 𝓤) h))))
 
 module _ {M : Type 1} {𝓤 : Ura M} (𝓛 : Logic 𝓤) (mem : Memory → SProp 𝓤) (run : Routine → Fun 𝓤) (κ₁ κ₂ κ : Lft) (q₁ q₂ q : Share) (xs ys : Bytes) (b o : ℕ) (γ : GName) (ds : List Difference) (rooms : Room u8 (length xs.now) × Room u8 (length ys.now)) (room : Room R (length ds)) where
   open 𝓛 use {H}
@@ -209,7 +209,7 @@ module _ {M : Type 1} {𝓤 : Ura M} (𝓛 : Logic 𝓤) (mem : Memory → SProp
 
   -- ---- the end
   abbrev Makes : Compared → List Difference → Limits → Type 0
-  Makes r zs l = comparingOf r zs ≡ comparing l xs.now ys.now ds
+  Makes r zs l = comparing_of r zs ≡ comparing l xs.now ys.now ds
 
   exits : (r : Compared) (zs : List Difference) → Is TC.the_row r (mach r ∷ []) → length zs ≡ m → (l : Limits) → Limited 𝓛 run κs l → Makes r zs l
       → ent 𝓤 (⋆ 𝓛 (‵ (flft κ q) ∷ ‵ (finally R γ zs) ∷ ‵ (flft κ₂ q₂) ∷ ‵ (flft κ₁ q₁) ∷ ‵ Seen ∷ [])) (Post (mach r))
@@ -306,8 +306,8 @@ module _ {M : Type 1} {𝓤 : Ura M} (𝓛 : Logic 𝓤) (mem : Memory → SProp
         -- [what it asks; the lender's part; κ₂; κ₁; Seen; the locals]
         calls_at ! fm (Store 𝓛 mem run) known_store (to-store l4 r (last zs) ν' δ') (and_then ! (load ! (from ! (stop !)) (look ! 9 refl)) (and_then ! (load ! (from ! (stop !)) (look ! 5 refl)) (and_then ! (load ! (from ! (fld ! refl (stop !))) (look_in ! 21 (sub ! 1 refl (whole !)))) (no_more !)))) (λ v'.
         use1 𝓛 (later (some (λ (r' : Unit {0}). ((‵ (flft κ q) ⊛ ‵ (flft (ν' ∷ []) full_share) ⊛ ‵ ftrue) ⊛ ‵ (unit.own_val r' (v' ∷ []))) ⊛ raw (ensured 𝓛 store.ended (store.clauses 𝓛 mem run) (κw ν') (of-store l4 r (last zs) ν' δ') tt r')))) (id⊢ 𝓤 _) $ await ! tt $ pick ! (λ r'.
-        split ! $ move ! (1 ∷ []) $ use1 𝓛 (some (λ (es : List Difference × (Unit {0} × (Unit {0} × Unit {0}))). ‵ (lasts store.ended (κw ν') (of-store l4 r (last zs) ν' δ') es) ⊛ raw (fact 𝓤 (es.0 ≡ onto (recordsIn r.stored (last zs)) ds)))) (id⊢ 𝓤 _) $ pick ! (λ es.
-        split ! $ move ! (1 ∷ []) $ heard ! (es.0 ≡ onto (recordsIn r.stored (last zs)) ds) (λ e. fsplit ! $ fsplit ! $ move ! (1 ∷ []) $ feq_l ! (λ k. move ! (1 ∷ []) $ drop ! $
+        split ! $ move ! (1 ∷ []) $ use1 𝓛 (some (λ (es : List Difference × (Unit {0} × (Unit {0} × Unit {0}))). ‵ (lasts store.ended (κw ν') (of-store l4 r (last zs) ν' δ') es) ⊛ raw (fact 𝓤 (es.0 ≡ onto (records_in r.stored (last zs)) ds)))) (id⊢ 𝓤 _) $ pick ! (λ es.
+        split ! $ move ! (1 ∷ []) $ heard ! (es.0 ≡ onto (records_in r.stored (last zs)) ds) (λ e. fsplit ! $ fsplit ! $ move ! (1 ∷ []) $ feq_l ! (λ k. move ! (1 ∷ []) $ drop ! $
         move ! (1 ∷ []) $ split ! $ move ! (1 ∷ []) $ peeks ! unit (Is unit) (shows 𝓛 unit) r' (v' ∷ []) (λ is'. drop ! $
         -- [the tokens; the last list; the lender's part; κ₂; κ₁; Seen; the locals]
         land ! (from ! (stop !)) (init ! 14 refl ((Nothing-Lawful 𝓛).typed r' _ is').0) $
@@ -318,7 +318,7 @@ module _ {M : Type 1} {𝓤 : Ura M} (𝓛 : Logic 𝓤) (mem : Memory → SProp
         returns ! (look ! 31 refl) $ forget ! 6 refl $ forget ! 8 refl $ forget ! 10 refl $ forget ! 12 refl $ forget ! 14 refl $ forget ! 16 refl $ forget ! 18 refl $ forget ! 20 refl $ forget ! 22 refl $ forget ! 25 refl $ forget ! 27 refl $ forget ! 29 refl $ forget ! 31 refl $
         move ! (31 ∷ 32 ∷ []) $ free1 ! $ move ! (29 ∷ 30 ∷ []) $ free1 ! $ move ! (27 ∷ 28 ∷ []) $ free1 ! $ move ! (25 ∷ 26 ∷ []) $ free1 ! $ move ! (0 ∷ 24 ∷ []) $ free1 ! $
         move ! (21 ∷ 22 ∷ []) $ free1 ! $ move ! (19 ∷ 20 ∷ []) $ free1 ! $ move ! (17 ∷ 18 ∷ []) $ free1 ! $ move ! (15 ∷ 16 ∷ []) $ free1 ! $ move ! (13 ∷ 14 ∷ []) $ free1 ! $ move ! (11 ∷ 12 ∷ []) $ free1 ! $ move ! (9 ∷ 10 ∷ []) $ free1 ! $ move ! (7 ∷ 8 ∷ []) $ free1 ! $ move ! (5 ∷ 6 ∷ []) $ free1 ! $ free0 ! $
-        by ! (exits r.answer es.0 (LL.owed TF.the_type TF'.the_laws r _ is).0 k told-l.0 told-l.1 (ap (λ (l : List Difference). comparingOf r.answer l) e ∙ told-l.2.makes ds refl))))))))))))))))))))))))))))))))))
+        by ! (exits r.answer es.0 (LL.owed TF.the_type TF'.the_laws r _ is).0 k told-l.0 told-l.1 (ap (λ (l : List Difference). comparing_of r.answer l) e ∙ told-l.2.makes ds refl))))))))))))))))))))))))))))))))))
 
 module _ {M : Type 1} {𝓤 : Ura M} (𝓛 : Logic 𝓤) (mem : Memory → SProp 𝓤) (run : Routine → Fun 𝓤) (𝓣 : Tables 𝓤 𝓛.H) (known-find : Triple 𝓤 (𝓣.C #comparer·find-for) (FindFor 𝓛 mem run)) (known_store : Triple 𝓤 (𝓣.C #comparer·store) (Store 𝓛 mem run))
     (given-n : (κs : Lfts 3) → gives 𝓛 run (find-for.⟦NUMBERS⟧-code κs) tt N) where

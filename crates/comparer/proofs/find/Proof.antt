@@ -1,5 +1,5 @@
 use native.Mathlib.Omega.{arith}
-use Rattle.rules.specs.Job.{limitsOf}
+use Rattle.rules.specs.Job.{limits_of}
 use Rattle.stored.proofs.JobTaken.{held-read}
 use Rattle.comparer.proofs.Found.{first-refused, second-refused, both_read}
 use borrow.Author.Rules.{rules}
@@ -16,7 +16,7 @@ returns : tie.Need-returns
 returns c =
     let a = c.before.before.before.before.before.before.before.before.before.args in
     let t = c.before.before.before.before.before.take-up in
-    first-refused (limitsOf _ _ _ _) a.old.now a.new.now t.result t.ensures.0 t.ensures.1 c.before.if1.true _ _ c.refused.ensures
+    first-refused (limits_of _ _ _ _) a.old.now a.new.now t.result t.ensures.0 t.ensures.1 c.before.if1.true _ _ c.refused.ensures
 
 take-up-requires-2 : tie.Need-take-up-requires-2
 take-up-requires-2 c κs = search rules
@@ -29,14 +29,14 @@ returns-2 c =
     let a = c.before.before.before.before.before.before.before.before.before.before.before.before.before.before.args in
     let t = c.before.before.before.before.before.before.before.before.before.before.take-up in
     let u = c.before.before.before.before.before.take-up2 in
-    second-refused (limitsOf _ _ _ _) a.old.now a.new.now t.result t.ensures.0 t.ensures.1 c.before.before.before.before.before.before.if1.false u.result u.ensures.0 u.ensures.1 c.before.if2.true _ _ c.refused2.ensures
+    second-refused (limits_of _ _ _ _) a.old.now a.new.now t.result t.ensures.0 t.ensures.1 c.before.before.before.before.before.before.if1.false u.result u.ensures.0 u.ensures.1 c.before.if2.true _ _ c.refused2.ensures
 
 note-taken-requires : tie.Need-note-taken-requires
 note-taken-requires c κs =
     let t = c.before.before.before.before.before.before.before.before.before.before.take-up in
     let u = c.before.before.before.before.before.take-up2 in (
-      held-read (limitsOf _ _ _ _) _ t.result t.ensures.0 t.ensures.1 c.before.before.before.before.before.before.if1.false,
-      (held-read (limitsOf _ _ _ _) _ u.result u.ensures.0 u.ensures.1 c.before.if2.false, omega (arith, c.before.before.before.before.before.before.before.before.before.before.before.before.before.before.requires)),
+      held-read (limits_of _ _ _ _) _ t.result t.ensures.0 t.ensures.1 c.before.before.before.before.before.before.if1.false,
+      (held-read (limits_of _ _ _ _) _ u.result u.ensures.0 u.ensures.1 c.before.if2.false, omega (arith, c.before.before.before.before.before.before.before.before.before.before.before.before.before.before.requires)),
     )
 
 same_length : tie.Need-same-length
@@ -48,7 +48,7 @@ returns-3 c =
     let t = c.before.before.before.before.before.before.before.before.before.before.before.before.before.take-up in
     let u = c.before.before.before.before.before.before.before.before.take-up2 in
     let s = c.before.before.note-taken in
-    both_read (limitsOf _ _ _ _) a.old.now a.new.now t.result t.ensures.0 t.ensures.1 c.before.before.before.before.before.before.before.before.before.if1.false u.result u.ensures.0 u.ensures.1 c.before.before.before.before.if2.false s.result _ _ s.ensures.0 (omega (arith, s.ensures.1, s.auto, c.before.before.before.before.before.before.before.before.before.before.before.before.before.before.before.before.before.requires))
+    both_read (limits_of _ _ _ _) a.old.now a.new.now t.result t.ensures.0 t.ensures.1 c.before.before.before.before.before.before.before.before.before.if1.false u.result u.ensures.0 u.ensures.1 c.before.before.before.before.if2.false s.result _ _ s.ensures.0 (omega (arith, s.ensures.1, s.auto, c.before.before.before.before.before.before.before.before.before.before.before.before.before.before.before.before.before.requires))
 
 pub find_spec : {M : Type 1} → statement M
 find_spec =

@@ -56,7 +56,7 @@ use Rattle.rules.specs.declared.Difference.{Difference}
 use Rattle.rules.specs.Lists.{onto}
 use Rattle.rules.specs.contracts.Difference as T
 use Rattle.rules.proofs.Difference.TheLaws as T'
-use Rattle.report.specs.Comparison.{recordAt, recordsIn}
+use Rattle.report.specs.Comparison.{record_at, records_in}
 use Rattle.comparer.proofs.Row.{R, mach, typed, slice}
 use Rattle.comparer.proofs.Storing.{stored-none, stored_more, stored-length}
 use Rattle.comparer.specs.contracts.record_at as record-at
@@ -102,10 +102,10 @@ module _ {M : Type 1} {𝓤 : Ura M} (𝓛 : Logic 𝓤) (mem : Memory → SProp
   x l = record { ref_ptr = (b, o); ghost_name = γ; now = l }
 
   abbrev f : ℕ → Difference
-  f i = recordAt ns.now i
+  f i = record_at ns.now i
 
   abbrev L : ℕ → List Difference
-  L i = onto (recordsIn i ns.now) ys
+  L i = onto (records_in i ns.now) ys
 
   long : (i : ℕ) → i ≤ n → length (L i) ≡ length ys
   long i few = stored-length ns.now ys i (omega (arith, few, most.0))

@@ -1,5 +1,5 @@
 use native.Mathlib.Omega.{arith}
-use Rattle.rules.specs.Job.{limitsOf}
+use Rattle.rules.specs.Job.{limits_of}
 use Rattle.comparer.proofs.Telling.{tells}
 use borrow.Author.Rules.{rules}
 use Rattle.comparer.proofs.tell.Statement.{statement}
@@ -25,7 +25,7 @@ returns c =
     let a = c.before.before.before.before.before.before.before.before.before.before.before.args in
     let found = c.before.before.before.before.before.before.find.ensures in
     let told = c.before.before.comparison in
-    tells (limitsOf _ _ _ _) a.old.now a.new.now _ a.out.now found.0 found.1 _ told.result _ told.ensures.0 told.ensures.1 (omega arith)
+    tells (limits_of _ _ _ _) a.old.now a.new.now _ a.out.now found.0 found.1 _ told.result _ told.ensures.0 told.ensures.1 (omega arith)
 
 pub tell-spec : {M : Type 1} → statement M
 tell-spec =

@@ -1,7 +1,7 @@
 use mathlib.Core.Path.{ap, ◌∙◌}
 use native.Mathlib.Omega.{arith}
-use Rattle.rules.specs.Job.{limitsOf}
-use Rattle.rules.specs.Writing.{HandedOut, handInto}
+use Rattle.rules.specs.Job.{limits_of}
+use Rattle.rules.specs.Writing.{HandedOut, hand_into}
 use Rattle.rules.specs.Balance.{balances}
 use Rattle.stored.proofs.JobTaken.{held-read, bytes_read, within-read}
 use Rattle.hander.proofs.Handing.{both-lendable}
@@ -24,15 +24,15 @@ returns c =
     let a = c.before.before.before.before.before.before.before.before.before.before.before.args in
     let t = c.before.before.before.before.before.before.before.before.take-up in
     let h = c.before.before.hand-refusal in
-    let e = h.ensures.0 ∙ ap (λ (x : HandedOut). handInto x a.room.now) (balance-refused (limitsOf _ _ _ _) a.input.now t.result t.ensures.0 t.ensures.1 c.before.before.before.before.if1.true) in
-    (e, (λ long. h.ensures.1 (omega (arith, long)), both-lendable (balances (limitsOf _ _ _ _) a.input.now) a.room.now _ h.result e))
+    let e = h.ensures.0 ∙ ap (λ (x : HandedOut). hand_into x a.room.now) (balance-refused (limits_of _ _ _ _) a.input.now t.result t.ensures.0 t.ensures.1 c.before.before.before.before.if1.true) in
+    (e, (λ long. h.ensures.1 (omega (arith, long)), both-lendable (balances (limits_of _ _ _ _) a.input.now) a.room.now _ h.result e))
 
 balance-job-requires : tie.Need-balance-job-requires
 balance-job-requires c κs =
     let t = c.before.before.before.before.before.take-up in
     let z = c.before.if1.false in (
-      held-read (limitsOf _ _ _ _) _ t.result t.ensures.0 t.ensures.1 z,
-      (bytes_read (limitsOf _ _ _ _) _ t.result t.ensures.0 t.ensures.1 z, within-read (limitsOf _ _ _ _) _ t.result t.ensures.0 t.ensures.1 z _ (omega arith)),
+      held-read (limits_of _ _ _ _) _ t.result t.ensures.0 t.ensures.1 z,
+      (bytes_read (limits_of _ _ _ _) _ t.result t.ensures.0 t.ensures.1 z, within-read (limits_of _ _ _ _) _ t.result t.ensures.0 t.ensures.1 z _ (omega arith)),
     )
 
 same-length-2 : tie.Need-same-length-2
@@ -43,8 +43,8 @@ returns-2 c =
     let a = c.before.before.before.before.before.before.before.before.before.before.before.args in
     let t = c.before.before.before.before.before.before.before.before.take-up in
     let j = c.before.before.balance-job in
-    let e = j.ensures.0 ∙ ap (λ (x : HandedOut). handInto x a.room.now) (balance-read (limitsOf _ _ _ _) a.input.now t.result t.ensures.0 t.ensures.1 c.before.before.before.before.if1.false) in
-    (e, (j.ensures.1, both-lendable (balances (limitsOf _ _ _ _) a.input.now) a.room.now _ j.result e))
+    let e = j.ensures.0 ∙ ap (λ (x : HandedOut). hand_into x a.room.now) (balance-read (limits_of _ _ _ _) a.input.now t.result t.ensures.0 t.ensures.1 c.before.before.before.before.if1.false) in
+    (e, (j.ensures.1, both-lendable (balances (limits_of _ _ _ _) a.input.now) a.room.now _ j.result e))
 
 pub balance-spec : {M : Type 1} → statement M
 balance-spec =

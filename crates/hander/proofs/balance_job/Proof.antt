@@ -1,10 +1,10 @@
 use mathlib.Core.Path.{refl, sym, ap, ◌∙◌}
 use lib.Seq.{length-take-le}
-use Rattle.rules.specs.Job.{Job, Limits, limitsOf}
-use Rattle.rules.specs.Writing.{handInto}
+use Rattle.rules.specs.Job.{Job, Limits, limits_of}
+use Rattle.rules.specs.Writing.{hand_into}
 use Rattle.stored.specs.Room.{lists_of}
 use Rattle.stored.proofs.JobTaken.{first-whole}
-use Rattle.hander.specs.Handing.{balancingOut}
+use Rattle.hander.specs.Handing.{balancing_out}
 use borrow.Author.Rules.{rules}
 use Rattle.hander.proofs.balance_job.Statement.{statement}
 use Rattle.hander.proofs.balance_job.Tie as tie
@@ -15,7 +15,7 @@ use Rattle.hander.proofs.balance_job.⟦Job·MOST-DEN⟧-asked.Lts as den
 
 -- the job's own limits, as the contract asks them of the code
 abbrev most : Limits
-most = limitsOf (files.answer tt tt) (recipes.answer tt tt) (pins.answer tt tt) (den.answer tt tt)
+most = limits_of (files.answer tt tt) (recipes.answer tt tt) (pins.answer tt tt) (den.answer tt tt)
 
 cast-c : tie.Need-overflow-cast-c
 cast-c c = search rules
@@ -76,7 +76,7 @@ returns c =
     let a = c.before.before.before.before.before.before.before.before.before.before.before.before.before.before.before.before.before.before.before.before.before.before.before.before.args in
     let e = c.before.before.before.before.balance-with.ensures in
     let whole = first-whole a.t.read.header (lists_of a.t) _ c.before.before.before.before.before.before.before.before.before.before.before.before.before.before.before.before.before.figures-of.ensures in
-    (e.0 ∙ ap (λ (j : Job). handInto (balancingOut most j) a.room.now) whole, e.1)
+    (e.0 ∙ ap (λ (j : Job). hand_into (balancing_out most j) a.room.now) whole, e.1)
 
 pub balance-job-spec : {M : Type 1} → statement M
 balance-job-spec =

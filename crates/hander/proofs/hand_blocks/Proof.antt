@@ -1,8 +1,8 @@
 use mathlib.Core.Path.{sym}
 use native.Mathlib.Omega.{arith}
 use lib.Seq.{length-take-le}
-use Rattle.rules.specs.Job.{Job, limitsOf}
-use Rattle.job.specs.Parts.{wholeJob}
+use Rattle.rules.specs.Job.{Job, limits_of}
+use Rattle.job.specs.Parts.{whole_job}
 use Rattle.hander.proofs.Handing.{blocks-short, blocks-handed}
 use borrow.Author.Rules.{rules}
 use Rattle.hander.proofs.hand_blocks.Statement.{statement}
@@ -12,7 +12,7 @@ returns : tie.Need-returns
 returns c =
     let start = c.before.before.before.before.before.before.before in
     let a = start.args in
-    let job : Job = wholeJob a.job a.sizes.now a.sides.now a.marks.now a.bounds.now a.pins.now in
+    let job : Job = whole_job a.job a.sizes.now a.sides.now a.marks.now a.bounds.now a.pins.now in
     (blocks-short job a.room.now a.bytes start.requires.1 (omega arith), λ long. absurd (omega (arith, long)))
 
 slice-relend-prefix-write : tie.Need-slice-relend-prefix-write
@@ -31,8 +31,8 @@ returns-2 : tie.Need-returns-2
 returns-2 c =
     let start = c.before.before.before.before.before.before.before.before.before.before.before in
     let a = start.args in
-    let job : Job = wholeJob a.job a.sizes.now a.sides.now a.marks.now a.bounds.now a.pins.now in
-    let h = blocks-handed job a.room.now a.bytes start.requires.1 (limitsOf _ _ _ _) start.requires.0 c.before.before.before.before.if1.false _ _ c.before.before.write.ensures in
+    let job : Job = whole_job a.job a.sizes.now a.sides.now a.marks.now a.bounds.now a.pins.now in
+    let h = blocks-handed job a.room.now a.bytes start.requires.1 (limits_of _ _ _ _) start.requires.0 c.before.before.before.before.if1.false _ _ c.before.before.write.ensures in
     (h.0, λ long. h.1)
 
 pub hand-blocks-spec : {M : Type 1} → statement M

@@ -1,6 +1,6 @@
 use mathlib.Core.Path.{refl, ◌∙◌}
 use native.Mathlib.Omega.{arith}
-use Rattle.rules.specs.Job.{limitsOf}
+use Rattle.rules.specs.Job.{limits_of}
 use Rattle.rules.specs.Report.{refusal}
 use Rattle.rules.proofs.Reports.{into-number}
 use Rattle.rules.proofs.Balancing.{balance-refusal}
@@ -30,7 +30,7 @@ returns c =
     let room = start.args.room.now in
     let text = refusal start.args.verdict in
     let t = c.before.before.before.balanced in
-    let e = t.ensures.0 ∙ balance-refusal (limitsOf _ _ _ _) _ _ _ _ room start.requires in
+    let e = t.ensures.0 ∙ balance-refusal (limits_of _ _ _ _) _ _ _ _ room start.requires in
     (line-handed start.args.verdict room _ t.result e, λ long. into-number text room _ t.result e (t.ensures.1 refl refl (omega (arith, long))))
 
 pub hand-refusal-spec : {M : Type 1} → statement M

@@ -1,11 +1,11 @@
 use mathlib.Core.Path.{sym, ap, ◌∙◌}
 use lib.ListN.{take}
 use lib.Seq.{length-take-le}
-use Rattle.rules.specs.Job.{Job, Limits, limitsOf}
-use Rattle.rules.specs.Writing.{handInto}
+use Rattle.rules.specs.Job.{Job, Limits, limits_of}
+use Rattle.rules.specs.Writing.{hand_into}
 use Rattle.stored.specs.Room.{lists_of}
 use Rattle.stored.proofs.JobTaken.{first-whole, own-lent}
-use Rattle.hander.specs.Handing.{runOut}
+use Rattle.hander.specs.Handing.{run_out}
 use borrow.Author.Rules.{rules}
 use Rattle.hander.proofs.resettle_job.Statement.{statement}
 use Rattle.hander.proofs.resettle_job.Tie as tie
@@ -16,7 +16,7 @@ use Rattle.hander.proofs.resettle_job.⟦Job·MOST-DEN⟧-asked.Lts as den
 
 -- the job's own limits, as the contract asks them of the code
 abbrev most : Limits
-most = limitsOf (files.answer tt tt) (recipes.answer tt tt) (pins.answer tt tt) (den.answer tt tt)
+most = limits_of (files.answer tt tt) (recipes.answer tt tt) (pins.answer tt tt) (den.answer tt tt)
 
 cast-c : tie.Need-overflow-cast-c
 cast-c c = search rules
@@ -64,10 +64,10 @@ slice-aggregate-resettle-run-5 : tie.Need-slice-aggregate-resettle-run-5
 slice-aggregate-resettle-run-5 c = sym (length-take-le _ _ c.before.before.before.before.before.before.before.before.before.before.before.before.before.before.before.before.before.requires.0.enough.pins)
 
 array-borrow-prefix-gains : tie.Need-array-borrow-prefix-gains
-array-borrow-prefix-gains c = c.before.before.before.before.before.before.before.before.before.before.before.before.before.before.before.before.before.requires.0.fewFiles
+array-borrow-prefix-gains c = c.before.before.before.before.before.before.before.before.before.before.before.before.before.before.before.before.before.requires.0.few_files
 
 slice-aggregate-resettle-run-6 : tie.Need-slice-aggregate-resettle-run-6
-slice-aggregate-resettle-run-6 c = sym (length-take-le _ _ c.before.before.before.before.before.before.before.before.before.before.before.before.before.before.before.before.before.before.requires.0.fewFiles)
+slice-aggregate-resettle-run-6 c = sym (length-take-le _ _ c.before.before.before.before.before.before.before.before.before.before.before.before.before.before.before.before.before.before.requires.0.few_files)
 
 slice-aggregate-resettle-run-7 : tie.Need-slice-aggregate-resettle-run-7
 slice-aggregate-resettle-run-7 c = search rules
@@ -95,7 +95,7 @@ resettle-run-requires c κs =
     let start = c.before.before.before.before.before.before.before.before.before.before.before.before.before.before.before.before.before.before.before.before.before.before.before.before.before.before in
     let t = start.args.t in
     let n = t.read.header.files in
-    (own-lent most (take n t.sizes) n (length-take-le n t.sizes start.requires.0.enough.sizes) start.requires.0.fewFiles, start.requires.1)
+    (own-lent most (take n t.sizes) n (length-take-le n t.sizes start.requires.0.enough.sizes) start.requires.0.few_files, start.requires.1)
 
 same_length : tie.Need-same-length
 same_length c = search rules
@@ -105,7 +105,7 @@ returns c =
     let a = c.before.before.before.before.before.before.before.before.before.before.before.before.before.before.before.before.before.before.before.before.before.before.before.before.before.before.before.before.before.before.before.before.before.before.before.before.before.before.args in
     let e = c.before.before.before.before.before.before.before.before.before.before.before.resettle-run.ensures in
     let whole = first-whole a.t.read.header (lists_of a.t) _ c.before.before.before.before.before.before.before.before.before.before.before.before.before.before.before.before.before.before.before.before.before.before.before.before.before.before.before.before.before.before.before.figures-of.ensures in
-    (e.0 ∙ ap (λ (j : Job). handInto (runOut a.edition most j) a.room.now) whole, e.1)
+    (e.0 ∙ ap (λ (j : Job). hand_into (run_out a.edition most j) a.room.now) whole, e.1)
 
 pub resettle-job-spec : {M : Type 1} → statement M
 resettle-job-spec =

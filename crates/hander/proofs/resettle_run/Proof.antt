@@ -1,8 +1,8 @@
 use mathlib.Core.Path.{ap, ◌∙◌}
 use native.Mathlib.Omega.{arith}
-use Rattle.rules.specs.Job.{Job, limitsOf}
-use Rattle.rules.specs.Writing.{HandedOut, handInto}
-use Rattle.job.specs.Parts.{wholeJob}
+use Rattle.rules.specs.Job.{Job, limits_of}
+use Rattle.rules.specs.Writing.{HandedOut, hand_into}
+use Rattle.job.specs.Parts.{whole_job}
 use Rattle.hander.proofs.Resettling.{run-refused, run-made, run-writes}
 use borrow.Author.Rules.{rules}
 use Rattle.hander.proofs.resettle_run.Statement.{statement}
@@ -48,17 +48,17 @@ returns : tie.Need-returns
 returns c =
     let start = c.before.before.before.before.before.before.before.before.before.before.before.before.before.before.before.before.before.before.before.before.before.before.before.before.before.before.before.before.before.before.before.before.before.before.before.before.before.before.before.before.before.before.before.before.before.before in
     let a = start.args in
-    let job : Job = wholeJob a.job a.sizes.now a.sides.now a.marks.now a.bounds.now a.pins.now in
-    let o = run-refused a.edition (limitsOf _ _ _ _) job _ _ _ _ c.before.before.before.before.before.before.before.before.before.before.before.before.before.before.before.before.before.before.before.before.before.before.before.before.run.ensures start.requires.0 c.before.before.before.before.if1.true in
+    let job : Job = whole_job a.job a.sizes.now a.sides.now a.marks.now a.bounds.now a.pins.now in
+    let o = run-refused a.edition (limits_of _ _ _ _) job _ _ _ _ c.before.before.before.before.before.before.before.before.before.before.before.before.before.before.before.before.before.before.before.before.before.before.before.before.run.ensures start.requires.0 c.before.before.before.before.if1.true in
     let h = c.before.before.hand-refusal.ensures in
-    (h.0 ∙ ap (λ (x : HandedOut). handInto x a.room.now) o, λ long. h.1 (omega (arith, long)))
+    (h.0 ∙ ap (λ (x : HandedOut). hand_into x a.room.now) o, λ long. h.1 (omega (arith, long)))
 
 hand-blocks-requires : tie.Need-hand-blocks-requires
 hand-blocks-requires c κs =
     let start = c.before.before.before.before.before.before.before.before.before.before.before.before.before.before.before.before.before.before.before.before.before.before.before.before.before.before.before.before.before.before.before.before.before.before.before.before.before.before.before.before.before.before.before.before in
     let a = start.args in
-    let job : Job = wholeJob a.job a.sizes.now a.sides.now a.marks.now a.bounds.now a.pins.now in
-    (run-writes a.edition (limitsOf _ _ _ _) job _ _ _ _ c.before.before.before.before.before.before.before.before.before.before.before.before.before.before.before.before.before.before.before.before.before.before.run.ensures start.requires.0 c.before.before.if1.false, start.requires.1.0)
+    let job : Job = whole_job a.job a.sizes.now a.sides.now a.marks.now a.bounds.now a.pins.now in
+    (run-writes a.edition (limits_of _ _ _ _) job _ _ _ _ c.before.before.before.before.before.before.before.before.before.before.before.before.before.before.before.before.before.before.before.before.before.before.run.ensures start.requires.0 c.before.before.if1.false, start.requires.1.0)
 
 same-length-11 : tie.Need-same-length-11
 same-length-11 c = search rules
@@ -94,10 +94,10 @@ returns-2 : tie.Need-returns-2
 returns-2 c =
     let start = c.before.before.before.before.before.before.before.before.before.before.before.before.before.before.before.before.before.before.before.before.before.before.before.before.before.before.before.before.before.before.before.before.before.before.before.before.before.before.before.before.before.before.before.before.before.before.before in
     let a = start.args in
-    let job : Job = wholeJob a.job a.sizes.now a.sides.now a.marks.now a.bounds.now a.pins.now in
-    let o = run-made a.edition (limitsOf _ _ _ _) job _ _ _ _ c.before.before.before.before.before.before.before.before.before.before.before.before.before.before.before.before.before.before.before.before.before.before.before.before.before.run.ensures start.requires.0 c.before.before.before.before.before.if1.false in
+    let job : Job = whole_job a.job a.sizes.now a.sides.now a.marks.now a.bounds.now a.pins.now in
+    let o = run-made a.edition (limits_of _ _ _ _) job _ _ _ _ c.before.before.before.before.before.before.before.before.before.before.before.before.before.before.before.before.before.before.before.before.before.before.before.before.before.run.ensures start.requires.0 c.before.before.before.before.before.if1.false in
     let h = c.before.before.hand-blocks.ensures in
-    (h.0 ∙ ap (λ (x : HandedOut). handInto x a.room.now) o, λ long. h.1 (omega (arith, long, start.requires.1.1)))
+    (h.0 ∙ ap (λ (x : HandedOut). hand_into x a.room.now) o, λ long. h.1 (omega (arith, long, start.requires.1.1)))
 
 pub resettle-run-spec : {M : Type 1} → statement M
 resettle-run-spec =

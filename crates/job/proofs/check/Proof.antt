@@ -3,7 +3,7 @@ use native.Mathlib.Omega.{arith}
 use Rattle.rules.proofs.Refusals.{check-chain, rest-chain}
 use Rattle.rules.proofs.Verdicts.{chain-stop, chain-go, zero_of}
 use Rattle.rules.proofs.SoundJob.{sound}
-use Rattle.job.specs.Totals.{totalsOf}
+use Rattle.job.specs.Totals.{totals_of}
 use Rattle.job.proofs.AddingUp.{within_more}
 use Rattle.job.proofs.Whole.{lists-only}
 use borrow.Author.Rules.{rules}
@@ -19,15 +19,15 @@ returns c = chain-stop _ (c.before.before.check_sound.ensures ∙ lists-only _ _
 totals-of-requires : tie.Need-totals-of-requires
 totals-of-requires c κs =
     let s = sound _ _ _ (zero_of c.before.before.check_sound.ensures c.if1.false) in
-    (s.fewFiles, (s.sidesLong, s.marksLong))
+    (s.few_files, (s.sides_long, s.marks_long))
 
 check-rest-requires : tie.Need-check-rest-requires
 check-rest-requires c κs =
     let s = sound _ _ _ (zero_of c.before.before.before.check_sound.ensures c.before.if1.false) in
-    within_more (omega (arith, s.fewFiles)) c.totals-of.ensures.within
+    within_more (omega (arith, s.few_files)) c.totals-of.ensures.within
 
 returns-2 : tie.Need-returns-2
-unfolding totalsOf
+unfolding totals_of
 returns-2 c =
     chain-go (c.before.before.before.before.check_sound.ensures ∙ lists-only _ _ _) c.before.before.if1.false
     (c.check-rest.ensures _ (record { job_is = refl; totals = c.before.totals-of.ensures.is }))

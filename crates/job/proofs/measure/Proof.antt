@@ -1,12 +1,12 @@
 use mathlib.Core.Path.{sym, ap, ◌∙◌}
 use native.Mathlib.Omega.{arith}
-use Rattle.rules.specs.Job.{views, readIn, recipes}
-use Rattle.rules.specs.Split.{unreadRecipes}
+use Rattle.rules.specs.Job.{views, read_in, recipes}
+use Rattle.rules.specs.Split.{unread_recipes}
 use Rattle.rules.proofs.Verdicts.{zero_of}
 use Rattle.rules.proofs.SoundJob.{sound}
 use Rattle.rules.proofs.Unread.{none-holding}
 use Rattle.job.specs.declared.figures.Totals.{Totals}
-use Rattle.job.specs.Totals.{totalsOf}
+use Rattle.job.specs.Totals.{totals_of}
 use Rattle.job.proofs.Whole.{lists-only, measure-refused, measure-done}
 use borrow.Author.Rules.{rules}
 use Rattle.job.proofs.measure.Statement.{statement}
@@ -21,20 +21,20 @@ returns c = measure-refused _ _ (c.before.before.check_sound.ensures ∙ lists-o
 totals-of-requires : tie.Need-totals-of-requires
 totals-of-requires c κs =
     let s = sound _ _ _ (zero_of c.before.before.check_sound.ensures c.if1.false) in
-    (s.fewFiles, (s.sidesLong, s.marksLong))
+    (s.few_files, (s.sides_long, s.marks_long))
 
 cut-requires : tie.Need-cut-requires
 cut-requires c κs = search rules
 
 holding-requires : tie.Need-holding-requires
-unfolding totalsOf
+unfolding totals_of
 holding-requires c κs e =
     let t = c.before in
     let s = sound _ _ _ (zero_of t.before.before.before.check_sound.ensures t.before.if1.false) in
-    none-holding _ _ (omega (arith, s.marksLong)) (sym (ap (λ (y : Totals). y.unread) t.totals-of.ensures.is) ∙ e)
+    none-holding _ _ (omega (arith, s.marks_long)) (sym (ap (λ (y : Totals). y.unread) t.totals-of.ensures.is) ∙ e)
 
 returns-2 : tie.Need-returns-2
-unfolding totalsOf recipes readIn views unreadRecipes
+unfolding totals_of recipes read_in views unread_recipes
 returns-2 c =
     let t = c.before.before in
     measure-done _ _ (t.before.before.before.check_sound.ensures ∙ lists-only _ _ _) _ _ _

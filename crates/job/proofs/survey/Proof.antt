@@ -1,12 +1,12 @@
 use mathlib.Core.Path.{refl, sym, ap, ◌∙◌}
 use native.Mathlib.Omega.{arith}
-use Rattle.rules.specs.Job.{views, readIn, recipes}
-use Rattle.rules.specs.Split.{unreadRecipes}
+use Rattle.rules.specs.Job.{views, read_in, recipes}
+use Rattle.rules.specs.Split.{unread_recipes}
 use Rattle.rules.proofs.Verdicts.{chain-stop, chain-go, zero_of}
 use Rattle.rules.proofs.SoundJob.{sound}
 use Rattle.rules.proofs.Unread.{none-holding}
 use Rattle.job.specs.declared.figures.Totals.{Totals}
-use Rattle.job.specs.Totals.{totalsOf}
+use Rattle.job.specs.Totals.{totals_of}
 use Rattle.job.proofs.AddingUp.{within_more}
 use Rattle.job.proofs.Whole.{lists-only, survey-refused, survey-done}
 use borrow.Author.Rules.{rules}
@@ -23,15 +23,15 @@ returns c =
 totals-of-requires : tie.Need-totals-of-requires
 totals-of-requires c κs =
     let s = sound _ _ _ (zero_of c.before.before.check_sound.ensures c.if1.false) in
-    (s.fewFiles, (s.sidesLong, s.marksLong))
+    (s.few_files, (s.sides_long, s.marks_long))
 
 check-rest-requires : tie.Need-check-rest-requires
 check-rest-requires c κs =
     let s = sound _ _ _ (zero_of c.before.before.before.check_sound.ensures c.before.if1.false) in
-    within_more (omega (arith, s.fewFiles)) c.totals-of.ensures.within
+    within_more (omega (arith, s.few_files)) c.totals-of.ensures.within
 
 returns-2 : tie.Need-returns-2
-unfolding totalsOf
+unfolding totals_of
 returns-2 c =
     let t = c.before.before.before in
     survey-refused _ _ _ _
@@ -42,20 +42,20 @@ returns-2 c =
 tolerance-requires : tie.Need-tolerance-requires
 tolerance-requires c κs =
     let s = sound _ _ _ (zero_of c.before.before.before.before.before.before.check_sound.ensures c.before.before.before.before.if1.false) in
-    within_more (omega (arith, s.fewFiles)) c.before.before.before.totals-of.ensures.within
+    within_more (omega (arith, s.few_files)) c.before.before.before.totals-of.ensures.within
 
 cut-requires : tie.Need-cut-requires
 cut-requires c κs = search rules
 
 holding-requires : tie.Need-holding-requires
-unfolding totalsOf
+unfolding totals_of
 holding-requires c κs e =
     let t = c.before.before.before.before.before in
     let s = sound _ _ _ (zero_of t.before.before.before.check_sound.ensures t.before.if1.false) in
-    none-holding _ _ (omega (arith, s.marksLong)) (sym (ap (λ (y : Totals). y.unread) t.totals-of.ensures.is) ∙ e)
+    none-holding _ _ (omega (arith, s.marks_long)) (sym (ap (λ (y : Totals). y.unread) t.totals-of.ensures.is) ∙ e)
 
 returns-3 : tie.Need-returns-3
-unfolding totalsOf recipes readIn views unreadRecipes
+unfolding totals_of recipes read_in views unread_recipes
 returns-3 c =
     let t = c.before.before.before.before.before.before in
     survey-done _ _ _ _

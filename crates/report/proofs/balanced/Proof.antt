@@ -1,11 +1,11 @@
 use mathlib.Core.Path.{◌≡◌, sym, ◌∙◌}
 use native.Mathlib.Omega.{arith}
 use Rattle.rules.specs.Job.{Limits}
-use Rattle.rules.specs.Report.{ofFiles}
-use Rattle.rules.specs.Balance.{balanceLines, balanceReporting}
+use Rattle.rules.specs.Report.{of_files}
+use Rattle.rules.specs.Balance.{balance_lines, balance_reporting}
 use Rattle.rules.proofs.Balancing.{balance-refusal}
-use Rattle.report.specs.Bytes.{figureBytes}
-use Rattle.report.specs.Steps.{lengthsVerdict}
+use Rattle.report.specs.Bytes.{figure_bytes}
+use Rattle.report.specs.Steps.{lengths_verdict}
 use Rattle.report.proofs.Printings.{Told, lengths-tell, lengths-enough, told_none, told-short, told-whole, told-enough, balance-told}
 use borrow.Author.Rules.{rules}
 use Rattle.report.proofs.balanced.Statement.{statement}
@@ -13,8 +13,8 @@ use Rattle.report.proofs.balanced.Tie as tie
 
 -- what is told of an answer that is not refused
 told : (most : Limits) (s : tie.Start) → s.args.answer.verdict.number ≡ 0
-    → Told (balanceReporting most s.args.sizes.now s.args.marks.now s.args.answer s.args.sides.now s.args.out.now) (lengthsVerdict most.files s.args.sizes.now s.args.sides.now s.args.marks.now) s.args.sides.now
-    (balanceLines (ofFiles s.args.sizes.now s.args.marks.now) s.args.answer s.args.sides.now) s.args.out.now
+    → Told (balance_reporting most s.args.sizes.now s.args.marks.now s.args.answer s.args.sides.now s.args.out.now) (lengths_verdict most.files s.args.sizes.now s.args.sides.now s.args.marks.now) s.args.sides.now
+    (balance_lines (of_files s.args.sizes.now s.args.marks.now) s.args.answer s.args.sides.now) s.args.out.now
 told most s = balance-told most s.args.sizes.now s.args.marks.now s.args.answer s.args.sides.now s.args.out.now
 
 print-refusal-requires : tie.Need-print-refusal-requires
@@ -47,7 +47,7 @@ returns-3 : tie.Need-returns-3
 returns-3 c =
     let t = told _ c.before.before.before.before.before.before.before.before.before.before.before.before.before.before.before c.before.before.before.before.before.before.before.before.before.if1.false in
     let l = c.before.before.before.before.put-balance.ensures in
-    (told-short t c.before.before.before.before.before.before.before.before.lengths-verdict.ensures c.before.before.before.before.before.before.if2.false l.0 c.before.before.room-verdict.ensures c.if3.true, λ sided marked long. told-enough t c.before.before.before.before.before.before.before.before.lengths-verdict.ensures c.before.before.before.before.before.before.if2.false l.0 c.before.before.room-verdict.ensures figureBytes l.1 long)
+    (told-short t c.before.before.before.before.before.before.before.before.lengths-verdict.ensures c.before.before.before.before.before.before.if2.false l.0 c.before.before.room-verdict.ensures c.if3.true, λ sided marked long. told-enough t c.before.before.before.before.before.before.before.before.lengths-verdict.ensures c.before.before.before.before.before.before.if2.false l.0 c.before.before.room-verdict.ensures figure_bytes l.1 long)
 
 put-balance-requires-2 : tie.Need-put-balance-requires-2
 put-balance-requires-2 c κs = lengths-tell _ _ _ _ c.before.before.before.before.before.before.before.before.before.lengths-verdict.ensures c.before.before.before.before.before.before.before.if2.false

@@ -4,9 +4,9 @@ use Prim.Native.Nat.{◌+◌, ◌*◌}
 use mathlib.Core.List.{[]}
 use lib.ListN.{length}
 use Rattle.rules.specs.Job.{Limits}
-use Rattle.rules.specs.Compare.{differenceLines}
-use Rattle.report.specs.Bytes.{figureBytes, differenceBytes}
-use Rattle.report.specs.Comparison.{recordsIn, recordsVerdict, comparisonTelling}
+use Rattle.rules.specs.Compare.{difference_lines}
+use Rattle.report.specs.Bytes.{figure_bytes, difference_bytes}
+use Rattle.report.specs.Comparison.{records_in, records_verdict, comparison_telling}
 use Rattle.report.proofs.Printings.{Told, told_none, told-short, told-whole, told-enough}
 use Rattle.report.proofs.Comparisons.{records-tell, records-enough, no_sides, comparison-refused, comparison-told}
 use borrow.Author.Rules.{rules}
@@ -15,8 +15,8 @@ use Rattle.report.proofs.comparison.Tie as tie
 
 -- what is told of an answer that is not refused
 told : (most : Limits) (s : tie.Start) → s.args.answer.verdict.number ≡ 0
-    → Told (comparisonTelling most s.args.answer s.args.numbers.now s.args.out.now) (recordsVerdict most s.args.answer.count (length s.args.numbers.now)) []
-    (differenceLines (recordsIn s.args.answer.count s.args.numbers.now)) s.args.out.now
+    → Told (comparison_telling most s.args.answer s.args.numbers.now s.args.out.now) (records_verdict most s.args.answer.count (length s.args.numbers.now)) []
+    (difference_lines (records_in s.args.answer.count s.args.numbers.now)) s.args.out.now
 told most s = comparison-told most s.args.answer s.args.numbers.now s.args.out.now
 
 print-refused-requires : tie.Need-print-refused-requires
@@ -52,7 +52,7 @@ returns-3 c =
     let v = c.before.before.before.before.before.before.before.before.records-verdict.ensures in
     let l = c.before.before.before.before.put-differences.ensures in
     let w = c.before.before.refuse-if.ensures ∙ no_sides _ in
-    (told-short t v c.before.before.before.before.before.before.if2.false l.0 w c.if3.true, λ held long. told-enough t v c.before.before.before.before.before.before.if2.false l.0 w (figureBytes + differenceBytes * a.answer.count) (omega (arith, l.1)) long)
+    (told-short t v c.before.before.before.before.before.before.if2.false l.0 w c.if3.true, λ held long. told-enough t v c.before.before.before.before.before.before.if2.false l.0 w (figure_bytes + difference_bytes * a.answer.count) (omega (arith, l.1)) long)
 
 put-differences-requires-2 : tie.Need-put-differences-requires-2
 put-differences-requires-2 c κs = let h = records-tell _ _ _ c.before.before.before.before.before.before.before.before.before.records-verdict.ensures c.before.before.before.before.before.before.before.if2.false in (omega (arith, h.0), h.1)

@@ -2,7 +2,7 @@ use mathlib.Core.Path.{ap, ◌∙◌}
 use mathlib.Core.List.{List}
 use Prim.Native.Nat.{ℕ}
 use native.Mathlib.Omega.{arith}
-use Rattle.rules.specs.Report.{text, intoRoom}
+use Rattle.rules.specs.Report.{text, into_room}
 use Rattle.report.specs.Laying.{widest, longest}
 use Rattle.report.proofs.Lines.{refusal-form}
 use borrow.Author.Rules.{rules}
@@ -27,7 +27,7 @@ unfolding text
 returns c =
     let a = c.before.before.before.before.before.before.before.args in
     let e = c.before.before.print-line.ensures in
-    (e.0 ∙ ap (λ (t : List ℕ). intoRoom t a.out.now) (refusal-form a.told), e.1)
+    (e.0 ∙ ap (λ (t : List ℕ). into_room t a.out.now) (refusal-form a.told), e.1)
 
 pub print-refusal-spec : {M : Type 1} → statement M
 print-refusal-spec =

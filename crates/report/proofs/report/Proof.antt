@@ -2,10 +2,10 @@ use mathlib.Core.Path.{◌≡◌, sym, ◌∙◌}
 use native.Mathlib.Omega.{arith}
 use lib.ListN.{length}
 use Rattle.rules.specs.Job.{Limits}
-use Rattle.rules.specs.Report.{figureLines, ofFiles, reporting}
+use Rattle.rules.specs.Report.{figure_lines, of_files, reporting}
 use Rattle.rules.proofs.Reports.{reporting-refusal}
-use Rattle.report.specs.Bytes.{reportBytes}
-use Rattle.report.specs.Steps.{lengthsVerdict}
+use Rattle.report.specs.Bytes.{report_bytes}
+use Rattle.report.specs.Steps.{lengths_verdict}
 use Rattle.report.proofs.Printings.{Told, lengths-tell, lengths-enough, told_none, told-short, told-whole, told-enough, reporting-told}
 use borrow.Author.Rules.{rules}
 use Rattle.report.proofs.report.Statement.{statement}
@@ -13,8 +13,8 @@ use Rattle.report.proofs.report.Tie as tie
 
 -- what is told of an answer that is not refused
 told : (most : Limits) (s : tie.Start) → s.args.answer.figures.verdict.number ≡ 0
-    → Told (reporting most s.args.sizes.now s.args.marks.now s.args.answer s.args.sides.now s.args.out.now) (lengthsVerdict most.files s.args.sizes.now s.args.sides.now s.args.marks.now) s.args.sides.now
-    (figureLines (ofFiles s.args.sizes.now s.args.marks.now) s.args.answer s.args.sides.now) s.args.out.now
+    → Told (reporting most s.args.sizes.now s.args.marks.now s.args.answer s.args.sides.now s.args.out.now) (lengths_verdict most.files s.args.sizes.now s.args.sides.now s.args.marks.now) s.args.sides.now
+    (figure_lines (of_files s.args.sizes.now s.args.marks.now) s.args.answer s.args.sides.now) s.args.out.now
 told most s = reporting-told most s.args.sizes.now s.args.marks.now s.args.answer s.args.sides.now s.args.out.now
 
 print-refusal-requires : tie.Need-print-refusal-requires
@@ -47,7 +47,7 @@ returns-3 : tie.Need-returns-3
 returns-3 c =
     let t = told _ c.before.before.before.before.before.before.before.before.before.before.before.before.before.before.before c.before.before.before.before.before.before.before.before.before.if1.false in
     let l = c.before.before.before.before.put-figures.ensures in
-    (told-short t c.before.before.before.before.before.before.before.before.lengths-verdict.ensures c.before.before.before.before.before.before.if2.false l.0 c.before.before.room-verdict.ensures c.if3.true, λ sided marked long. told-enough t c.before.before.before.before.before.before.before.before.lengths-verdict.ensures c.before.before.before.before.before.before.if2.false l.0 c.before.before.room-verdict.ensures (reportBytes (length c.before.before.before.before.before.before.before.before.before.before.before.before.before.before.before.args.sides.now)) l.1 long)
+    (told-short t c.before.before.before.before.before.before.before.before.lengths-verdict.ensures c.before.before.before.before.before.before.if2.false l.0 c.before.before.room-verdict.ensures c.if3.true, λ sided marked long. told-enough t c.before.before.before.before.before.before.before.before.lengths-verdict.ensures c.before.before.before.before.before.before.if2.false l.0 c.before.before.room-verdict.ensures (report_bytes (length c.before.before.before.before.before.before.before.before.before.before.before.before.before.before.before.args.sides.now)) l.1 long)
 
 put-figures-requires-2 : tie.Need-put-figures-requires-2
 put-figures-requires-2 c κs = lengths-tell _ _ _ _ c.before.before.before.before.before.before.before.before.before.lengths-verdict.ensures c.before.before.before.before.before.before.before.if2.false

@@ -3,26 +3,26 @@ use mathlib.Core.Bool.{Bool}
 use native.Mathlib.Omega.{arith}
 use lib.ListN.{length}
 use Rattle.rules.specs.Job.{Limits}
-use Rattle.rules.specs.Report.{ofFiles}
-use Rattle.rules.specs.Trace.{Listing, listingOf, holdsPass, passLines, tracing}
+use Rattle.rules.specs.Report.{of_files}
+use Rattle.rules.specs.Trace.{Listing, listing_of, holds_pass, pass_lines, tracing}
 use Rattle.rules.proofs.Reports.{tracing-refusal}
-use Rattle.report.specs.Bytes.{traceBytes}
-use Rattle.report.specs.Tracing.{passVerdict}
+use Rattle.report.specs.Bytes.{trace_bytes}
+use Rattle.report.specs.Tracing.{pass_verdict}
 use Rattle.report.proofs.Printings.{Told, pass-tells, pass-enough, told_none, told-short, told-whole, told-enough, tracing-told}
 use borrow.Author.Rules.{rules}
 use Rattle.report.proofs.trace.Statement.{statement}
 use Rattle.report.proofs.trace.Tie as tie
 
 abbrev lists : tie.Start → Listing
-lists s = listingOf s.args.gains.now s.args.tried.now s.args.gained.now s.args.cuts.now s.args.ends.now s.args.recipes.now s.args.kinds.now
+lists s = listing_of s.args.gains.now s.args.tried.now s.args.gained.now s.args.cuts.now s.args.ends.now s.args.recipes.now s.args.kinds.now
 
 abbrev held : tie.Start → Bool
-held s = holdsPass s.args.sizes.now s.args.answer (lists s)
+held s = holds_pass s.args.sizes.now s.args.answer (lists s)
 
 -- what is told of an answer that is not refused
 told : (most : Limits) (s : tie.Start) → s.args.answer.verdict.number ≡ 0
-    → Told (tracing most s.args.sizes.now s.args.marks.now s.args.answer s.args.sides.now (lists s) s.args.out.now) (passVerdict most.files s.args.sizes.now s.args.sides.now s.args.marks.now (held s)) s.args.sides.now
-    (passLines (ofFiles s.args.sizes.now s.args.marks.now) s.args.answer s.args.sides.now (lists s)) s.args.out.now
+    → Told (tracing most s.args.sizes.now s.args.marks.now s.args.answer s.args.sides.now (lists s) s.args.out.now) (pass_verdict most.files s.args.sizes.now s.args.sides.now s.args.marks.now (held s)) s.args.sides.now
+    (pass_lines (of_files s.args.sizes.now s.args.marks.now) s.args.answer s.args.sides.now (lists s)) s.args.out.now
 told most s = tracing-told most s.args.sizes.now s.args.marks.now s.args.answer s.args.sides.now (lists s) s.args.out.now
 
 print-refusal-requires : tie.Need-print-refusal-requires
@@ -55,7 +55,7 @@ returns-3 : tie.Need-returns-3
 returns-3 c =
     let t = told _ c.before.before.before.before.before.before.before.before.before.before.before.before.before.before.before.before.before.before.before.before c.before.before.before.before.before.before.before.before.before.if1.false in
     let l = c.before.before.before.before.put-pass.ensures in
-    (told-short t c.before.before.before.before.before.before.before.before.pass-verdict.ensures c.before.before.before.before.before.before.if2.false l.0 c.before.before.room-verdict.ensures c.if3.true, λ sided marked hold long. told-enough t c.before.before.before.before.before.before.before.before.pass-verdict.ensures c.before.before.before.before.before.before.if2.false l.0 c.before.before.room-verdict.ensures (traceBytes (length c.before.before.before.before.before.before.before.before.before.before.before.before.before.before.before.before.before.before.before.before.args.sizes.now) (length c.before.before.before.before.before.before.before.before.before.before.before.before.before.before.before.before.before.before.before.before.args.recipes.now)) l.1 long)
+    (told-short t c.before.before.before.before.before.before.before.before.pass-verdict.ensures c.before.before.before.before.before.before.if2.false l.0 c.before.before.room-verdict.ensures c.if3.true, λ sided marked hold long. told-enough t c.before.before.before.before.before.before.before.before.pass-verdict.ensures c.before.before.before.before.before.before.if2.false l.0 c.before.before.room-verdict.ensures (trace_bytes (length c.before.before.before.before.before.before.before.before.before.before.before.before.before.before.before.before.before.before.before.before.args.sizes.now) (length c.before.before.before.before.before.before.before.before.before.before.before.before.before.before.before.before.before.before.before.before.args.recipes.now)) l.1 long)
 
 put-pass-requires-2 : tie.Need-put-pass-requires-2
 put-pass-requires-2 c κs = pass-tells _ c.before.before.before.before.before.before.before.before.before.before.before.before.before.before.before.before.before.before.before.before.before.args.sizes.now c.before.before.before.before.before.before.before.before.before.before.before.before.before.before.before.before.before.before.before.before.before.args.sides.now c.before.before.before.before.before.before.before.before.before.before.before.before.before.before.before.before.before.before.before.before.before.args.marks.now (held c.before.before.before.before.before.before.before.before.before.before.before.before.before.before.before.before.before.before.before.before.before) c.before.before.before.before.before.before.before.before.before.pass-verdict.ensures c.before.before.before.before.before.before.before.if2.false

@@ -3,11 +3,11 @@ use mathlib.Core.Path.{sym, ◌∙◌}
 use Prim.Native.Nat.{ℕ}
 use mathlib.Core.List.{List}
 use native.Mathlib.Omega.{arith}
-use Rattle.rules.specs.Job.{Job, Limits, limitsOf, Lent, lent_of}
-use Rattle.job.specs.Parts.{wholeJob}
+use Rattle.rules.specs.Job.{Job, Limits, limits_of, Lent, lent_of}
+use Rattle.job.specs.Parts.{whole_job}
 use Rattle.tables.proofs.Accepted.{Narrow}
 use Rattle.runs.proofs.PassAfterPass.{Alike}
-use Rattle.runs.proofs.RunOn.{Onward, before-first, toGo, Turned, turn-made, alike, run-ended}
+use Rattle.runs.proofs.RunOn.{Onward, before-first, to_go, Turned, turn-made, alike, run-ended}
 use Rattle.runs.proofs.run.Statement.{statement}
 use Rattle.runs.proofs.run.Tie as tie
 use Rattle.runs.proofs.run.⟦Job·MOST-FILES⟧-asked.Lts as files
@@ -17,19 +17,19 @@ use Rattle.runs.proofs.run.⟦Job·MOST-DEN⟧-asked.Lts as den
 
 -- the job's own limits, as the contract asks them of the code
 abbrev most : Limits
-most = limitsOf (files.answer tt tt) (recipes.answer tt tt) (pins.answer tt tt) (den.answer tt tt)
+most = limits_of (files.answer tt tt) (recipes.answer tt tt) (pins.answer tt tt) (den.answer tt tt)
 
 narrow : Narrow most
 narrow = record { files = omega arith; recipes = omega arith; pins = omega arith; den = omega arith; links = omega arith }
 
 abbrev invariant-loop : tie.invariant-loop
 invariant-loop edition job sizes sides₀ marks bounds pins gains₀ tried₀ gained₀ cuts₀ ends₀ recipes₀ kinds₀ scratch₀ sum₀ sides gains tried gained cuts ends recipes kinds scratch sum =
-    Onward edition most (wholeJob job sizes sides₀ marks bounds pins) (lent_of gains₀ tried₀ gained₀ cuts₀ ends₀ recipes₀ kinds₀ scratch₀) sum sides
+    Onward edition most (whole_job job sizes sides₀ marks bounds pins) (lent_of gains₀ tried₀ gained₀ cuts₀ ends₀ recipes₀ kinds₀ scratch₀) sum sides
     (lent_of gains tried gained cuts ends recipes kinds scratch)
 
 abbrev decreases-loop : tie.decreases-loop
 decreases-loop edition job sizes sides₀ marks bounds pins gains₀ tried₀ gained₀ cuts₀ ends₀ recipes₀ kinds₀ scratch₀ sum₀ sides gains tried gained cuts ends recipes kinds scratch sum =
-    toGo (wholeJob job sizes sides₀ marks bounds pins) sum
+    to_go (whole_job job sizes sides₀ marks bounds pins) sum
 
 -- ---- what the function came with
 
@@ -42,13 +42,13 @@ Passed = tie.After-pass-once invariant-loop decreases-loop
 abbrev entry : At → tie.Start invariant-loop decreases-loop
 entry a = a.before.before.before.before.before.before.before.before.before.before.before.before.before
 
-abbrev editionOf : At → ℕ
-editionOf a = (entry a).args.edition
+abbrev edition_of : At → ℕ
+edition_of a = (entry a).args.edition
 
 abbrev job_of : At → Job
 job_of a =
     let s = (entry a).args in
-    wholeJob s.job s.sizes.now s.sides.now s.marks.now s.bounds.now s.pins.now
+    whole_job s.job s.sizes.now s.sides.now s.marks.now s.bounds.now s.pins.now
 
 abbrev lent : At → Lent
 lent a =
@@ -60,10 +60,10 @@ lent a =
 abbrev at_of : Passed → At
 at_of p = p.before.before.before.before.before.before.before.before.before.before.before.before
 
-abbrev turn : (p : Passed) → (sides : List ℕ) × (left : Lent) × Turned (editionOf (at_of p)) most (job_of (at_of p)) (lent (at_of p)) (at_of p).loop.sum p.pass-once.result sides left
+abbrev turn : (p : Passed) → (sides : List ℕ) × (left : Lent) × Turned (edition_of (at_of p)) most (job_of (at_of p)) (lent (at_of p)) (at_of p).loop.sum p.pass-once.result sides left
 turn p =
     let go = sym p.before.before.before.before.before.before.before.before.before.before.before.goes_on.ensures ∙ p.before.before.before.before.before.before.before.before.before.before.if1.taken in
-    (_, _, turn-made (editionOf (at_of p)) most (job_of (at_of p)) (lent (at_of p)) narrow (at_of p).loop.inv go _ _ _ p.pass-once.ensures)
+    (_, _, turn-made (edition_of (at_of p)) most (job_of (at_of p)) (lent (at_of p)) narrow (at_of p).loop.inv go _ _ _ p.pass-once.ensures)
 
 no-pass-requires : tie.Need-no-pass-requires invariant-loop decreases-loop
 no-pass-requires c κs = tt
@@ -90,7 +90,7 @@ loop-again c = rw c.with-pass.ensures (turn c.before.before.before.before.before
 
 kept : (a : At) → Alike (job_of a) (lent a) a.loop.sides
     (lent_of a.loop.gains a.loop.tried a.loop.gained a.loop.cuts a.loop.ends a.loop.recipes a.loop.kinds a.loop.scratch)
-kept a = alike (editionOf a) most (job_of a) (lent a) a.loop.invariant
+kept a = alike (edition_of a) most (job_of a) (lent a) a.loop.invariant
 
 same_length : tie.Need-same-length invariant-loop decreases-loop
 same_length c = (kept c.before.before).sides

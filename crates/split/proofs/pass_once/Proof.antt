@@ -9,28 +9,28 @@ use lib.IntN.{ℤ}
 use lib.ListN.{length, set, take, drop}
 use mir.Syntax.{w32}
 use mir.Val.{to_z, of_z}
-use Rattle.rules.specs.Job.{Job, Limits, fileCount, recipeCount, pinCount, view_of, Lent, lent_of, scratchFor}
-use Rattle.rules.specs.Check.{checkEdition}
+use Rattle.rules.specs.Job.{Job, Limits, file_count, recipe_count, pin_count, view_of, Lent, lent_of, scratch_for}
+use Rattle.rules.specs.Check.{check_edition}
 use Rattle.rules.proofs.Verdicts.{zero_of}
 use Rattle.rules.proofs.Fits.{long-enough, numbers-least}
 use Rattle.job.specs.declared.Job.{Job as Figures}
-use Rattle.job.specs.Parts.{wholeJob}
+use Rattle.job.specs.Parts.{whole_job}
 use Rattle.tables.specs.declared.zones.Extent.{Extent}
-use Rattle.tables.specs.Zones.{extentOf}
+use Rattle.tables.specs.Zones.{extent_of}
 use Rattle.choice.specs.declared.window.Window.{Window}
 use Rattle.split.specs.declared.progress.Progress.{Progress}
 use Rattle.split.specs.Scanning.{Treated, treated}
-use Rattle.split.specs.Moving.{Board, board, begun, countedOn, treatMove, moveOne}
-use Rattle.split.specs.Links.{HasLinks, enteredBy, pickedIs, pickedBy, followedBy}
+use Rattle.split.specs.Moving.{Board, board, begun, counted_on, treat_move, move_one}
+use Rattle.split.specs.Links.{HasLinks, entered_by, picked_is, picked_by, followed_by}
 use Rattle.split.proofs.Going.{Going}
 use Rattle.split.proofs.Shifts.{mag-back}
-use Rattle.split.proofs.Playable.{Playable, sizeAtStart, cutAtStart}
+use Rattle.split.proofs.Playable.{Playable, size_at_start, cut_at_start}
 use Rattle.split.proofs.Bounds.{BoardLong}
 use Rattle.split.proofs.MoveNow.{MoveFits}
 use Rattle.split.proofs.OneMove.{steps-move}
-use Rattle.split.proofs.OtherScratch.{onScratch}
+use Rattle.split.proofs.OtherScratch.{on_scratch}
 use Rattle.split.proofs.Played.{same-below, file-fits, count_fits, place-fits, gain-place-fits, one_less, Underway, Chose, under-long, sides-stay, gains-stay, choosable, playing-next, playing-safe, playing-fits, playing-more, playing-end}
-use Rattle.split.proofs.PassMoves.{passMoves, pass-frees}
+use Rattle.split.proofs.PassMoves.{pass_moves, pass-frees}
 use Rattle.split.proofs.Choosing.{PassUnderway, pass-chose, pass-gain}
 use Rattle.split.proofs.PassSteps.{has-links, entered-under, chosen-under, chosen-chose, follow-asks, followed-under}
 use Rattle.split.proofs.PassOnce.{first_under, few-numbers, extent-known, pass-ends}
@@ -41,8 +41,8 @@ use Rattle.split.proofs.pass_once.Tie as tie
 abbrev invariant-loop : tie.invariant-loop
 invariant-loop edition sizes sides₀ marks bounds pins gains₀ tried₀ gained₀ cuts₀ ends₀ recipes₀ kinds₀ scratch₀ s window c extent p₀ sides gains tried gained cuts ends recipes kinds scratch p =
     (figures : Figures) (l : Lent)
-    → PassUnderway edition (wholeJob figures sizes sides₀ marks bounds pins) l window (board sides₀ tried₀ gained₀ cuts₀ ends₀ scratch₀ gains₀ recipes₀ kinds₀ p₀)
-    → PassUnderway edition (wholeJob figures sizes sides₀ marks bounds pins) l window (board sides tried gained cuts ends scratch gains recipes kinds p)
+    → PassUnderway edition (whole_job figures sizes sides₀ marks bounds pins) l window (board sides₀ tried₀ gained₀ cuts₀ ends₀ scratch₀ gains₀ recipes₀ kinds₀ p₀)
+    → PassUnderway edition (whole_job figures sizes sides₀ marks bounds pins) l window (board sides tried gained cuts ends scratch gains recipes kinds p)
 
 abbrev decreases-loop : tie.decreases-loop
 decreases-loop edition sizes sides₀ marks bounds pins gains₀ tried₀ gained₀ cuts₀ ends₀ recipes₀ kinds₀ scratch₀ s window c extent p₀ sides gains tried gained cuts ends recipes kinds scratch p =
@@ -68,7 +68,7 @@ refused-requires c κs = tt
 returns : tie.Need-returns invariant-loop decreases-loop
 returns c =
     let g = c.before.before.before.before.before.before.before.before.before.before.before.before.before.before.before.args in
-    pass-unknown g.edition _ (wholeJob g.job g.sizes.now g.sides.now g.marks.now g.bounds.now g.pins.now)
+    pass-unknown g.edition _ (whole_job g.job g.sizes.now g.sides.now g.marks.now g.bounds.now g.pins.now)
     (lent_of g.gains.now g.tried.now g.gained.now g.cuts.now g.ends.now g.recipes.now g.kinds.now g.scratch.now)
     c.before.before.before.check-edition.ensures c.before.if1.true c.refused.ensures
 
@@ -80,7 +80,7 @@ module _ (t : tie.After-lay-out invariant-loop decreases-loop) where
 
   abbrev job : Job
   job =
-      wholeJob s.args.job s.args.sizes.now s.args.sides.now s.args.marks.now s.args.bounds.now s.args.pins.now
+      whole_job s.args.job s.args.sizes.now s.args.sides.now s.args.marks.now s.args.bounds.now s.args.pins.now
 
   abbrev lists : Lent
   lists =
@@ -90,7 +90,7 @@ module _ (t : tie.After-lay-out invariant-loop decreases-loop) where
   abbrev edition : ℕ
   edition = s.args.edition
 
-  edition-known : (checkEdition edition).number ≡ 0
+  edition-known : (check_edition edition).number ≡ 0
   edition-known = zero_of t.before.before.before.before.before.before.check-edition.ensures t.before.before.before.before.if1.left
 
   -- the job's own limits, and the answer by them
@@ -143,11 +143,11 @@ module _ (w : tie.After-window-of invariant-loop decreases-loop) where
       board (s laid).args.sides.now (s laid).args.tried.now (s laid).args.gained.now (s laid).args.cuts.now (s laid).args.ends.now
       laid.lay-out.last.1.1.1.1.1.1.1.1.0 laid.lay-out.last.1.1.1.1.1.1.1.0 (s laid).args.recipes.now (s laid).args.kinds.now q
 
-  lies : (q : Progress) → q ≡ begun (sizeAtStart (job laid)) (cutAtStart (job laid))
-      → Underway (scratchFor (edition laid) (job laid)) (job laid) (passMoves (edition laid) (job laid)) (lists laid) w.window-of.result (fresh q)
+  lies : (q : Progress) → q ≡ begun (size_at_start (job laid)) (cut_at_start (job laid))
+      → Underway (scratch_for (edition laid) (job laid)) (job laid) (pass_moves (edition laid) (job laid)) (lists laid) w.window-of.result (fresh q)
   lies q e =
       first_under (pass-frees plays.most (job laid) plays.sound (edition laid)) plays
-      (omega (arith, numbers-least (edition laid) (pinCount (job laid)) (fileCount (job laid)) (recipeCount (job laid))))
+      (omega (arith, numbers-least (edition laid) (pin_count (job laid)) (file_count (job laid)) (recipe_count (job laid))))
       (long-enough (edition laid) (job laid) (lists laid) (fitting-is (survey laid) clear)).scratch ((survey laid).lays.laid clear) e
 
 window-of-requires : tie.Need-window-of-requires invariant-loop decreases-loop
@@ -161,14 +161,14 @@ module _ (x : tie.After-extent-of invariant-loop decreases-loop) where
   abbrev whole : Job
   whole = job (laid x.before)
 
-  extent-is : x.extent-of.result ≡ extentOf (fileCount whole) (recipeCount whole) (pinCount whole)
+  extent-is : x.extent-of.result ≡ extent_of (file_count whole) (recipe_count whole) (pin_count whole)
   extent-is = x.extent-of.ensures
 
   room-for-links : HasLinks (edition (laid x.before)) x.extent-of.result.files x.extent-of.result.recipes x.extent-of.result.pins
-      (fresh x.before (begun (sizeAtStart whole) (cutAtStart whole))).rest.scratch
+      (fresh x.before (begun (size_at_start whole) (cut_at_start whole))).rest.scratch
   room-for-links =
       rw extent-is
-      (has-links (lies x.before (begun (sizeAtStart whole) (cutAtStart whole)) refl))
+      (has-links (lies x.before (begun (size_at_start whole) (cut_at_start whole)) refl))
 
 enter-by-requires : tie.Need-enter-by-requires invariant-loop decreases-loop
 enter-by-requires c κs = room-for-links c.before.before.before
@@ -188,18 +188,18 @@ module _ (n : tie.After-new invariant-loop decreases-loop) where
   abbrev enters : tie.After-enter-by invariant-loop decreases-loop
   enters = n.before.before.before
 
-  begun-as : n.new.result ≡ begun (sizeAtStart (whole extends)) (cutAtStart (whole extends))
+  begun-as : n.new.result ≡ begun (size_at_start (whole extends)) (cut_at_start (whole extends))
   begun-as = begins-as (survey (laid windows)) (clear windows) n.new.ensures
 
   abbrev starts : Board
-  starts = onScratch (fresh windows n.new.result) enters.enter-by.last.1.0
+  starts = on_scratch (fresh windows n.new.result) enters.enter-by.last.1.0
 
   entered : enters.enter-by.last.1.0
-      ≡ enteredBy (edition (laid windows)) (fileCount (whole extends)) (recipeCount (whole extends)) (pinCount (whole extends)) (whole extends).marks
+      ≡ entered_by (edition (laid windows)) (file_count (whole extends)) (recipe_count (whole extends)) (pin_count (whole extends)) (whole extends).marks
       (whole extends).sides (fresh windows n.new.result).rest.scanned.gains (fresh windows n.new.result).rest.scratch
   entered =
       enters.enter-by.ensures
-      ∙ ap (λ (x : Extent). enteredBy (edition (laid windows)) x.files x.recipes x.pins (whole extends).marks
+      ∙ ap (λ (x : Extent). entered_by (edition (laid windows)) x.files x.recipes x.pins (whole extends).marks
       (whole extends).sides (fresh windows n.new.result).rest.scanned.gains (fresh windows n.new.result).rest.scratch) (extent-is extends)
 
   begins : PassUnderway (edition (laid windows)) (whole extends) (lists (laid windows)) windows.window-of.result starts
@@ -226,16 +226,16 @@ module _ (a : At) where
 
   abbrev job_of : Figures → Job
   job_of figures =
-      wholeJob figures args.args.sizes.now args.args.sides.now args.args.marks.now args.args.bounds.now args.args.pins.now
+      whole_job figures args.args.sizes.now args.args.sides.now args.args.marks.now args.args.bounds.now args.args.pins.now
 
   abbrev c : ℕ
-  c = fileCount (job here)
+  c = file_count (job here)
 
   abbrev rs : ℕ
-  rs = recipeCount (job here)
+  rs = recipe_count (job here)
 
   abbrev p : ℕ
-  p = pinCount (job here)
+  p = pin_count (job here)
 
   abbrev extent : Extent
   extent = (extends a.before).extent-of.result
@@ -274,20 +274,20 @@ module _ (k : Chosen) where
 
   -- the board with the scratch that the choice leaves
   abbrev chosen : Board
-  chosen = onScratch (stands at) topped
+  chosen = on_scratch (stands at) topped
 
-  answered : pickedIs k.choose-by.result topped
-      ≡ pickedBy (by at) (c at) (rs at) (p at) (window at) (stands at).rest.scanned.progress.size (args at).args.sizes.now (stands at).sides (stands at).rest.scanned.gains (stands at).rest.scratch
+  answered : picked_is k.choose-by.result topped
+      ≡ picked_by (by at) (c at) (rs at) (p at) (window at) (stands at).rest.scanned.progress.size (args at).args.sizes.now (stands at).sides (stands at).rest.scanned.gains (stands at).rest.scratch
   answered =
       k.choose-by.ensures
-      ∙ ap (λ (x : Extent). pickedBy (by at) x.files x.recipes x.pins (window at) (stands at).rest.scanned.progress.size (args at).args.sizes.now (stands at).sides
+      ∙ ap (λ (x : Extent). picked_by (by at) x.files x.recipes x.pins (window at) (stands at).rest.scanned.progress.size (args at).args.sizes.now (stands at).sides
       (stands at).rest.scanned.gains (stands at).rest.scratch) (extent-is (extends at.before))
 
   module _ (figures : Figures) (l : Lent) (u : PassUnderway (by at) (job_of at figures) l (window at) (stands at)) where
     under-chosen : PassUnderway (by at) (job_of at figures) l (window at) chosen
     under-chosen = chosen-under u answered
 
-    chose : Chose (job_of at figures) (passMoves (by at) (job_of at figures)) chosen f
+    chose : Chose (job_of at figures) (pass_moves (by at) (job_of at figures)) chosen f
     chose = chosen-chose u answered
 
   abbrev own : Figures
@@ -296,7 +296,7 @@ module _ (k : Chosen) where
   going : PassUnderway (by at) (job (here at)) (lists (here at)) (window at) chosen
   going = under-chosen own (lists (here at)) (now at)
 
-  picked : Chose (job (here at)) (passMoves (by at) (job (here at))) chosen f
+  picked : Chose (job (here at)) (pass_moves (by at) (job (here at))) chosen f
   picked = chose own (lists (here at)) (now at)
 
 -- ---- once no move is left and the lists are ended
@@ -314,7 +314,7 @@ module _ (e : tie.After-figures invariant-loop decreases-loop) where
   abbrev scans : tie.After-end-scans invariant-loop decreases-loop
   scans = e.before.before.before.before.before.before.before
 
-  over : Going (job (here last)) (passMoves (by last) (job (here last))) (lists (here last)) (length (passMoves (by last) (job (here last)))) (chosen choice)
+  over : Going (job (here last)) (pass_moves (by last) (job (here last))) (lists (here last)) (length (pass_moves (by last) (job (here last)))) (chosen choice)
   over = playing-end (going choice).under (picked choice) e.before.before.before.before.before.before.before.before.before.before.before.before.before.before.before.before.before.before.before.before.before.before.before.before.before.before.if3.taken
 
   long : BoardLong (job (here last)) (lists (here last)) (chosen choice)
@@ -345,13 +345,13 @@ same-length-8 : tie.Need-same-length-8 invariant-loop decreases-loop
 same-length-8 c = (moved c).end-moves.auto.1.1.1.0 ∙ (long c).cuts
 
 same-length-9 : tie.Need-same-length-9 invariant-loop decreases-loop
-same-length-9 c = (moved c).end-moves.auto.1.1.1.1.0 ∙ (long c).scansSoFar
+same-length-9 c = (moved c).end-moves.auto.1.1.1.1.0 ∙ (long c).scans_so_far
 
 same-length-10 : tie.Need-same-length-10 invariant-loop decreases-loop
-same-length-10 c = (scans c).end-scans.auto.0 ∙ (long c).scannedRecipes
+same-length-10 c = (scans c).end-scans.auto.0 ∙ (long c).scanned_recipes
 
 same-length-11 : tie.Need-same-length-11 invariant-loop decreases-loop
-same-length-11 c = (scans c).end-scans.auto.1.0 ∙ (long c).scannedKinds
+same-length-11 c = (scans c).end-scans.auto.1.0 ∙ (long c).scanned_kinds
 
 same-length-12 : tie.Need-same-length-12 invariant-loop decreases-loop
 same-length-12 c = (scans c).end-scans.auto.1.1.0 ∙ (long c).scratch
@@ -393,11 +393,11 @@ treat-move-requires : tie.Need-treat-move-requires invariant-loop decreases-loop
 treat-move-requires c κs = let i = c.before.before.before.before.before.before in playing-safe (going (choosing i)).under (picked (choosing i)) i.if3.false
 
 module _ (t : Treats) where
-  abbrev goesOn : tie.Else3 invariant-loop decreases-loop
-  goesOn = t.before.before.before.before.before.before.before
+  abbrev goes_on : tie.Else3 invariant-loop decreases-loop
+  goes_on = t.before.before.before.before.before.before.before
 
   abbrev k : Chosen
-  k = choosing goesOn
+  k = choosing goes_on
 
   abbrev a : At
   a = at k
@@ -407,16 +407,16 @@ module _ (t : Treats) where
       treated t.treat-move.last.1.1.1.1.1.1.1.0 t.treat-move.last.1.1.1.1.0 t.treat-move.last.1.1.1.1.1.0
       t.treat-move.last.1.1.1.1.1.1.0 t.treat-move.result
 
-  left_is : left ≡ treatMove (args a).args.sizes.now (args a).args.bounds.now (args a).args.pins.now (f k) (chosen k)
+  left_is : left ≡ treat_move (args a).args.sizes.now (args a).args.bounds.now (args a).args.pins.now (f k) (chosen k)
   left_is = t.treat-move.ensures.1
 
-  number : (of : Progress → ℕ) → of t.treat-move.result ≡ of (treatMove (args a).args.sizes.now (args a).args.bounds.now (args a).args.pins.now (f k) (chosen k)).scanned.progress
+  number : (of : Progress → ℕ) → of t.treat-move.result ≡ of (treat_move (args a).args.sizes.now (args a).args.bounds.now (args a).args.pins.now (f k) (chosen k)).scanned.progress
   number of = ap (λ (y : Treated). of y.scanned.progress) left_is
 
 follow-by-requires : tie.Need-follow-by-requires invariant-loop decreases-loop
 follow-by-requires c κs =
     let t = c.before.before.before.before.before.before.before.before.before.before.before.before.before.before in
-    let q = follow-asks (going (k t)) (picked (k t)) (goesOn t).if3.false t.treat-move.ensures.0 (left_is t) (extent-is (extends (a t).before)) in
+    let q = follow-asks (going (k t)) (picked (k t)) (goes_on t).if3.false t.treat-move.ensures.0 (left_is t) (extent-is (extends (a t).before)) in
     (q.0, (q.1, (q.2, q.3)))
 
 -- ---- once it is noted
@@ -439,35 +439,35 @@ module _ (n : tie.After-counted invariant-loop decreases-loop) where
       (set (a t).loop.cuts made t.treat-move.result.cut) (set (a t).loop.ends made t.treat-move.result.scans)
       (left t).scratch (left t).scanned.gains (left t).scanned.recipes (left t).scanned.kinds n.counted.result
 
-  moves : noted ≡ moveOne (args (a t)).args.sizes.now (args (a t)).args.bounds.now (args (a t)).args.pins.now (f (k t)) (chosen (k t))
+  moves : noted ≡ move_one (args (a t)).args.sizes.now (args (a t)).args.bounds.now (args (a t)).args.pins.now (f (k t)) (chosen (k t))
   moves =
       steps-move (args (a t)).args.sizes.now (args (a t)).args.bounds.now (args (a t)).args.pins.now (f (k t)) (chosen (k t)) {y = left t}
       t.treat-move.ensures.0
-      (ap (set (a t).loop.gained made) (mag-back (k t).choose-by.result.gain n.before.before.before.before.before.before.before.before.before.before.before.before.before.before.before.before.before.before.before.before.before.before.before.before.before.before.struct_told.given.1.0.1 ∙ pass-gain (now (a t)) (answered (k t)) (goesOn t).if3.left))
+      (ap (set (a t).loop.gained made) (mag-back (k t).choose-by.result.gain n.before.before.before.before.before.before.before.before.before.before.before.before.before.before.before.before.before.before.before.before.before.before.before.before.before.before.struct_told.given.1.0.1 ∙ pass-gain (now (a t)) (answered (k t)) (goes_on t).if3.left))
       (left_is t) n.counted.ensures
 
   abbrev followed : List ℕ
   followed = n.before.before.before.before.before.follow-by.last.1.0
 
   abbrev leaves : Board
-  leaves = onScratch noted followed
+  leaves = on_scratch noted followed
 
   -- by the scans up to now
   abbrev follows : Extent → ℕ → List ℕ
   follows x now =
-      followedBy (by (a t)) x.files x.recipes x.pins noted.rest.scanned.gains noted.sides (view_of (args (a t)).args.bounds.now (args (a t)).args.pins.now)
+      followed_by (by (a t)) x.files x.recipes x.pins noted.rest.scanned.gains noted.sides (view_of (args (a t)).args.bounds.now (args (a t)).args.pins.now)
       (take (now - (a t).loop.p.scans) (drop (a t).loop.p.scans noted.rest.scanned.recipes)) (take (now - (a t).loop.p.scans) (drop (a t).loop.p.scans noted.rest.scanned.kinds))
       (f (k t)) noted.rest.scratch
 
-  followed-is : followed ≡ follows (extentOf (c (a t)) (rs (a t)) (p (a t))) n.counted.result.scans
-  unfolding countedOn
+  followed-is : followed ≡ follows (extent_of (c (a t)) (rs (a t)) (p (a t))) n.counted.result.scans
+  unfolding counted_on
   followed-is =
       n.before.before.before.before.before.follow-by.ensures
       ∙ ap (λ (x : Extent). follows x t.treat-move.result.scans) (extent-is (extends (a t).before))
-      ∙ ap (λ (q : Progress). follows (extentOf (c (a t)) (rs (a t)) (p (a t))) q.scans) (sym n.counted.ensures)
+      ∙ ap (λ (q : Progress). follows (extent_of (c (a t)) (rs (a t)) (p (a t))) q.scans) (sym n.counted.ensures)
 
 cast-cuts : tie.Need-overflow-cast-cuts invariant-loop decreases-loop
-cast-cuts c = let t = c.before.before.before.before.before.before.before.before.before.before.before.before.before.before.before.before.before.before in count_fits (number t (λ p. p.cut)) (room (goesOn t)).cut
+cast-cuts c = let t = c.before.before.before.before.before.before.before.before.before.before.before.before.before.before.before.before.before.before in count_fits (number t (λ p. p.cut)) (room (goes_on t)).cut
 
 mul-cuts : tie.Need-overflow-mul-cuts invariant-loop decreases-loop
 mul-cuts c = place-fits (room c.before.before.before.before.before.before.before.before.before.before.before.before.before.before.before.before.before.before.before.before.before.before.before.before.before).few
@@ -476,7 +476,7 @@ slice-write-cuts : tie.Need-slice-write-cuts invariant-loop decreases-loop
 slice-write-cuts c = (room c.before.before.before.before.before.before.before.before.before.before.before.before.before.before.before.before.before.before.before.before.before.before.before.before.before).cuts
 
 cast_ends : tie.Need-overflow-cast-ends invariant-loop decreases-loop
-cast_ends c = let t = c.before.before.before.before.before.before.before.before.before.before.before.before.before.before.before.before.before.before.before in count_fits (number t (λ p. p.scans)) (room (goesOn t)).scans
+cast_ends c = let t = c.before.before.before.before.before.before.before.before.before.before.before.before.before.before.before.before.before.before.before in count_fits (number t (λ p. p.scans)) (room (goes_on t)).scans
 
 mul-ends : tie.Need-overflow-mul-ends invariant-loop decreases-loop
 mul-ends c = place-fits (room c.before.before.before.before.before.before.before.before.before.before.before.before.before.before.before.before.before.before.before.before.before.before.before.before.before.before).few
@@ -485,12 +485,12 @@ slice-write-ends : tie.Need-slice-write-ends invariant-loop decreases-loop
 slice-write-ends c = (room c.before.before.before.before.before.before.before.before.before.before.before.before.before.before.before.before.before.before.before.before.before.before.before.before.before.before).ends
 
 counted-requires : tie.Need-counted-requires invariant-loop decreases-loop
-counted-requires c κs = let t = c.before.before.before.before.before.before.before.before.before.before.before.before.before.before.before.before.before.before.before in same-below (number t (λ p. p.moves)) (room (goesOn t)).moves
+counted-requires c κs = let t = c.before.before.before.before.before.before.before.before.before.before.before.before.before.before.before.before.before.before.before in same-below (number t (λ p. p.moves)) (room (goes_on t)).moves
 
 loop-less : tie.Need-loop-smaller invariant-loop decreases-loop
 loop-less c =
     let x = k (t c) in
-    let h = (goesOn (t c)).if3.left in
+    let h = (goes_on (t c)).if3.left in
     one_less (playing-next (going x).under (picked x) h).early (playing-more (going x).under (picked x) h {b' = noted c} (moves c))
 
 -- whatever pass was underway when the moves began
@@ -498,7 +498,7 @@ loop-again : tie.Need-loop-preserved invariant-loop decreases-loop
 loop-again c figures l u =
     let x = k (t c) in
     let v = (at x).loop.inv figures l u in
-    followed-under (under-chosen x figures l v) (chose x figures l v) (goesOn (t c)).if3.left {b' = noted c} (moves c) {z' = followed c} (followed-is c)
+    followed-under (under-chosen x figures l v) (chose x figures l v) (goes_on (t c)).if3.left {b' = noted c} (moves c) {z' = followed c} (followed-is c)
 
 pub pass-once-spec : {M : Type 1} → statement M
 pass-once-spec =

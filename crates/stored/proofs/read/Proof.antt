@@ -1,8 +1,8 @@
 use mathlib.Core.Path.{refl}
 use native.Mathlib.Omega.{arith}
 use borrow.Author.Rules.{rules}
-use Rattle.rules.specs.Job.{limitsOf}
-use Rattle.stored.specs.Room.{roomOf}
+use Rattle.rules.specs.Job.{limits_of}
+use Rattle.stored.specs.Room.{room_of}
 use Rattle.stored.proofs.Readings.{own_room, refused-room, lent-enough, handed-over}
 use Rattle.stored.proofs.read.Statement.{statement}
 use Rattle.stored.proofs.read.Tie as tie
@@ -23,12 +23,12 @@ slice-aggregate-take-job-5 : tie.Need-slice-aggregate-take-job-5
 slice-aggregate-take-job-5 c = refl
 
 take-job-requires : tie.Need-take-job-requires
-take-job-requires c κs = own_room (limitsOf _ _ _ 0)
+take-job-requires c κs = own_room (limits_of _ _ _ 0)
 
 returns : tie.Need-returns
 returns c =
     let a = c.before.before.before.before.before.before.before.before.before.before.before.before.before.before.before.before.before.before.before.args in
-    refused-room _ _ (roomOf a.sizes.now a.sides.now a.marks.now a.bounds.now a.pins.now) c.before.before.before.before.before.before.before.take-job.ensures.0 c.if1.true
+    refused-room _ _ (room_of a.sizes.now a.sides.now a.marks.now a.bounds.now a.pins.now) c.before.before.before.before.before.before.before.take-job.ensures.0 c.if1.true
 
 cast-c : tie.Need-overflow-cast-c
 cast-c c = omega arith
@@ -50,7 +50,7 @@ hand-over-requires c κs =
     let a = c.before.before.before.before.before.before.before.before.before.before.before.before.before.before.before.before.before.before.before.before.before.before.before.before.before.args in
     let e = c.before.before.before.before.before.before.before.before.before.before.before.before.before.take-job.ensures in
     let z = c.before.before.before.before.before.before.if1.false in
-    ((e.1 z).enough.sizes, (lent-enough _ _ (roomOf a.sizes.now a.sides.now a.marks.now a.bounds.now a.pins.now) e.0 z).sizes)
+    ((e.1 z).enough.sizes, (lent-enough _ _ (room_of a.sizes.now a.sides.now a.marks.now a.bounds.now a.pins.now) e.0 z).sizes)
 
 slice-aggregate-hand-over-2 : tie.Need-slice-aggregate-hand-over-2
 slice-aggregate-hand-over-2 c = search rules
@@ -60,7 +60,7 @@ hand-over-requires-2 c κs =
     let a = c.before.before.before.before.before.before.before.before.before.before.before.before.before.before.before.before.before.before.before.before.before.before.before.before.before.before.before.before.before.before.args in
     let e = c.before.before.before.before.before.before.before.before.before.before.before.before.before.before.before.before.before.before.take-job.ensures in
     let z = c.before.before.before.before.before.before.before.before.before.before.before.if1.false in
-    ((e.1 z).enough.sides, (lent-enough _ _ (roomOf a.sizes.now a.sides.now a.marks.now a.bounds.now a.pins.now) e.0 z).sides)
+    ((e.1 z).enough.sides, (lent-enough _ _ (room_of a.sizes.now a.sides.now a.marks.now a.bounds.now a.pins.now) e.0 z).sides)
 
 slice-aggregate-hand-over-3 : tie.Need-slice-aggregate-hand-over-3
 slice-aggregate-hand-over-3 c = search rules
@@ -70,7 +70,7 @@ hand-over-requires-3 c κs =
     let a = c.before.before.before.before.before.before.before.before.before.before.before.before.before.before.before.before.before.before.before.before.before.before.before.before.before.before.before.before.before.before.before.before.before.before.before.args in
     let e = c.before.before.before.before.before.before.before.before.before.before.before.before.before.before.before.before.before.before.before.before.before.before.before.take-job.ensures in
     let z = c.before.before.before.before.before.before.before.before.before.before.before.before.before.before.before.before.if1.false in
-    ((e.1 z).enough.marks, (lent-enough _ _ (roomOf a.sizes.now a.sides.now a.marks.now a.bounds.now a.pins.now) e.0 z).marks)
+    ((e.1 z).enough.marks, (lent-enough _ _ (room_of a.sizes.now a.sides.now a.marks.now a.bounds.now a.pins.now) e.0 z).marks)
 
 slice-aggregate-hand-over-4 : tie.Need-slice-aggregate-hand-over-4
 slice-aggregate-hand-over-4 c = search rules
@@ -80,7 +80,7 @@ hand-over-requires-4 c κs =
     let a = c.before.before.before.before.before.before.before.before.before.before.before.before.before.before.before.before.before.before.before.before.before.before.before.before.before.before.before.before.before.before.before.before.before.before.before.before.before.before.before.before.args in
     let e = c.before.before.before.before.before.before.before.before.before.before.before.before.before.before.before.before.before.before.before.before.before.before.before.before.before.before.before.before.take-job.ensures in
     let z = c.before.before.before.before.before.before.before.before.before.before.before.before.before.before.before.before.before.before.before.before.before.if1.false in
-    ((e.1 z).enough.bounds, (lent-enough _ _ (roomOf a.sizes.now a.sides.now a.marks.now a.bounds.now a.pins.now) e.0 z).bounds)
+    ((e.1 z).enough.bounds, (lent-enough _ _ (room_of a.sizes.now a.sides.now a.marks.now a.bounds.now a.pins.now) e.0 z).bounds)
 
 slice-aggregate-hand-over-5 : tie.Need-slice-aggregate-hand-over-5
 slice-aggregate-hand-over-5 c = search rules
@@ -90,7 +90,7 @@ hand-over-requires-5 c κs =
     let a = c.before.before.before.before.before.before.before.before.before.before.before.before.before.before.before.before.before.before.before.before.before.before.before.before.before.before.before.before.before.before.before.before.before.before.before.before.before.before.before.before.before.before.before.before.before.args in
     let e = c.before.before.before.before.before.before.before.before.before.before.before.before.before.before.before.before.before.before.before.before.before.before.before.before.before.before.before.before.before.before.before.before.before.take-job.ensures in
     let z = c.before.before.before.before.before.before.before.before.before.before.before.before.before.before.before.before.before.before.before.before.before.before.before.before.before.before.if1.false in
-    ((e.1 z).enough.pins, (lent-enough _ _ (roomOf a.sizes.now a.sides.now a.marks.now a.bounds.now a.pins.now) e.0 z).pins)
+    ((e.1 z).enough.pins, (lent-enough _ _ (room_of a.sizes.now a.sides.now a.marks.now a.bounds.now a.pins.now) e.0 z).pins)
 
 same_length : tie.Need-same-length
 same_length c = c.before.before.before.before.before.before.before.before.before.before.before.before.before.before.before.before.before.before.before.before.before.sizes.given
@@ -112,7 +112,7 @@ returns-2 c =
     let a = c.before.before.before.before.before.before.before.before.before.before.before.before.before.before.before.before.before.before.before.before.before.before.before.before.before.before.before.before.before.before.before.before.before.before.before.before.before.before.before.before.before.before.before.before.before.before.before.before.args in
     let e = c.before.before.before.before.before.before.before.before.before.before.before.before.before.before.before.before.before.before.before.before.before.before.before.before.before.before.before.before.before.before.before.before.before.before.before.before.take-job.ensures in
     let z = c.before.before.before.before.before.before.before.before.before.before.before.before.before.before.before.before.before.before.before.before.before.before.before.before.before.before.before.before.before.if1.false in
-    handed-over _ _ (roomOf a.sizes.now a.sides.now a.marks.now a.bounds.now a.pins.now) e.0 z (e.1 z)
+    handed-over _ _ (room_of a.sizes.now a.sides.now a.marks.now a.bounds.now a.pins.now) e.0 z (e.1 z)
     (λ i. record {
       sizes = c.before.before.before.before.before.before.before.before.before.before.before.before.before.before.before.before.before.before.before.before.before.before.hand-over.ensures i;
       sides = c.before.before.before.before.before.before.before.before.before.before.before.before.before.before.before.before.before.hand-over2.ensures i;

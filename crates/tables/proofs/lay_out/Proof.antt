@@ -4,8 +4,8 @@ use mathlib.Core.Bool.{Bool}
 use native.Mathlib.Omega.{arith}
 use borrow.Author.Rules.{rules}
 use Rattle.rules.specs.Job.{Job, Limits}
-use Rattle.job.specs.Parts.{wholeJob}
-use Rattle.tables.proofs.Accepted.{Surveyed, surveyed, let_through, fitWord, builders-ask}
+use Rattle.job.specs.Parts.{whole_job}
+use Rattle.tables.proofs.Accepted.{Surveyed, surveyed, let_through, fit_word, builders-ask}
 use Rattle.tables.proofs.lay_out.Statement.{statement}
 use Rattle.tables.proofs.lay_out.Tie as tie
 
@@ -17,10 +17,10 @@ module _ (t : tie.After-survey) where
 
   abbrev job : Job
   job =
-      wholeJob s.args.job s.args.sizes.now s.args.sides.now s.args.marks.now s.args.bounds.now s.args.pins.now
+      whole_job s.args.job s.args.sizes.now s.args.sides.now s.args.marks.now s.args.bounds.now s.args.pins.now
 
   abbrev word : Bool
-  word = fitWord s.args.edition job s.args.gains.now s.args.scratch.now s.args.lists
+  word = fit_word s.args.edition job s.args.gains.now s.args.scratch.now s.args.lists
 
   -- the job's own limits, and what the survey tells by them
   abbrev known : (most : Limits) × Surveyed s.args.balancing most job word t.survey.result

@@ -2,8 +2,8 @@ use mathlib.Core.Path.{ap, ◌∙◌}
 use native.Mathlib.Omega.{arith}
 use mathlib.Core.List.{List}
 use Prim.Native.Nat.{ℕ}
-use Rattle.rules.specs.Job.{limitsOf}
-use Rattle.rules.specs.Report.{intoRoom, prints}
+use Rattle.rules.specs.Job.{limits_of}
+use Rattle.rules.specs.Report.{into_room, prints}
 use Rattle.report.proofs.Lending.{into-lendable}
 use Rattle.stored.proofs.JobTaken.{held-read}
 use Rattle.teller.proofs.Telling.{night-refused, night-read}
@@ -25,13 +25,13 @@ returns c =
     let a = c.before.before.before.before.before.before.before.before.before.before.before.args in
     let t = c.before.before.before.before.before.before.before.before.take-up in
     let p = c.before.before.print-refusal in
-    let e = p.ensures.0 ∙ ap (λ (l : List ℕ). intoRoom l a.out.now) (night-refused a.edition (limitsOf _ _ _ _) a.input.now t.result t.ensures.0 t.ensures.1 c.before.before.before.before.if1.true) in
-    (e, (λ long. p.ensures.1 (omega (arith, long)), into-lendable (prints a.edition (limitsOf _ _ _ _) a.input.now) a.out.now _ p.result e))
+    let e = p.ensures.0 ∙ ap (λ (l : List ℕ). into_room l a.out.now) (night-refused a.edition (limits_of _ _ _ _) a.input.now t.result t.ensures.0 t.ensures.1 c.before.before.before.before.if1.true) in
+    (e, (λ long. p.ensures.1 (omega (arith, long)), into-lendable (prints a.edition (limits_of _ _ _ _) a.input.now) a.out.now _ p.result e))
 
 report-job-requires : tie.Need-report-job-requires
 report-job-requires c κs =
     let t = c.before.before.before.before.before.take-up in
-    held-read (limitsOf _ _ _ _) _ t.result t.ensures.0 t.ensures.1 c.before.if1.false
+    held-read (limits_of _ _ _ _) _ t.result t.ensures.0 t.ensures.1 c.before.if1.false
 
 same-length-2 : tie.Need-same-length-2
 same-length-2 c = search rules
@@ -41,8 +41,8 @@ returns-2 c =
     let a = c.before.before.before.before.before.before.before.before.before.before.before.args in
     let t = c.before.before.before.before.before.before.before.before.take-up in
     let p = c.before.before.report-job in
-    let e = p.ensures.0 ∙ ap (λ (l : List ℕ). intoRoom l a.out.now) (night-read a.edition (limitsOf _ _ _ _) a.input.now t.result t.ensures.0 t.ensures.1 c.before.before.before.before.if1.false) in
-    (e, (p.ensures.1, into-lendable (prints a.edition (limitsOf _ _ _ _) a.input.now) a.out.now _ p.result e))
+    let e = p.ensures.0 ∙ ap (λ (l : List ℕ). into_room l a.out.now) (night-read a.edition (limits_of _ _ _ _) a.input.now t.result t.ensures.0 t.ensures.1 c.before.before.before.before.if1.false) in
+    (e, (p.ensures.1, into-lendable (prints a.edition (limits_of _ _ _ _) a.input.now) a.out.now _ p.result e))
 
 pub night-spec : {M : Type 1} → statement M
 night-spec =

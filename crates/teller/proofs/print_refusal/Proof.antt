@@ -1,6 +1,6 @@
 use mathlib.Core.Path.{refl}
 use native.Mathlib.Omega.{arith}
-use Rattle.rules.specs.Job.{limitsOf}
+use Rattle.rules.specs.Job.{limits_of}
 use Rattle.rules.specs.Report.{refusal}
 use Rattle.rules.proofs.Reports.{into-number}
 use Rattle.teller.proofs.Telling.{refusal-told}
@@ -30,7 +30,7 @@ returns : tie.Need-returns
 returns c =
     let start = c.before.before.before.before.before.before.before.before.before in
     let r = c.before.before.report.ensures in
-    let e = refusal-told (limitsOf _ _ _ _) _ _ _ start.args.out.now r.0 c.before.before.before.before.before.before.before.refused.ensures start.requires in
+    let e = refusal-told (limits_of _ _ _ _) _ _ _ start.args.out.now r.0 c.before.before.before.before.before.before.before.refused.ensures start.requires in
     (e, λ long. into-number (refusal start.args.verdict) start.args.out.now _ _ e (r.1 refl refl (omega (arith, long))))
 
 pub print-refusal-spec : {M : Type 1} → statement M

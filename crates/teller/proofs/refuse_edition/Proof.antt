@@ -1,15 +1,15 @@
 use mathlib.Core.Path.{◌≡◌, refl, ap, ◌∙◌}
 use Rattle.rules.specs.declared.Verdict.{Verdict}
-use Rattle.rules.specs.Check.{checkEdition}
-use Rattle.rules.specs.Report.{refusal, intoRoom}
+use Rattle.rules.specs.Check.{check_edition}
+use Rattle.rules.specs.Report.{refusal, into_room}
 use Rattle.report.proofs.Lending.{into-lendable}
 use borrow.Author.Rules.{rules}
 use Rattle.teller.proofs.refuse_edition.Statement.{statement}
 use Rattle.teller.proofs.refuse_edition.Tie as tie
 
 -- 0 names none
-none_named : record { number = 32; place = 0 } ≡ checkEdition 0
-unfolding checkEdition
+none_named : record { number = 32; place = 0 } ≡ check_edition 0
+unfolding check_edition
 none_named = refl
 
 print-refusal-requires : tie.Need-print-refusal-requires
@@ -22,8 +22,8 @@ returns : tie.Need-returns
 returns c =
     let a = c.before.before.before.before.before.args in
     let p = c.before.before.print-refusal in
-    let e = p.ensures.0 ∙ ap (λ (v : Verdict). intoRoom (refusal v) a.out.now) none_named in
-    (e, (p.ensures.1, into-lendable (refusal (checkEdition 0)) a.out.now _ p.result e))
+    let e = p.ensures.0 ∙ ap (λ (v : Verdict). into_room (refusal v) a.out.now) none_named in
+    (e, (p.ensures.1, into-lendable (refusal (check_edition 0)) a.out.now _ p.result e))
 
 pub refuse-edition-spec : {M : Type 1} → statement M
 refuse-edition-spec = tie.close (tie.spec print-refusal-requires same_length returns)

@@ -2,11 +2,11 @@ use mathlib.Core.Path.{sym, ap, ◌∙◌}
 use lib.ListN.{take}
 use lib.Seq.{length-take-le}
 use native.Mathlib.Omega.{arith}
-use Rattle.rules.specs.Job.{Job, Limits, limitsOf}
-use Rattle.rules.specs.Report.{intoRoom}
+use Rattle.rules.specs.Job.{Job, Limits, limits_of}
+use Rattle.rules.specs.Report.{into_room}
 use Rattle.stored.specs.Room.{lists_of}
 use Rattle.stored.proofs.JobTaken.{first-whole, own-lent}
-use Rattle.teller.specs.Telling.{runReport}
+use Rattle.teller.specs.Telling.{run_report}
 use borrow.Author.Rules.{rules}
 use Rattle.teller.proofs.report_job.Statement.{statement}
 use Rattle.teller.proofs.report_job.Tie as tie
@@ -17,7 +17,7 @@ use Rattle.teller.proofs.report_job.⟦Job·MOST-DEN⟧-asked.Lts as den
 
 -- the job's own limits, as the contract asks them of the code
 abbrev most : Limits
-most = limitsOf (files.answer tt tt) (recipes.answer tt tt) (pins.answer tt tt) (den.answer tt tt)
+most = limits_of (files.answer tt tt) (recipes.answer tt tt) (pins.answer tt tt) (den.answer tt tt)
 
 cast-c : tie.Need-overflow-cast-c
 cast-c c = search rules
@@ -65,10 +65,10 @@ slice-aggregate-report-run-5 : tie.Need-slice-aggregate-report-run-5
 slice-aggregate-report-run-5 c = sym (length-take-le _ _ c.before.before.before.before.before.before.before.before.before.before.before.before.before.before.before.before.before.requires.enough.pins)
 
 array-borrow-prefix-gains : tie.Need-array-borrow-prefix-gains
-array-borrow-prefix-gains c = c.before.before.before.before.before.before.before.before.before.before.before.before.before.before.before.before.before.requires.fewFiles
+array-borrow-prefix-gains c = c.before.before.before.before.before.before.before.before.before.before.before.before.before.before.before.before.before.requires.few_files
 
 slice-aggregate-report-run-6 : tie.Need-slice-aggregate-report-run-6
-slice-aggregate-report-run-6 c = sym (length-take-le _ _ c.before.before.before.before.before.before.before.before.before.before.before.before.before.before.before.before.before.before.requires.fewFiles)
+slice-aggregate-report-run-6 c = sym (length-take-le _ _ c.before.before.before.before.before.before.before.before.before.before.before.before.before.before.before.before.before.before.requires.few_files)
 
 slice-aggregate-report-run-7 : tie.Need-slice-aggregate-report-run-7
 slice-aggregate-report-run-7 c = search rules
@@ -99,7 +99,7 @@ report-run-requires c κs =
     let sizes = length-take-le n t.sizes start.requires.enough.sizes in
     let sides = length-take-le n t.sides start.requires.enough.sides in
     let marks = length-take-le n t.marks start.requires.enough.marks in
-    ((omega (arith, start.requires.fewFiles, sizes), sides ∙ sym sizes, marks ∙ sym sizes), own-lent most (take n t.sizes) n sizes start.requires.fewFiles)
+    ((omega (arith, start.requires.few_files, sizes), sides ∙ sym sizes, marks ∙ sym sizes), own-lent most (take n t.sizes) n sizes start.requires.few_files)
 
 same_length : tie.Need-same-length
 same_length c = search rules
@@ -109,7 +109,7 @@ returns c =
     let a = c.before.before.before.before.before.before.before.before.before.before.before.before.before.before.before.before.before.before.before.before.before.before.before.before.before.before.before.before.before.before.before.before.before.before.before.before.before.before.args in
     let e = c.before.before.before.before.before.before.before.before.before.before.before.report-run.ensures in
     let whole = first-whole a.t.read.header (lists_of a.t) _ c.before.before.before.before.before.before.before.before.before.before.before.before.before.before.before.before.before.before.before.before.before.before.before.before.before.before.before.before.before.before.before.figures-of.ensures in
-    (e.0 ∙ ap (λ (j : Job). intoRoom (runReport a.edition most j) a.out.now) whole, e.1)
+    (e.0 ∙ ap (λ (j : Job). into_room (run_report a.edition most j) a.out.now) whole, e.1)
 
 pub report-job-spec : {M : Type 1} → statement M
 report-job-spec =

@@ -2,8 +2,8 @@ use mathlib.Core.Path.{ap, ◌∙◌}
 use native.Mathlib.Omega.{arith}
 use mathlib.Core.List.{List}
 use Prim.Native.Nat.{ℕ}
-use Rattle.rules.specs.Job.{limitsOf}
-use Rattle.rules.specs.Report.{intoRoom}
+use Rattle.rules.specs.Job.{limits_of}
+use Rattle.rules.specs.Report.{into_room}
 use Rattle.rules.specs.Trace.{traces}
 use Rattle.report.proofs.Lending.{into-lendable}
 use Rattle.stored.proofs.JobTaken.{held-read}
@@ -26,13 +26,13 @@ returns c =
     let a = c.before.before.before.before.before.before.before.before.before.before.before.args in
     let t = c.before.before.before.before.before.before.before.before.take-up in
     let p = c.before.before.print-refusal in
-    let e = p.ensures.0 ∙ ap (λ (l : List ℕ). intoRoom l a.out.now) (trace-refused a.edition (limitsOf _ _ _ _) a.input.now t.result t.ensures.0 t.ensures.1 c.before.before.before.before.if1.true) in
-    (e, (λ long. p.ensures.1 (omega (arith, long)), into-lendable (traces a.edition (limitsOf _ _ _ _) a.input.now) a.out.now _ p.result e))
+    let e = p.ensures.0 ∙ ap (λ (l : List ℕ). into_room l a.out.now) (trace-refused a.edition (limits_of _ _ _ _) a.input.now t.result t.ensures.0 t.ensures.1 c.before.before.before.before.if1.true) in
+    (e, (λ long. p.ensures.1 (omega (arith, long)), into-lendable (traces a.edition (limits_of _ _ _ _) a.input.now) a.out.now _ p.result e))
 
 trace-job-requires : tie.Need-trace-job-requires
 trace-job-requires c κs =
     let t = c.before.before.before.before.before.take-up in
-    held-read (limitsOf _ _ _ _) _ t.result t.ensures.0 t.ensures.1 c.before.if1.false
+    held-read (limits_of _ _ _ _) _ t.result t.ensures.0 t.ensures.1 c.before.if1.false
 
 same-length-2 : tie.Need-same-length-2
 same-length-2 c = search rules
@@ -42,8 +42,8 @@ returns-2 c =
     let a = c.before.before.before.before.before.before.before.before.before.before.before.args in
     let t = c.before.before.before.before.before.before.before.before.take-up in
     let p = c.before.before.trace-job in
-    let e = p.ensures.0 ∙ ap (λ (l : List ℕ). intoRoom l a.out.now) (trace-read a.edition (limitsOf _ _ _ _) a.input.now t.result t.ensures.0 t.ensures.1 c.before.before.before.before.if1.false) in
-    (e, (p.ensures.1, into-lendable (traces a.edition (limitsOf _ _ _ _) a.input.now) a.out.now _ p.result e))
+    let e = p.ensures.0 ∙ ap (λ (l : List ℕ). into_room l a.out.now) (trace-read a.edition (limits_of _ _ _ _) a.input.now t.result t.ensures.0 t.ensures.1 c.before.before.before.before.if1.false) in
+    (e, (p.ensures.1, into-lendable (traces a.edition (limits_of _ _ _ _) a.input.now) a.out.now _ p.result e))
 
 pub trace-spec : {M : Type 1} → statement M
 trace-spec =

@@ -4,10 +4,10 @@ use native.Mathlib.Omega.{arith}
 use lib.ListN.{length}
 use Rattle.rules.specs.Lists.{in_turn, onto}
 use Rattle.rules.specs.Job.{Job}
-use Rattle.rules.specs.Stored.{blockCount}
-use Rattle.rules.specs.Writing.{headerFor, jobBlock}
+use Rattle.rules.specs.Stored.{block_count}
+use Rattle.rules.specs.Writing.{header_for, job_block}
 use Rattle.rules.proofs.RoundTrip.{job-block-length}
-use Rattle.writer.specs.Filling.{jobWith}
+use Rattle.writer.specs.Filling.{job_with}
 use Rattle.writer.proofs.Walked.{walked-length, walked_more, walked_all}
 use borrow.Author.Rules.{rules}
 use Rattle.writer.proofs.put_blocks.Statement.{statement}
@@ -15,7 +15,7 @@ use Rattle.writer.proofs.put_blocks.Tie as tie
 
 abbrev invariant-loop : tie.invariant-loop
 invariant-loop h sizes sides marks bounds pins out₀ n b₀ out b =
-    (b ≤ n) × (out ≡ onto (in_turn (jobBlock (jobWith h sizes sides marks bounds pins)) b) out₀)
+    (b ≤ n) × (out ≡ onto (in_turn (job_block (job_with h sizes sides marks bounds pins)) b) out₀)
 
 abbrev decreases-loop : tie.decreases-loop
 decreases-loop h sizes sides marks bounds pins out₀ n b₀ out b = n - b
@@ -41,7 +41,7 @@ put-block-requires c κs =
     let s = c.before.before.before.before.before.before.before.before.before.before.before.before.before.before in
     let a = s.args in
     let l = c.before.before.before.before.before.before.loop in
-    (ap length c.before.before.before.fill.ensures ∙ job-block-length _ l.b, omega (arith, ap length l.invariant.1, walked-length (jobWith a.h a.sizes.now a.sides.now a.marks.now a.bounds.now a.pins.now) a.out.now l.b (blockCount a.h) (omega arith) s.requires.1))
+    (ap length c.before.before.before.fill.ensures ∙ job-block-length _ l.b, omega (arith, ap length l.invariant.1, walked-length (job_with a.h a.sizes.now a.sides.now a.marks.now a.bounds.now a.pins.now) a.out.now l.b (block_count a.h) (omega arith) s.requires.1))
 
 add-b : tie.Need-overflow-add-b invariant-loop decreases-loop
 add-b c = search rules
@@ -53,24 +53,24 @@ loop-again : tie.Need-loop-preserved invariant-loop decreases-loop
 loop-again c =
     let a = c.before.before.before.before.before.before.before.before.before.before.before.before.before.before.before.before.before.args in
     let l = c.before.before.before.before.before.before.before.before.before.loop in
-    (omega arith, walked_more (jobWith a.h a.sizes.now a.sides.now a.marks.now a.bounds.now a.pins.now) a.out.now l.b _ l.invariant.1 (ap (λ (k : ℕ). 512 * k) c.before.before.before.wide.ensures) c.before.before.before.before.before.before.fill.ensures c.before.before.put-block.ensures)
+    (omega arith, walked_more (job_with a.h a.sizes.now a.sides.now a.marks.now a.bounds.now a.pins.now) a.out.now l.b _ l.invariant.1 (ap (λ (k : ℕ). 512 * k) c.before.before.before.wide.ensures) c.before.before.before.before.before.before.fill.ensures c.before.before.put-block.ensures)
 
 same_length : tie.Need-same-length invariant-loop decreases-loop
 same_length c =
     let s = c.before.before.before.before.before.before.before.before.before in
     let a = s.args in
     let l = c.before.loop in
-    ap length l.invariant.1 ∙ walked-length (jobWith a.h a.sizes.now a.sides.now a.marks.now a.bounds.now a.pins.now) a.out.now l.b (blockCount a.h) (omega arith) s.requires.1
+    ap length l.invariant.1 ∙ walked-length (job_with a.h a.sizes.now a.sides.now a.marks.now a.bounds.now a.pins.now) a.out.now l.b (block_count a.h) (omega arith) s.requires.1
 
 returns : tie.Need-returns invariant-loop decreases-loop
 returns c =
     let s = c.before.before.before.before.before.before.before.before.before in
     let a = s.args in
     let l = c.before.loop in
-    let job : Job = jobWith a.h a.sizes.now a.sides.now a.marks.now a.bounds.now a.pins.now in
-    let e : l.b ≡ blockCount a.h = omega arith in
-    let k : blockCount a.h ≡ blockCount (headerFor job) = ap blockCount s.requires.0.header in
-    l.invariant.1 ∙ ap (λ (n : ℕ). onto (in_turn (jobBlock job) n) a.out.now) (e ∙ k) ∙ walked_all job a.out.now (s.requires.1 ∙ ap (λ (n : ℕ). 512 * n) k)
+    let job : Job = job_with a.h a.sizes.now a.sides.now a.marks.now a.bounds.now a.pins.now in
+    let e : l.b ≡ block_count a.h = omega arith in
+    let k : block_count a.h ≡ block_count (header_for job) = ap block_count s.requires.0.header in
+    l.invariant.1 ∙ ap (λ (n : ℕ). onto (in_turn (job_block job) n) a.out.now) (e ∙ k) ∙ walked_all job a.out.now (s.requires.1 ∙ ap (λ (n : ℕ). 512 * n) k)
 
 pub put-blocks-spec : {M : Type 1} → statement M
 put-blocks-spec =

@@ -3,13 +3,13 @@ use Prim.Native.Nat.{◌*◌}
 use native.Mathlib.Omega.{arith}
 use lib.ListN.{length}
 use Rattle.rules.specs.declared.Header.{Header}
-use Rattle.rules.specs.Job.{Job, limitsOf}
-use Rattle.rules.specs.Check.{checkCounts}
-use Rattle.rules.specs.Stored.{blockCount}
-use Rattle.rules.specs.Writing.{blocksOf}
+use Rattle.rules.specs.Job.{Job, limits_of}
+use Rattle.rules.specs.Check.{check_counts}
+use Rattle.rules.specs.Stored.{block_count}
+use Rattle.rules.specs.Writing.{blocks_of}
 use Rattle.rules.proofs.RoundTrip.{blocks-length}
 use Rattle.rules.proofs.Writes.{write-stays, write_done, write-exact}
-use Rattle.job.specs.Parts.{wholeJob}
+use Rattle.job.specs.Parts.{whole_job}
 use Rattle.writer.proofs.Counts.{counts-stop, counts-few, verdict-is, own-job, writable}
 use borrow.Author.Rules.{rules}
 use Rattle.writer.proofs.write.Statement.{statement}
@@ -24,15 +24,15 @@ check-counts-requires c κs = search rules
 returns : tie.Need-returns
 returns c =
     let a = c.before.before.before.before.before.before.before.before.before.before.args in
-    let job : Job = wholeJob a.job a.sizes.now a.sides.now a.marks.now a.bounds.now a.pins.now in
+    let job : Job = whole_job a.job a.sizes.now a.sides.now a.marks.now a.bounds.now a.pins.now in
     write-stays _ job a.out.now (counts-stop _ job c.before.before.before.recipe-count.ensures c.before.before.check-counts.ensures _ c.if1.true) c.if1.true
 
 header-for-requires : tie.Need-header-for-requires
-unfolding checkCounts
+unfolding check_counts
 header-for-requires c κs =
     let a = c.before.before.before.before.before.before.before.before.before.before.args in
-    let job : Job = wholeJob a.job a.sizes.now a.sides.now a.marks.now a.bounds.now a.pins.now in
-    let r = counts-few (limitsOf _ _ _ 0) job c.before.before.before.recipe-count.ensures c.before.before.check-counts.ensures c.if1.false in
+    let job : Job = whole_job a.job a.sizes.now a.sides.now a.marks.now a.bounds.now a.pins.now in
+    let r = counts-few (limits_of _ _ _ 0) job c.before.before.before.recipe-count.ensures c.before.before.check-counts.ensures c.if1.false in
     (omega (arith, r.0), omega (arith, r.1), omega (arith, r.2))
 
 block-count-requires : tie.Need-block-count-requires
@@ -64,8 +64,8 @@ returns-2 c =
     let w = c.before.before.before.before.before.before in
     let h = w.before.before.header-for.ensures in
     let a = w.before.before.before.before.before.before.before.before.before.before.before.before.before.args in
-    let job : Job = wholeJob a.job a.sizes.now a.sides.now a.marks.now a.bounds.now a.pins.now in
-    let v = verdict-is _ job a.out.now s.check_sound.ensures (w.wide.ensures ∙ w.before.block-count.ensures ∙ ap blockCount h) refl k.bad-k.ensures o.before.refuse-if.ensures o.or_else.ensures in
+    let job : Job = whole_job a.job a.sizes.now a.sides.now a.marks.now a.bounds.now a.pins.now in
+    let v = verdict-is _ job a.out.now s.check_sound.ensures (w.wide.ensures ∙ w.before.block-count.ensures ∙ ap block_count h) refl k.bad-k.ensures o.before.refuse-if.ensures o.or_else.ensures in
     write-stays _ job a.out.now v c.if2.true
 
 put-blocks-requires : tie.Need-put-blocks-requires
@@ -76,10 +76,10 @@ put-blocks-requires c κs =
     let w = c.before.before.before.before.before.before.before in
     let h = w.before.before.header-for.ensures in
     let a = w.before.before.before.before.before.before.before.before.before.before.before.before.before.args in
-    let job : Job = wholeJob a.job a.sizes.now a.sides.now a.marks.now a.bounds.now a.pins.now in
-    let v = verdict-is _ job a.out.now s.check_sound.ensures (w.wide.ensures ∙ w.before.block-count.ensures ∙ ap blockCount h) refl k.bad-k.ensures o.before.refuse-if.ensures o.or_else.ensures in
+    let job : Job = whole_job a.job a.sizes.now a.sides.now a.marks.now a.bounds.now a.pins.now in
+    let v = verdict-is _ job a.out.now s.check_sound.ensures (w.wide.ensures ∙ w.before.block-count.ensures ∙ ap block_count h) refl k.bad-k.ensures o.before.refuse-if.ensures o.or_else.ensures in
     let z = c.before.if2.false in
-    (writable job h _ a.out.now v z, write-exact _ job a.out.now v z ∙ ap (λ (k : Header). 512 * blockCount k) (sym h))
+    (writable job h _ a.out.now v z, write-exact _ job a.out.now v z ∙ ap (λ (k : Header). 512 * block_count k) (sym h))
 
 same_length : tie.Need-same-length
 same_length c =
@@ -89,9 +89,9 @@ same_length c =
     let w = c.before.before.before.before.before.before.before.before.before.before in
     let h = w.before.before.header-for.ensures in
     let a = w.before.before.before.before.before.before.before.before.before.before.before.before.before.args in
-    let job : Job = wholeJob a.job a.sizes.now a.sides.now a.marks.now a.bounds.now a.pins.now in
-    let v = verdict-is _ job a.out.now s.check_sound.ensures (w.wide.ensures ∙ w.before.block-count.ensures ∙ ap blockCount h) refl k.bad-k.ensures o.before.refuse-if.ensures o.or_else.ensures in
-    ap length (c.before.before.put-blocks.ensures ∙ ap blocksOf (own-job job h)) ∙ blocks-length job ∙ sym (write-exact _ job a.out.now v c.before.before.before.before.if2.false)
+    let job : Job = whole_job a.job a.sizes.now a.sides.now a.marks.now a.bounds.now a.pins.now in
+    let v = verdict-is _ job a.out.now s.check_sound.ensures (w.wide.ensures ∙ w.before.block-count.ensures ∙ ap block_count h) refl k.bad-k.ensures o.before.refuse-if.ensures o.or_else.ensures in
+    ap length (c.before.before.put-blocks.ensures ∙ ap blocks_of (own-job job h)) ∙ blocks-length job ∙ sym (write-exact _ job a.out.now v c.before.before.before.before.if2.false)
 
 returns-3 : tie.Need-returns-3
 returns-3 c =
@@ -101,9 +101,9 @@ returns-3 c =
     let w = c.before.before.before.before.before.before.before.before.before.before in
     let h = w.before.before.header-for.ensures in
     let a = w.before.before.before.before.before.before.before.before.before.before.before.before.before.args in
-    let job : Job = wholeJob a.job a.sizes.now a.sides.now a.marks.now a.bounds.now a.pins.now in
-    let v = verdict-is _ job a.out.now s.check_sound.ensures (w.wide.ensures ∙ w.before.block-count.ensures ∙ ap blockCount h) refl k.bad-k.ensures o.before.refuse-if.ensures o.or_else.ensures in
-    write_done _ job a.out.now v c.before.before.before.before.if2.false (c.before.before.put-blocks.ensures ∙ ap blocksOf (own-job job h))
+    let job : Job = whole_job a.job a.sizes.now a.sides.now a.marks.now a.bounds.now a.pins.now in
+    let v = verdict-is _ job a.out.now s.check_sound.ensures (w.wide.ensures ∙ w.before.block-count.ensures ∙ ap block_count h) refl k.bad-k.ensures o.before.refuse-if.ensures o.or_else.ensures in
+    write_done _ job a.out.now v c.before.before.before.before.if2.false (c.before.before.put-blocks.ensures ∙ ap blocks_of (own-job job h))
 
 pub write_spec : {M : Type 1} → statement M
 write_spec =

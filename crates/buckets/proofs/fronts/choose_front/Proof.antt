@@ -2,7 +2,7 @@
 use mathlib.Core.Path.{refl, sym, ◌∙◌}
 use borrow.Author.Tests.{not-true, not-false, ltb-true}
 use borrow.Author.Rules.{rules}
-use Rattle.buckets.specs.Offers.{chosenFront}
+use Rattle.buckets.specs.Offers.{chosen_front}
 use Rattle.buckets.proofs.fronts.choose_front.Statement.{statement}
 use Rattle.buckets.proofs.fronts.choose_front.Tie as tie
 
@@ -13,7 +13,7 @@ no-best-requires : tie.Need-no-best-requires
 no-best-requires c κs = search rules
 
 returns : tie.Need-returns
-unfolding chosenFront
+unfolding chosen_front
 returns c =
     let i = c.before in
     rw (sym i.before.fits2.ensures ∙ not-true _ i.if1.true, c.no-best.ensures) refl
@@ -37,7 +37,7 @@ same_length : tie.Need-same-length
 same_length c = search rules
 
 returns-2 : tie.Need-returns-2
-unfolding chosenFront
+unfolding chosen_front
 returns-2 c =
     let o = c.before.before in
     let g = o.before.before.before in

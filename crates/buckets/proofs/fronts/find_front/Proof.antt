@@ -1,6 +1,6 @@
 -- The top found is stored, and the head below it read before. Assumes nothing.
 use borrow.Author.Rules.{rules}
-use Rattle.buckets.specs.Offers.{frontIn}
+use Rattle.buckets.specs.Offers.{front_in}
 use Rattle.buckets.proofs.fronts.find_front.Statement.{statement}
 use Rattle.buckets.proofs.fronts.find_front.Tie as tie
 
@@ -26,7 +26,7 @@ same_length : tie.Need-same-length
 same_length c = search rules
 
 returns : tie.Need-returns
-unfolding frontIn
+unfolding front_in
 returns c = cc
 
 pub find-front-spec : {M : Type 1} → statement M

@@ -3,8 +3,8 @@ use mathlib.Core.Path.{◌≡◌, refl}
 use mir.Syntax.{w32}
 use mir.Facts.{to_z-of_z}
 use borrow.Author.Rules.{rules, sfits_of}
-use Rattle.choice.specs.Choosing.{distIn}
-use Rattle.buckets.specs.Offers.{offerOf}
+use Rattle.choice.specs.Choosing.{dist_in}
+use Rattle.buckets.specs.Offers.{offer_of}
 use Rattle.buckets.proofs.fronts.offer.Statement.{statement}
 use Rattle.buckets.proofs.fronts.offer.Tie as tie
 
@@ -20,11 +20,11 @@ dist-after-requires c κs = search rules
 no-best-requires : tie.Need-no-best-requires
 no-best-requires c κs = search rules
 
-far : (d : tie.After-dist-after) → let a = d.before.before.before.before.before.args in d.dist-after.result ≡ distIn a.window a.size a.sizes.now a.sides.now a.file
+far : (d : tie.After-dist-after) → let a = d.before.before.before.before.before.args in d.dist-after.result ≡ dist_in a.window a.size a.sizes.now a.sides.now a.file
 far d = rw (d.before.before.entry_at.ensures, d.before.entry-at2.ensures) at d.dist-after.ensures
 
 returns : tie.Need-returns
-unfolding offerOf
+unfolding offer_of
 returns c =
     let i = c.before in
     rw (← far i.before.before, i.if1.true) c.no-best.ensures
@@ -33,7 +33,7 @@ gain-at-requires : tie.Need-gain-at-requires
 gain-at-requires c κs = search rules
 
 returns-2 : tie.Need-returns-2
-unfolding offerOf
+unfolding offer_of
 returns-2 c =
     let i = c.before in
     rw (← far i.before.before, i.if1.false, to_z-of_z {w = w32} {z = c.gain-at.result} (sfits_of c.gain-at.type-inv), c.gain-at.ensures) refl

@@ -3,13 +3,13 @@ use mathlib.Core.Path.{◌≡◌, sym, ◌∙◌}
 use Prim.Native.Nat.{◌≤◌}
 use native.Mathlib.Omega.{arith}
 use borrow.Author.Rules.{rules}
-use Rattle.buckets.specs.Links.{highestIn}
+use Rattle.buckets.specs.Links.{highest_in}
 use Rattle.buckets.proofs.Found.{stops, goes_on}
 use Rattle.buckets.proofs.links.highest.Statement.{statement}
 use Rattle.buckets.proofs.links.highest.Tie as tie
 
 abbrev invariant-loop : tie.invariant-loop
-invariant-loop links none from top k₀ k = (k ≤ top) × (highestIn none from links k ≡ highestIn none from links top)
+invariant-loop links none from top k₀ k = (k ≤ top) × (highest_in none from links k ≡ highest_in none from links top)
 
 abbrev decreases-loop : tie.decreases-loop
 decreases-loop links none from top k₀ k = k
@@ -48,7 +48,7 @@ loop-again c =
     (search rules, sym (goes_on a.none a.from a.links.now i.before.loop.k i.loop-test.true (sym c.before.entry_at.ensures ∙ c.if1.false)) ∙ i.before.loop.invariant.1)
 
 returns-2 : tie.Need-returns-2 invariant-loop decreases-loop
-unfolding highestIn
+unfolding highest_in
 returns-2 c =
     let z : c.before.loop.k ≡ 0 = omega arith in
     rw z at c.before.loop.invariant.1

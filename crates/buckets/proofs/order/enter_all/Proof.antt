@@ -9,12 +9,12 @@ use mir.Facts.{to_z-of_z}
 use borrow.Author.Rules.{rules, sfits_of}
 use borrow.Author.Tests.{not-true, not-false, ltb-true}
 use Rattle.buckets.specs.Slots.{Fits}
-use Rattle.buckets.specs.Entries.{enteredBelow, enteredAll}
+use Rattle.buckets.specs.Entries.{entered_below, entered_all}
 use Rattle.buckets.proofs.order.enter_all.Statement.{statement}
 use Rattle.buckets.proofs.order.enter_all.Tie as tie
 
 abbrev invariant-loop : tie.invariant-loop
-invariant-loop links₀ shape marks sides gains f₀ links f = (f ≤ shape.files) × (length links ≡ length links₀) × (links ≡ enteredBelow shape marks sides gains links₀ f)
+invariant-loop links₀ shape marks sides gains f₀ links f = (f ≤ shape.files) × (length links ≡ length links₀) × (links ≡ entered_below shape marks sides gains links₀ f)
 
 abbrev decreases-loop : tie.decreases-loop
 decreases-loop links₀ shape marks sides gains f₀ links f = shape.files - f
@@ -23,7 +23,7 @@ fits-requires : tie.Need-fits-requires invariant-loop decreases-loop
 fits-requires c κs = search rules
 
 returns : tie.Need-returns invariant-loop decreases-loop
-unfolding enteredAll
+unfolding entered_all
 returns c = rw (sym c.before.fits2.ensures ∙ not-true _ c.if1.true) refl
 
 -- the places fit
@@ -34,7 +34,7 @@ clear-requires : tie.Need-clear-requires invariant-loop decreases-loop
 clear-requires c κs = fit c.before
 
 loop-holds : tie.Need-loop-init invariant-loop decreases-loop
-unfolding enteredBelow
+unfolding entered_below
 loop-holds c = (omega arith, refl, refl)
 
 cast-at : tie.Need-overflow-cast-at invariant-loop decreases-loop
@@ -59,7 +59,7 @@ loop-less : tie.Need-loop-smaller invariant-loop decreases-loop
 loop-less c = omega arith
 
 loop-again : tie.Need-loop-preserved invariant-loop decreases-loop
-unfolding enteredBelow
+unfolding entered_below
 loop-again c =
     let e = c.before.before in
     let g = e.before in
@@ -81,7 +81,7 @@ same_length : tie.Need-same-length invariant-loop decreases-loop
 same_length c = let k = c.before.before.before.before.before in c.before.before.loop.invariant.1 ∙ k.clear.auto.0
 
 returns-2 : tie.Need-returns-2 invariant-loop decreases-loop
-unfolding enteredAll
+unfolding entered_all
 returns-2 c =
     let l = c.before.before.loop in
     let k = c.before.before.before.before.before in

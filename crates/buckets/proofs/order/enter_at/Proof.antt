@@ -3,7 +3,7 @@ use mathlib.Core.Path.{◌≡◌}
 use Prim.Native.Nat.{◌+◌}
 use mir.Facts.{to_z-of_z}
 use borrow.Author.Rules.{rules}
-use Rattle.buckets.specs.Slots.{levelOf, headAt}
+use Rattle.buckets.specs.Slots.{level_of, head_at}
 use Rattle.buckets.specs.Entries.{entered_at}
 use Rattle.buckets.proofs.order.enter_at.Statement.{statement}
 use Rattle.buckets.proofs.order.enter_at.Tie as tie
@@ -15,7 +15,7 @@ head-at-requires : tie.Need-head-at-requires
 head-at-requires c κs = search rules
 
 -- the gain is handed on by its bits
-head : (c : tie.After-head-at) → let a = c.before.before.before.before.args in c.head_at.result ≡ headAt a.shape a.side a.gain
+head : (c : tie.After-head-at) → let a = c.before.before.before.before.args in c.head_at.result ≡ head_at a.shape a.side a.gain
 head c = rw (to_z-of_z c.before.before.before.before.ranges.gain) at c.head_at.ensures
 
 enter-requires : tie.Need-enter-requires
@@ -27,7 +27,7 @@ top-at-requires c κs = search rules
 above-requires : tie.Need-above-requires
 above-requires c κs = search rules
 
-level : (c : tie.After-above) → let a = c.before.before.before.before.before.before.before.before.before.before.args in c.above.result ≡ levelOf a.shape.most a.gain + 1
+level : (c : tie.After-above) → let a = c.before.before.before.before.before.before.before.before.before.before.args in c.above.result ≡ level_of a.shape.most a.gain + 1
 level c = rw (to_z-of_z c.before.before.before.before.before.before.before.before.before.before.ranges.gain) at c.above.ensures
 
 raise-requires : tie.Need-raise-requires

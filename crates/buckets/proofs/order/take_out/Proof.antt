@@ -2,7 +2,7 @@
 use mathlib.Core.Path.{refl, sym, ◌∙◌}
 use borrow.Author.Tests.{not-true, not-false, ltb-true}
 use borrow.Author.Rules.{rules}
-use Rattle.buckets.specs.Entries.{takenOut}
+use Rattle.buckets.specs.Entries.{taken_out}
 use Rattle.buckets.proofs.order.take_out.Statement.{statement}
 use Rattle.buckets.proofs.order.take_out.Tie as tie
 
@@ -10,7 +10,7 @@ fits-requires : tie.Need-fits-requires
 fits-requires c κs = search rules
 
 returns : tie.Need-returns
-unfolding takenOut
+unfolding taken_out
 returns c = rw (sym c.before.fits2.ensures ∙ not-true _ c.if1.true) refl
 
 back-at-requires : tie.Need-back-at-requires
@@ -23,7 +23,7 @@ same_length : tie.Need-same-length
 same_length c = search rules
 
 returns-2 : tie.Need-returns-2
-unfolding takenOut
+unfolding taken_out
 returns-2 c =
     let l = c.before.before in
     let i = l.before.before.before in

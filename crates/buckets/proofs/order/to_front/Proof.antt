@@ -3,7 +3,7 @@ use mathlib.Core.Path.{refl, sym, ◌∙◌}
 use mir.Facts.{to_z-of_z}
 use borrow.Author.Tests.{not-true, not-false, ltb-true}
 use borrow.Author.Rules.{rules}
-use Rattle.buckets.specs.Entries.{broughtFront}
+use Rattle.buckets.specs.Entries.{brought_front}
 use Rattle.buckets.proofs.order.to_front.Statement.{statement}
 use Rattle.buckets.proofs.order.to_front.Tie as tie
 
@@ -11,7 +11,7 @@ fits-requires : tie.Need-fits-requires
 fits-requires c κs = search rules
 
 returns : tie.Need-returns
-unfolding broughtFront
+unfolding brought_front
 returns c = rw (sym c.before.fits2.ensures ∙ not-true _ c.if1.true) refl
 
 back-at-requires : tie.Need-back-at-requires
@@ -27,7 +27,7 @@ same_length : tie.Need-same-length
 same_length c = search rules
 
 returns-2 : tie.Need-returns-2
-unfolding broughtFront
+unfolding brought_front
 returns-2 c =
     let e = c.before.before in
     let l = e.before.before.before.before in

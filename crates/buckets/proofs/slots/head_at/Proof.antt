@@ -3,7 +3,7 @@ use mathlib.Core.Path.{◌≡◌}
 use native.Mathlib.Omega.{arith}
 use mir.Facts.{to_z-of_z}
 use borrow.Author.Rules.{rules}
-use Rattle.buckets.specs.Slots.{levelOf}
+use Rattle.buckets.specs.Slots.{level_of}
 use Rattle.buckets.proofs.Levels.{vault-within, level-most}
 use Rattle.buckets.proofs.slots.head_at.Statement.{statement}
 use Rattle.buckets.proofs.slots.head_at.Tie as tie
@@ -15,7 +15,7 @@ level-requires : tie.Need-level-requires
 level-requires c κs = search rules
 
 -- the gain is handed on by its bits
-level : (c : tie.After-level) → c.level.result ≡ levelOf c.before.before.args.shape.most c.before.before.args.gain
+level : (c : tie.After-level) → c.level.result ≡ level_of c.before.before.args.shape.most c.before.before.args.gain
 level c = rw (to_z-of_z c.before.before.ranges.gain) at c.level.ensures
 
 add-result : tie.Need-overflow-add-result

@@ -8,7 +8,7 @@ use mir.Val.{to_z, of_z}
 use mir.Facts.{to_z_pos}
 use borrow.Author.Rules.{rules}
 use Rattle.rules.proofs.Machine.{wide_fits}
-use Rattle.buckets.specs.Slots.{levelOf}
+use Rattle.buckets.specs.Slots.{level_of}
 use Rattle.buckets.proofs.Levels.{level-most, sum_fits, sum_back, too-low, too-high, within}
 use Rattle.buckets.proofs.slots.level.Statement.{statement}
 use Rattle.buckets.proofs.slots.level.Tie as tie
@@ -49,7 +49,7 @@ returns-2 : tie.Need-returns-2
 returns-2 c = let s = c.before.before in too-high (2 * p s) (sum s) (rw (back s, top s) at c.if2.true)
 
 -- neither test held
-neither : (c : tie.Else2) → let s = c.before.before in sum s ≡ pos (levelOf (p s) s.args.gain)
+neither : (c : tie.Else2) → let s = c.before.before in sum s ≡ pos (level_of (p s) s.args.gain)
 neither c = let s = c.before.before in within (2 * p s) (sum s) (rw (back s) at c.before.if1.false) (rw (back s, top s) at c.if2.false)
 
 cast-result : tie.Need-overflow-cast-result

@@ -1,4 +1,4 @@
--- Its tests are those of `leaderIn`; gains are compared by their bits. Assumes nothing.
+-- Its tests are those of `leader_in`; gains are compared by their bits. Assumes nothing.
 use mathlib.Core.Path.{◌≡◌, sym, ap₂, ◌∙◌}
 use lib.Signed.{lt_z}
 use mir.Syntax.{w32}
@@ -6,7 +6,7 @@ use mir.Val.{to_z, of_z}
 use mir.Facts.{to_z-of_z}
 use borrow.Author.Rules.{rules, sfits_of}
 use Rattle.rules.specs.Move.{greater}
-use Rattle.choice.specs.Heavy.{gainIn}
+use Rattle.choice.specs.Heavy.{gain_in}
 use Rattle.choice.proofs.Leading.{leader-stays, leader-first, leader-goes, leader-keeps}
 use Rattle.choice.proofs.heavy.leader.Statement.{statement}
 use Rattle.choice.proofs.heavy.leader.Tie as tie
@@ -50,11 +50,11 @@ module _ (c : tie.After-if33) where
   abbrev s : tie.Start
   s = c.before.before.before.before.before.before
 
-  compared : lt_z (to_z w32 (of_z w32 (gainIn s.args.gains.now s.args.best))) (to_z w32 (of_z w32 (gainIn s.args.gains.now s.args.f)))
-      ≡ greater (gainIn s.args.gains.now) s.args.f s.args.best
+  compared : lt_z (to_z w32 (of_z w32 (gain_in s.args.gains.now s.args.best))) (to_z w32 (of_z w32 (gain_in s.args.gains.now s.args.f)))
+      ≡ greater (gain_in s.args.gains.now) s.args.f s.args.best
   compared =
-      ap₂ lt_z (to_z-of_z {w = w32} {z = gainIn s.args.gains.now s.args.best} (sfits_of c.before.if32.given))
-      (to_z-of_z {w = w32} {z = gainIn s.args.gains.now s.args.f} (sfits_of c.if33.given))
+      ap₂ lt_z (to_z-of_z {w = w32} {z = gain_in s.args.gains.now s.args.best} (sfits_of c.before.if32.given))
+      (to_z-of_z {w = w32} {z = gain_in s.args.gains.now s.args.f} (sfits_of c.if33.given))
 
 returns-3 : tie.Need-returns-3
 returns-3 c =

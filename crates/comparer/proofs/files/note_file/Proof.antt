@@ -1,7 +1,7 @@
 -- `files::note_file` meets its contract: three steps, one after another, of the figures that are read. Assumes nothing.
 use mathlib.Core.Path.{ap₂}
 use native.Mathlib.Omega.{arith}
-use Rattle.rules.specs.Compare.{figure, fileDifferences}
+use Rattle.rules.specs.Compare.{figure, file_differences}
 use Rattle.comparer.proofs.Noted.{noted-as, noted-then}
 use borrow.Author.Rules.{rules}
 use Rattle.comparer.proofs.files.note_file.Statement.{statement}
@@ -41,7 +41,7 @@ same_length : tie.Need-same-length
 same_length c = search rules
 
 returns : tie.Need-returns
-unfolding fileDifferences
+unfolding file_differences
 returns c =
     let third = c.before.before in
     let second = third.before.before.before.before.before.before in

@@ -3,9 +3,9 @@ use mathlib.Core.Path.{◌≡◌, refl}
 use Prim.Native.Nat.{◌+◌, ◌-◌, ◌*◌, ◌≤◌}
 use native.Mathlib.Omega.{arith}
 use lib.ListN.{length}
-use Rattle.job.specs.Parts.{ofFiles}
+use Rattle.job.specs.Parts.{of_files}
 use Rattle.rules.specs.Lists.{in_turn}
-use Rattle.rules.specs.Compare.{fileDifferences}
+use Rattle.rules.specs.Compare.{file_differences}
 use Rattle.comparer.specs.Finding.{Noted}
 use Rattle.comparer.proofs.Noted.{noted-no-turn, noted-turn}
 use borrow.Author.Rules.{rules}
@@ -15,7 +15,7 @@ use Rattle.comparer.proofs.files.note_files.Tie as tie
 abbrev invariant-loop : tie.invariant-loop
 invariant-loop numbers₀ count n sizes sides marks new-sizes new-sides new-marks next₀ f₀ numbers next f =
     (f ≤ n) × (next ≤ count + 3 * f) × (length numbers ≡ length numbers₀)
-    × Noted count numbers₀ (in_turn (fileDifferences (ofFiles sizes sides marks) (ofFiles new-sizes new-sides new-marks)) f) next numbers
+    × Noted count numbers₀ (in_turn (file_differences (of_files sizes sides marks) (of_files new-sizes new-sides new-marks)) f) next numbers
 
 abbrev decreases-loop : tie.decreases-loop
 decreases-loop numbers₀ count n sizes sides marks new-sizes new-sides new-marks next₀ f₀ numbers next f = n - f

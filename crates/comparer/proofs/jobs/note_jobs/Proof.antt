@@ -1,6 +1,6 @@
 use native.Mathlib.Omega.{arith}
-use Rattle.rules.specs.Job.{limitsOf}
-use Rattle.stored.specs.Room.{roomOf}
+use Rattle.rules.specs.Job.{limits_of}
+use Rattle.stored.specs.Room.{room_of}
 use Rattle.comparer.proofs.Noted.{noted-as, noted-then}
 use Rattle.comparer.proofs.Differences.{differences-are}
 use borrow.Author.Rules.{rules}
@@ -26,8 +26,8 @@ note-recipes-requires c κs =
     let f = c.before.before.before.before.note-files.ensures in
     let m = c.before.before.before.before.before.larger.ensures in
     let k = c.larger2.ensures in (
-      omega (arith, k, p.0.fewRecipes, p.1.0.fewRecipes),
-      (omega (arith, k, m, h.1, f.1, p.0.fewRecipes, p.1.0.fewRecipes, p.0.fewFiles, p.1.0.fewFiles, p.1.1), (omega (arith, p.0.pins, p.0.fewPins), omega (arith, p.1.0.pins, p.1.0.fewPins))),
+      omega (arith, k, p.0.few_recipes, p.1.0.few_recipes),
+      (omega (arith, k, m, h.1, f.1, p.0.few_recipes, p.1.0.few_recipes, p.0.few_files, p.1.0.few_files, p.1.1), (omega (arith, p.0.pins, p.0.few_pins), omega (arith, p.1.0.pins, p.1.0.few_pins))),
     )
 
 same_length : tie.Need-same-length
@@ -42,8 +42,8 @@ returns c =
     let r = c.before.before.note-recipes.ensures in
     let m = c.before.before.before.before.before.before.before.before.larger.ensures in
     let k = c.before.before.before.larger2.ensures in (
-      noted-as (differences-are (limitsOf _ _ _ _) a.h a.new (roomOf a.sizes.now a.sides.now a.marks.now a.bounds.now a.pins.now) (roomOf a.new-sizes.now a.new-sides.now a.new-marks.now a.new-bounds.now a.new-pins.now) p.0 p.1.0) (noted-then (noted-then h.0 (rw m at f.0)) (rw k at r.0)),
-      omega (arith, k, m, h.1, f.1, r.1, p.0.fewRecipes, p.1.0.fewRecipes, p.0.fewFiles, p.1.0.fewFiles),
+      noted-as (differences-are (limits_of _ _ _ _) a.h a.new (room_of a.sizes.now a.sides.now a.marks.now a.bounds.now a.pins.now) (room_of a.new-sizes.now a.new-sides.now a.new-marks.now a.new-bounds.now a.new-pins.now) p.0 p.1.0) (noted-then (noted-then h.0 (rw m at f.0)) (rw k at r.0)),
+      omega (arith, k, m, h.1, f.1, r.1, p.0.few_recipes, p.1.0.few_recipes, p.0.few_files, p.1.0.few_files),
     )
 
 pub note-jobs-spec : {M : Type 1} → statement M

@@ -1,6 +1,6 @@
 -- `noting::note_header` meets its contract: six steps, one after another. Assumes nothing.
 use native.Mathlib.Omega.{arith}
-use Rattle.rules.specs.Compare.{headDifferences}
+use Rattle.rules.specs.Compare.{head_differences}
 use Rattle.comparer.proofs.Noted.{noted-then}
 use borrow.Author.Rules.{rules}
 use Rattle.comparer.proofs.noting.note_header.Statement.{statement}
@@ -28,7 +28,7 @@ same_length : tie.Need-same-length
 same_length c = omega (arith, c.before.before.before.before.before.before.before.before.before.before)
 
 returns : tie.Need-returns
-unfolding headDifferences
+unfolding head_differences
 returns c =
     let six = c.before.before in
     let five = six.before.before.before.before in

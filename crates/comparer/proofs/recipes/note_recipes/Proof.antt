@@ -3,8 +3,8 @@ use Prim.Native.Nat.{◌+◌, ◌-◌, ◌≤◌}
 use native.Mathlib.Omega.{arith}
 use lib.ListN.{length}
 use Rattle.rules.specs.Lists.{in_turn}
-use Rattle.rules.specs.Compare.{recipeDifferences}
-use Rattle.job.specs.Parts.{ofRecipes}
+use Rattle.rules.specs.Compare.{recipe_differences}
+use Rattle.job.specs.Parts.{of_recipes}
 use Rattle.comparer.specs.Finding.{Noted}
 use Rattle.comparer.proofs.Noted.{noted-no-turn, noted-turn}
 use borrow.Author.Rules.{rules}
@@ -14,7 +14,7 @@ use Rattle.comparer.proofs.recipes.note_recipes.Tie as tie
 abbrev invariant-loop : tie.invariant-loop
 invariant-loop numbers₀ count n bounds pins new-bounds new-pins next₀ j₀ numbers next j =
     (j ≤ n) × (next ≤ count + j) × (length numbers ≡ length numbers₀)
-    × Noted count numbers₀ (in_turn (recipeDifferences (ofRecipes bounds pins) (ofRecipes new-bounds new-pins)) j) next numbers
+    × Noted count numbers₀ (in_turn (recipe_differences (of_recipes bounds pins) (of_recipes new-bounds new-pins)) j) next numbers
 
 abbrev decreases-loop : tie.decreases-loop
 decreases-loop numbers₀ count n bounds pins new-bounds new-pins next₀ j₀ numbers next j = n - j

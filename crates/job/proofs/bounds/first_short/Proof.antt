@@ -4,14 +4,14 @@ use native.Mathlib.Omega.{arith}
 use native.Mathlib.Numerals.{add-one}
 use borrow.Author.Tests.{lt-ltb, le-ltb}
 use Rattle.rules.specs.Check.{short}
-use Rattle.job.specs.Parts.{ofRecipes}
+use Rattle.job.specs.Parts.{of_recipes}
 use Rattle.rules.proofs.Searches.{Passed, passed_none, passed-more, passed-hit, passed-end}
 use borrow.Author.Rules.{rules}
 use Rattle.job.proofs.bounds.first_short.Statement.{statement}
 use Rattle.job.proofs.bounds.first_short.Tie as tie
 
 abbrev invariant-loop : tie.invariant-loop
-invariant-loop bounds n j₀ j = Passed (short (ofRecipes bounds [])) n j
+invariant-loop bounds n j₀ j = Passed (short (of_recipes bounds [])) n j
 
 abbrev decreases-loop : tie.decreases-loop
 decreases-loop bounds n j₀ j = n - j

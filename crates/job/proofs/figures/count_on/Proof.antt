@@ -3,14 +3,14 @@ use Prim.Native.Nat.{ℕ, ◌-◌}
 use lib.ListN.{length, get_or}
 use lib.Dec.{eqb}
 use Rattle.rules.specs.Lists.{bit}
-use Rattle.rules.specs.Split.{onSide, countOn}
+use Rattle.rules.specs.Split.{on_side, count_on}
 use Rattle.rules.proofs.Count.{Summed, summed-none, summed-bit, summed-entries}
 use borrow.Author.Rules.{rules}
 use Rattle.job.proofs.figures.count_on.Statement.{statement}
 use Rattle.job.proofs.figures.count_on.Tie as tie
 
 abbrev invariant-loop : tie.invariant-loop
-invariant-loop list table u n₀ k₀ n k = Summed (λ i. bit (onSide table u (get_or list i 0))) 1 (length list) k n
+invariant-loop list table u n₀ k₀ n k = Summed (λ i. bit (on_side table u (get_or list i 0))) 1 (length list) k n
 
 abbrev decreases-loop : tie.decreases-loop
 decreases-loop list table u n₀ k₀ n k = length list - k
@@ -46,12 +46,12 @@ loop-again : tie.Need-loop-preserved invariant-loop decreases-loop
 loop-again c =
     let l = c.before.before.before.before.before in
     let a = l.before.before.before.args in
-    summed-bit (λ i. onSide a.table.now a.u (get_or a.list.now i 0)) l.loop.invariant c.before.before.before.before.loop-test.true
+    summed-bit (λ i. on_side a.table.now a.u (get_or a.list.now i 0)) l.loop.invariant c.before.before.before.before.loop-test.true
     (c.bit.ensures.0
     ∙ ap (λ (x : ℕ). bit (eqb x a.u)) (c.before.entry_at.ensures ∙ ap (λ (i : ℕ). get_or a.table.now i 0) c.before.before.wide.ensures))
 
 returns : tie.Need-returns invariant-loop decreases-loop
-unfolding countOn
+unfolding count_on
 returns c = summed-entries _ _ c.before.loop.invariant c.loop-test.false
 
 pub count-on-spec : {M : Type 1} → statement M

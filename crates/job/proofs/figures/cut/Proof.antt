@@ -4,16 +4,16 @@ use mathlib.Core.Bool.{Bool}
 use mathlib.Core.List.{List, map}
 use native.Mathlib.Omega.{arith}
 use Rattle.rules.specs.Lists.{bit, count, up_to}
-use Rattle.rules.specs.Job.{view_of, views, readIn, recipes}
-use Rattle.rules.specs.Split.{isCut, cut}
+use Rattle.rules.specs.Job.{view_of, views, read_in, recipes}
+use Rattle.rules.specs.Split.{is_cut, cut}
 use Rattle.rules.proofs.Count.{total-map, count-mapped, Summed, summed-none, summed-bit, summed-end}
-use Rattle.job.specs.Parts.{ofMarks}
+use Rattle.job.specs.Parts.{of_marks}
 use borrow.Author.Rules.{rules}
 use Rattle.job.proofs.figures.cut.Statement.{statement}
 use Rattle.job.proofs.figures.cut.Tie as tie
 
 abbrev invariant-loop : tie.invariant-loop
-invariant-loop sides marks bounds pins n x₀ j₀ x j = Summed (λ k. bit (isCut sides (readIn (ofMarks marks) (view_of bounds pins k)))) 1 n j x
+invariant-loop sides marks bounds pins n x₀ j₀ x j = Summed (λ k. bit (is_cut sides (read_in (of_marks marks) (view_of bounds pins k)))) 1 n j x
 
 abbrev decreases-loop : tie.decreases-loop
 decreases-loop sides marks bounds pins n x₀ j₀ x j = n - j
@@ -46,21 +46,21 @@ loop-again : tie.Need-loop-preserved invariant-loop decreases-loop
 loop-again c =
     let l = c.before.before.before.before in
     let a = l.before.before.before.before.before.before.args in
-    let seen : List ℕ → Bool = λ r. isCut a.sides.now (readIn (ofMarks a.marks.now) r) in
+    let seen : List ℕ → Bool = λ r. is_cut a.sides.now (read_in (of_marks a.marks.now) r) in
     summed-bit (λ k. seen (view_of a.bounds.now a.pins.now k)) l.loop.invariant (omega arith)
     (c.bit.ensures.0 ∙ ap bit (c.before.is_cut.ensures ∙ ap seen c.before.before.view.ensures))
 
 returns : tie.Need-returns invariant-loop decreases-loop
-unfolding cut recipes views readIn count
+unfolding cut recipes views read_in count
 returns c =
     let n = c.before.before in
     let a = n.before.before.before.before.before.args in
-    let read = readIn (ofMarks a.marks.now) in
+    let read = read_in (of_marks a.marks.now) in
     let view = view_of a.bounds.now a.pins.now in
     rw (← n.recipe-count.ensures)
     (summed-end c.before.loop.invariant (omega arith)
-    ∙ count-mapped (λ r. isCut a.sides.now (read r)) view n.recipe-count.result
-    ∙ sym (total-map (λ r. bit (isCut a.sides.now r)) read (map view (up_to n.recipe-count.result))))
+    ∙ count-mapped (λ r. is_cut a.sides.now (read r)) view n.recipe-count.result
+    ∙ sym (total-map (λ r. bit (is_cut a.sides.now r)) read (map view (up_to n.recipe-count.result))))
 
 pub cut_spec : {M : Type 1} → statement M
 cut_spec =

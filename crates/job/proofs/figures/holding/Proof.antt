@@ -6,16 +6,16 @@ use native.Mathlib.Omega.{arith}
 use lib.Dec.{ltb}
 use Rattle.rules.specs.Lists.{bit, count}
 use Rattle.rules.specs.Job.{view_of, views}
-use Rattle.rules.specs.Split.{countOn}
+use Rattle.rules.specs.Split.{count_on}
 use Rattle.rules.proofs.Count.{count-mapped, Summed, summed-none, summed-bit, summed-end}
 use Rattle.rules.proofs.Readable.{unread-recipes}
-use Rattle.job.specs.Parts.{ofMarked}
+use Rattle.job.specs.Parts.{of_marked}
 use borrow.Author.Rules.{rules}
 use Rattle.job.proofs.figures.holding.Statement.{statement}
 use Rattle.job.proofs.figures.holding.Tie as tie
 
 abbrev invariant-loop : tie.invariant-loop
-invariant-loop unread marks bounds pins n x₀ j₀ x j = Summed (λ k. bit (ltb 0 (countOn marks 2 (view_of bounds pins k)))) 1 n j x
+invariant-loop unread marks bounds pins n x₀ j₀ x j = Summed (λ k. bit (ltb 0 (count_on marks 2 (view_of bounds pins k)))) 1 n j x
 
 abbrev decreases-loop : tie.decreases-loop
 decreases-loop unread marks bounds pins n x₀ j₀ x j = n - j
@@ -51,7 +51,7 @@ loop-again : tie.Need-loop-preserved invariant-loop decreases-loop
 loop-again c =
     let l = c.before.before.before.before in
     let a = l.before.before.before.before.before.before.args in
-    let holds : List ℕ → Bool = λ r. ltb 0 (countOn a.marks.now 2 r) in
+    let holds : List ℕ → Bool = λ r. ltb 0 (count_on a.marks.now 2 r) in
     summed-bit (λ k. holds (view_of a.bounds.now a.pins.now k)) l.loop.invariant (omega arith)
     (c.bit.ensures.0 ∙ ap (λ (n : ℕ). bit (ltb 0 n)) c.before.count-on.ensures ∙ ap (λ (r : List ℕ). bit (holds r)) c.before.before.view.ensures)
 
@@ -60,9 +60,9 @@ unfolding views count
 returns-2 c =
     let n = c.before.before in
     let a = n.before.before.before.before.before.args in
-    rw (unread-recipes (ofMarked a.marks.now a.bounds.now a.pins.now), ← n.recipe-count.ensures)
+    rw (unread-recipes (of_marked a.marks.now a.bounds.now a.pins.now), ← n.recipe-count.ensures)
     (summed-end c.before.loop.invariant (omega arith)
-    ∙ count-mapped (λ r. ltb 0 (countOn a.marks.now 2 r)) (view_of a.bounds.now a.pins.now) n.recipe-count.result)
+    ∙ count-mapped (λ r. ltb 0 (count_on a.marks.now 2 r)) (view_of a.bounds.now a.pins.now) n.recipe-count.result)
 
 pub holding-spec : {M : Type 1} → statement M
 holding-spec =

@@ -1,14 +1,14 @@
 use Prim.Native.Nat.{◌-◌}
 use native.Mathlib.Omega.{arith}
 use lib.ListN.{length}
-use Rattle.job.specs.Parts.{ofFiles}
+use Rattle.job.specs.Parts.{of_files}
 use Rattle.job.proofs.AddingUp.{Walked, walked_none, walked_more, walked_end, within_more}
 use borrow.Author.Rules.{rules}
 use Rattle.job.proofs.figures.totals_of.Statement.{statement}
 use Rattle.job.proofs.figures.totals_of.Tie as tie
 
 abbrev invariant-loop : tie.invariant-loop
-invariant-loop sizes sides marks t₀ f₀ t f = Walked (ofFiles sizes sides marks) (length sizes) f t
+invariant-loop sizes sides marks t₀ f₀ t f = Walked (of_files sizes sides marks) (length sizes) f t
 
 abbrev decreases-loop : tie.decreases-loop
 decreases-loop sizes sides marks t₀ f₀ t f = length sizes - f

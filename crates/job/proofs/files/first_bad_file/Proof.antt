@@ -2,15 +2,15 @@ use mathlib.Core.Path.{sym, ◌∙◌}
 use Prim.Native.Nat.{◌-◌}
 use native.Mathlib.Omega.{arith}
 use lib.ListN.{length}
-use Rattle.rules.specs.Check.{badFile}
-use Rattle.job.specs.Parts.{ofFiles}
+use Rattle.rules.specs.Check.{bad_file}
+use Rattle.job.specs.Parts.{of_files}
 use Rattle.rules.proofs.Searches.{Passed, passed_none, passed-more, passed-hit, passed-end}
 use borrow.Author.Rules.{rules}
 use Rattle.job.proofs.files.first_bad_file.Statement.{statement}
 use Rattle.job.proofs.files.first_bad_file.Tie as tie
 
 abbrev invariant-loop : tie.invariant-loop
-invariant-loop sizes sides marks f₀ f = Passed (badFile (ofFiles sizes sides marks)) (length sizes) f
+invariant-loop sizes sides marks f₀ f = Passed (bad_file (of_files sizes sides marks)) (length sizes) f
 
 abbrev decreases-loop : tie.decreases-loop
 decreases-loop sizes sides marks f₀ f = length sizes - f

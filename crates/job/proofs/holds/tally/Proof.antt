@@ -4,9 +4,9 @@ use native.Mathlib.Omega.{arith}
 use lib.Dec.{eqb}
 use lib.ListN.{length, get_or}
 use borrow.Author.Rules.{rules}
-use Rattle.rules.specs.Split.{onSide}
+use Rattle.rules.specs.Split.{on_side}
 use Rattle.job.specs.declared.holds.Held.{Held}
-use Rattle.job.specs.Holds.{withPin}
+use Rattle.job.specs.Holds.{with_pin}
 use Rattle.job.proofs.Walking.{Counted, counted_none, counted-more, counted-all}
 use Rattle.job.proofs.holds.tally.Statement.{statement}
 use Rattle.job.proofs.holds.tally.Tie as tie
@@ -56,11 +56,11 @@ loop-less c = search rules
 -- the side and the mark are those of the file at k
 pinned : (c : Read) (u : ℕ) (h : Held) → let a = (head c).before.before.before.before.args in
     let f = get_or a.recipe.now (head c).loop.k 0 in
-    withPin h c.entry-at2.result (eqb c.before.entry_at.result u) ≡ withPin h (get_or a.marks.now f 0) (onSide a.sides.now u f)
+    with_pin h c.entry-at2.result (eqb c.before.entry_at.result u) ≡ with_pin h (get_or a.marks.now f 0) (on_side a.sides.now u f)
 pinned c u h =
     let a = (head c).before.before.before.before.args in
-    ap₂ (λ (m s : ℕ). withPin h m (eqb s u)) c.entry-at2.ensures c.before.entry_at.ensures
-    ∙ ap (λ (f : ℕ). withPin h (get_or a.marks.now f 0) (onSide a.sides.now u f)) c.before.before.wide.ensures
+    ap₂ (λ (m s : ℕ). with_pin h m (eqb s u)) c.entry-at2.ensures c.before.entry_at.ensures
+    ∙ ap (λ (f : ℕ). with_pin h (get_or a.marks.now f 0) (on_side a.sides.now u f)) c.before.before.wide.ensures
 
 loop-again : tie.Need-loop-preserved invariant-loop decreases-loop
 loop-again c =

@@ -2,14 +2,14 @@ use mathlib.Core.Path.{sym}
 use Prim.Native.Nat.{◌-◌}
 use native.Mathlib.Omega.{arith}
 use Rattle.rules.proofs.SoundJob.{bounds-pass}
-use Rattle.job.specs.Parts.{ofPins}
+use Rattle.job.specs.Parts.{of_pins}
 use Rattle.job.proofs.OwnRecipe.{PinsPassed, pins-none, pins-part, pins-hit, pins-more, pins-end}
 use borrow.Author.Rules.{rules}
 use Rattle.job.proofs.pins.first_bad_pin.Statement.{statement}
 use Rattle.job.proofs.pins.first_bad_pin.Tie as tie
 
 abbrev invariant-loop : tie.invariant-loop
-invariant-loop sizes bounds pins n held₀ j₀ held j = PinsPassed (ofPins sizes bounds pins) held₀ held j
+invariant-loop sizes bounds pins n held₀ j₀ held j = PinsPassed (of_pins sizes bounds pins) held₀ held j
 
 abbrev decreases-loop : tie.decreases-loop
 decreases-loop sizes bounds pins n held₀ j₀ held j = n - j

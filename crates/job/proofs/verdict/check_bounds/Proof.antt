@@ -1,4 +1,4 @@
-use Rattle.rules.specs.Check.{checkBounds}
+use Rattle.rules.specs.Check.{check_bounds}
 use Rattle.rules.proofs.Verdicts.{chain-stop, chain-go}
 use borrow.Author.Rules.{rules}
 use Rattle.job.proofs.verdict.check_bounds.Statement.{statement}
@@ -14,7 +14,7 @@ refuse-if-requires : tie.Need-refuse-if-requires
 refuse-if-requires c κs = search rules
 
 returns : tie.Need-returns
-unfolding checkBounds
+unfolding check_bounds
 returns c = chain-stop _ c.before.before.refuse-if.ensures c.if1.true
 
 first-short-requires : tie.Need-first-short-requires
@@ -24,7 +24,7 @@ refuse-if-requires-2 : tie.Need-refuse-if-requires-2
 refuse-if-requires-2 c κs = search rules
 
 returns-2 : tie.Need-returns-2
-unfolding checkBounds
+unfolding check_bounds
 returns-2 c =
     let first = c.before.before.before.before.before.before in
     let short = c.before.before in
@@ -44,7 +44,7 @@ refuse-if-requires-3 : tie.Need-refuse-if-requires-3
 refuse-if-requires-3 c κs = search rules
 
 returns-3 : tie.Need-returns-3
-unfolding checkBounds
+unfolding check_bounds
 returns-3 c =
     let first = c.before.before.before.before.before.before.before.before.before in
     let short = c.before.before.before.before.before in

@@ -1,5 +1,5 @@
 use native.Mathlib.Omega.{arith}
-use Rattle.rules.specs.Check.{checkBounds, badPin, checkPins, checkFiles, checkContents}
+use Rattle.rules.specs.Check.{check_bounds, bad_pin, check_pins, check_files, check_contents}
 use Rattle.rules.proofs.Verdicts.{chain-stop, chain-go, zero_of}
 use borrow.Author.Rules.{rules}
 use Rattle.job.proofs.verdict.check_contents.Statement.{statement}
@@ -9,14 +9,14 @@ check-bounds-requires : tie.Need-check-bounds-requires
 check-bounds-requires c κs = search rules
 
 returns : tie.Need-returns
-unfolding checkContents checkBounds
+unfolding check_contents check_bounds
 returns c = chain-stop _ c.before.before.check-bounds.ensures c.if1.true
 
 check-pins-requires : tie.Need-check-pins-requires
 check-pins-requires c κs = (omega arith, zero_of c.before.before.check-bounds.ensures c.if1.false)
 
 returns-2 : tie.Need-returns-2
-unfolding checkContents checkBounds badPin checkPins
+unfolding check_contents check_bounds bad_pin check_pins
 returns-2 c =
     let v4 = c.before.before.before.before.before in
     chain-go v4.check-bounds.ensures c.before.before.before.if1.false (chain-stop _ c.before.before.check-pins.ensures c.if2.true)
@@ -25,7 +25,7 @@ check-files-requires : tie.Need-check-files-requires
 check-files-requires c κs = search rules
 
 returns-3 : tie.Need-returns-3
-unfolding checkContents checkBounds badPin checkPins checkFiles
+unfolding check_contents check_bounds bad_pin check_pins check_files
 returns-3 c =
     let v5 = c.before.before.before in
     let v4 = v5.before.before.before in

@@ -1,5 +1,5 @@
 use mathlib.Core.Path.{ap₂, ◌∙◌}
-use Rattle.rules.specs.Check.{◌orElse◌, checkCounts}
+use Rattle.rules.specs.Check.{◌or_else◌, check_counts}
 use Rattle.job.proofs.verdict.check_counts.Statement.{statement}
 use Rattle.job.proofs.verdict.check_counts.Tie as tie
 
@@ -13,8 +13,8 @@ or-else-requires : tie.Need-or-else-requires
 or-else-requires c κs = tt
 
 returns : tie.Need-returns
-unfolding checkCounts
-returns c = c.or_else.ensures ∙ ap₂ ◌orElse◌ c.before.before.refuse-if.ensures c.before.refuse-if2.ensures
+unfolding check_counts
+returns c = c.or_else.ensures ∙ ap₂ ◌or_else◌ c.before.before.refuse-if.ensures c.before.refuse-if2.ensures
 
 pub check-counts-spec : {M : Type 1} → statement M
 check-counts-spec = tie.close (tie.spec refuse-if-requires refuse-if-requires-2 or-else-requires returns)

@@ -1,4 +1,4 @@
-use Rattle.rules.specs.Check.{checkFiles}
+use Rattle.rules.specs.Check.{check_files}
 use borrow.Author.Rules.{rules}
 use Rattle.job.proofs.verdict.check_files.Statement.{statement}
 use Rattle.job.proofs.verdict.check_files.Tie as tie
@@ -10,7 +10,7 @@ refuse-if-requires : tie.Need-refuse-if-requires
 refuse-if-requires c κs = search rules
 
 returns : tie.Need-returns
-unfolding checkFiles
+unfolding check_files
 returns c = rw (← c.before.first-bad-file.ensures) c.refuse-if.ensures
 
 pub check-files-spec : {M : Type 1} → statement M

@@ -1,5 +1,5 @@
 use mathlib.Core.Path.{ap₂, ◌∙◌}
-use Rattle.rules.specs.Check.{◌orElse◌, checkCounts, checkLists, checkLengths}
+use Rattle.rules.specs.Check.{◌or_else◌, check_counts, check_lists, check_lengths}
 use Rattle.job.proofs.verdict.check_lengths.Statement.{statement}
 use Rattle.job.proofs.verdict.check_lengths.Tie as tie
 
@@ -16,10 +16,10 @@ or-else-requires : tie.Need-or-else-requires
 or-else-requires c κs = tt
 
 returns : tie.Need-returns
-unfolding checkLengths checkCounts checkLists
+unfolding check_lengths check_counts check_lists
 returns c =
     let counts = c.before.before in
-    rw (← counts.before.recipe-count.ensures) (c.or_else.ensures ∙ ap₂ ◌orElse◌ counts.check-counts.ensures c.before.check-lists.ensures)
+    rw (← counts.before.recipe-count.ensures) (c.or_else.ensures ∙ ap₂ ◌or_else◌ counts.check-counts.ensures c.before.check-lists.ensures)
 
 pub check-lengths-spec : {M : Type 1} → statement M
 check-lengths-spec = tie.close (tie.spec recipe-count-requires check-counts-requires check-lists-requires or-else-requires returns)

@@ -1,4 +1,4 @@
-use Rattle.rules.specs.Check.{checkLists}
+use Rattle.rules.specs.Check.{check_lists}
 use borrow.Author.Rules.{rules}
 use Rattle.job.proofs.verdict.check_lists.Statement.{statement}
 use Rattle.job.proofs.verdict.check_lists.Tie as tie
@@ -7,7 +7,7 @@ refuse-if-requires : tie.Need-refuse-if-requires
 refuse-if-requires c κs = search rules
 
 returns : tie.Need-returns
-unfolding checkLists
+unfolding check_lists
 returns c = c.refuse-if.ensures
 
 pub check-lists-spec : {M : Type 1} → statement M

@@ -1,4 +1,4 @@
-use Rattle.rules.specs.Check.{checkPins}
+use Rattle.rules.specs.Check.{check_pins}
 use borrow.Author.Rules.{rules}
 use Rattle.job.proofs.verdict.check_pins.Statement.{statement}
 use Rattle.job.proofs.verdict.check_pins.Tie as tie
@@ -10,7 +10,7 @@ refuse-if-requires : tie.Need-refuse-if-requires
 refuse-if-requires c κs = search rules
 
 returns : tie.Need-returns
-unfolding checkPins
+unfolding check_pins
 returns c = rw (← c.before.first-bad-pin.ensures) c.refuse-if.ensures
 
 pub check-pins-spec : {M : Type 1} → statement M

@@ -1,5 +1,5 @@
 use mathlib.Core.Path.{ap, ap₂, ◌∙◌}
-use Rattle.rules.specs.Check.{refuseIf, ◌orElse◌, checkRatio}
+use Rattle.rules.specs.Check.{refuse_if, ◌or_else◌, check_ratio}
 use mathlib.Core.Bool.{Bool}
 use borrow.Author.Rules.{rules}
 use Rattle.job.proofs.verdict.check_ratio.Statement.{statement}
@@ -18,10 +18,10 @@ or-else-requires : tie.Need-or-else-requires
 or-else-requires c κs = tt
 
 returns : tie.Need-returns
-unfolding checkRatio
+unfolding check_ratio
 returns c =
     let k = c.before in
-    c.or_else.ensures ∙ ap₂ ◌orElse◌ k.before.before.refuse-if.ensures (k.refuse-if2.ensures ∙ ap (λ (b : Bool). refuseIf b 7 0) k.before.bad-k.ensures)
+    c.or_else.ensures ∙ ap₂ ◌or_else◌ k.before.before.refuse-if.ensures (k.refuse-if2.ensures ∙ ap (λ (b : Bool). refuse_if b 7 0) k.before.bad-k.ensures)
 
 pub check-ratio-spec : {M : Type 1} → statement M
 check-ratio-spec =

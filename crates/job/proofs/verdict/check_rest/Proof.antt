@@ -1,7 +1,7 @@
 use mathlib.Core.Path.{sym, ap, ap₂, ◌∙◌}
 use mathlib.Core.Bool.{Bool}
-use Rattle.rules.specs.Check.{refuseIf, ◌orElse◌, checkRatio, checkFree, checkWindow, checkGoal}
-use Rattle.job.specs.Totals.{startFor}
+use Rattle.rules.specs.Check.{refuse_if, ◌or_else◌, check_ratio, check_free, check_window, check_goal}
+use Rattle.job.specs.Totals.{start_for}
 use Rattle.rules.specs.declared.Verdict.{Verdict}
 use Rattle.rules.proofs.Verdicts.{or-three}
 use Rattle.rules.proofs.Refusals.{goal-chain}
@@ -41,11 +41,11 @@ returns c =
     let window = start.before in
     let free = window.before.before in
     let ratio = free.before.before in
-    c.or-else3.ensures ∙ ap₂ ◌orElse◌ (ratio.check-ratio.ensures ∙ ratio-is has _)
-    (c.before.or-else2.ensures ∙ ap₂ ◌orElse◌ (free.refuse-if.ensures ∙ free-is has)
-    (c.before.before.or_else.ensures ∙ ap₂ ◌orElse◌ (window.refuse-if2.ensures ∙ ap (λ (b : Bool). refuseIf b 10 0) window.before.may-empty.ensures ∙ empties-is has) (start.check-start.ensures job has)))
-    ∙ sym (or-three (checkRatio _ job) (checkFree job) (checkWindow job) (startFor ratio.before.args.balancing job))
-    ∙ ap (λ (v : Verdict). v orElse startFor ratio.before.args.balancing job) (sym (goal-chain _ job))
+    c.or-else3.ensures ∙ ap₂ ◌or_else◌ (ratio.check-ratio.ensures ∙ ratio-is has _)
+    (c.before.or-else2.ensures ∙ ap₂ ◌or_else◌ (free.refuse-if.ensures ∙ free-is has)
+    (c.before.before.or_else.ensures ∙ ap₂ ◌or_else◌ (window.refuse-if2.ensures ∙ ap (λ (b : Bool). refuse_if b 10 0) window.before.may-empty.ensures ∙ empties-is has) (start.check-start.ensures job has)))
+    ∙ sym (or-three (check_ratio _ job) (check_free job) (check_window job) (start_for ratio.before.args.balancing job))
+    ∙ ap (λ (v : Verdict). v or_else start_for ratio.before.args.balancing job) (sym (goal-chain _ job))
 
 pub check-rest-spec : {M : Type 1} → statement M
 check-rest-spec =

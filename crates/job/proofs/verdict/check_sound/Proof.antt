@@ -1,5 +1,5 @@
 use native.Mathlib.Omega.{arith}
-use Rattle.rules.specs.Check.{checkLengths, checkContents, checkSound}
+use Rattle.rules.specs.Check.{check_lengths, check_contents, check_sound}
 use Rattle.rules.proofs.Verdicts.{chain-stop, chain-go, zero_of}
 use Rattle.rules.proofs.SoundJob.{lengths-pass}
 use Rattle.job.proofs.verdict.check_sound.Statement.{statement}
@@ -9,7 +9,7 @@ check-lengths-requires : tie.Need-check-lengths-requires
 check-lengths-requires c κs = tt
 
 returns : tie.Need-returns
-unfolding checkSound checkLengths
+unfolding check_sound check_lengths
 returns c = chain-stop _ c.before.before.check-lengths.ensures c.if1.true
 
 check-contents-requires : tie.Need-check-contents-requires
@@ -18,7 +18,7 @@ check-contents-requires c κs =
     ((omega (arith, long.0.1), long.1.0), (long.2, long.3))
 
 returns-2 : tie.Need-returns-2
-unfolding checkSound checkLengths checkContents
+unfolding check_sound check_lengths check_contents
 returns-2 c = chain-go c.before.before.before.check-lengths.ensures c.before.if1.false c.check-contents.ensures
 
 pub check-sound-spec : {M : Type 1} → statement M

@@ -2,7 +2,7 @@ use mathlib.Core.Path.{ap, ap₂, ◌∙◌}
 use Prim.Native.Nat.{ℕ, ◌+◌, ◌-◌, ◌*◌}
 use native.Mathlib.Omega.{arith}
 use borrow.Author.Tests.{eq-eqb, ne_eqb, lt-ltb, le-ltb}
-use Rattle.rules.specs.Stored.{boundsAt, pinsAt, heldIn}
+use Rattle.rules.specs.Stored.{bounds_at, pins_at, held_in}
 use Rattle.layout.proofs.kinds.values_in.Statement.{statement}
 use Rattle.layout.proofs.kinds.values_in.Tie as tie
 
@@ -30,8 +30,8 @@ mul-result c = omega arith
 returns-2 : tie.Need-returns-2
 returns-2 c =
     let a = c.before.before.before.before.before.args in
-    simp (ne_eqb _ _ c.before.before.before.before.if1.false, lt-ltb a.b (boundsAt a.h) (omega arith))
-    (ap (λ (k : ℕ). 2 * k) (c.held_in.ensures ∙ ap (λ (x : ℕ). heldIn 126 x (a.b - 1)) c.before.wide.ensures))
+    simp (ne_eqb _ _ c.before.before.before.before.if1.false, lt-ltb a.b (bounds_at a.h) (omega arith))
+    (ap (λ (k : ℕ). 2 * k) (c.held_in.ensures ∙ ap (λ (x : ℕ). held_in 126 x (a.b - 1)) c.before.wide.ensures))
 
 pins-at-requires : tie.Need-pins-at-requires
 pins-at-requires c κs = tt
@@ -48,8 +48,8 @@ held-in-requires-2 c κs = tt
 returns-3 : tie.Need-returns-3
 returns-3 c =
     let a = c.before.before.before.before.before.before.before.args in
-    simp (ne_eqb _ _ c.before.before.before.before.before.before.if1.false, le-ltb a.b (boundsAt a.h) (omega arith), lt-ltb a.b (pinsAt a.h) (omega arith))
-    (c.held-in2.ensures ∙ ap₂ (λ (x k : ℕ). heldIn 253 (x + 1) (a.b - k)) c.before.wide2.ensures c.before.before.before.before.before.bounds-at.ensures)
+    simp (ne_eqb _ _ c.before.before.before.before.before.before.if1.false, le-ltb a.b (bounds_at a.h) (omega arith), lt-ltb a.b (pins_at a.h) (omega arith))
+    (c.held-in2.ensures ∙ ap₂ (λ (x k : ℕ). held_in 253 (x + 1) (a.b - k)) c.before.wide2.ensures c.before.before.before.before.before.bounds-at.ensures)
 
 wide-requires-3 : tie.Need-wide-requires-3
 wide-requires-3 c κs = tt
@@ -60,8 +60,8 @@ held-in-requires-3 c κs = tt
 returns-4 : tie.Need-returns-4
 returns-4 c =
     let a = c.before.before.before.before.before.before.before.args in
-    simp (ne_eqb _ _ c.before.before.before.before.before.before.if1.false, le-ltb a.b (boundsAt a.h) (omega arith), le-ltb a.b (pinsAt a.h) (omega arith))
-    (c.held-in3.ensures ∙ ap₂ (λ (x k : ℕ). heldIn 253 x (a.b - k)) c.before.wide3.ensures c.before.before.before.pins-at.ensures)
+    simp (ne_eqb _ _ c.before.before.before.before.before.before.if1.false, le-ltb a.b (bounds_at a.h) (omega arith), le-ltb a.b (pins_at a.h) (omega arith))
+    (c.held-in3.ensures ∙ ap₂ (λ (x k : ℕ). held_in 253 x (a.b - k)) c.before.wide3.ensures c.before.before.before.pins-at.ensures)
 
 pub values-in-spec : {M : Type 1} → statement M
 values-in-spec =

@@ -7,7 +7,7 @@ use lib.IntN.{pos}
 use mir.Syntax.{w32}
 use mir.Facts.{to_z-of_z}
 use borrow.Author.Rules.{rules, sfits_of}
-use Rattle.tables.specs.Zones.{countsAt}
+use Rattle.tables.specs.Zones.{counts_at}
 use Rattle.levels.specs.Leading.{NextRival}
 use Rattle.levels.proofs.FilesPassed.{FilesPassed, files-none, files-next, files-all, all-lengths}
 use Rattle.levels.proofs.edition3.first_of.Statement.{statement}
@@ -29,7 +29,7 @@ entry c = c.before.before.before
 -- the lists fit
 fits : (c : Begun) → let a = (entry c).args in let x = a.extent in
     (length a.sizes.now ≡ x.files) × (length a.sides.now ≡ x.files) × (length a.gains.now ≡ x.files) × (x.files ≤ length a.scratch.now)
-    × (countsAt x.files x.pins + 4 * x.recipes ≤ length a.scratch.now)
+    × (counts_at x.files x.pins + 4 * x.recipes ≤ length a.scratch.now)
 fits c = all-lengths _ _ _ _ _ _ _ (entry c).requires
 
 loop-holds : tie.Need-loop-init invariant-loop decreases-loop

@@ -15,10 +15,10 @@ use mir.Facts.{to_z-of_z}
 use borrow.Author.Rules.{rules, sfits_of}
 use borrow.Author.Tests.{le-leb, lt-leb}
 use Rattle.rules.proofs.Tests.{and_both}
-use Rattle.choice.specs.Choosing.{distIn}
+use Rattle.choice.specs.Choosing.{dist_in}
 use Rattle.choice.proofs.Standing.{least-low}
 use Rattle.levels.specs.declared.edition3.Rival.{Rival}
-use Rattle.levels.specs.Leading.{isRival, Passed, NextRival}
+use Rattle.levels.specs.Leading.{is_rival, Passed, NextRival}
 use Rattle.levels.proofs.FilesPassed.{passed_none, passed-more}
 use Rattle.levels.proofs.edition3.next_rival.Statement.{statement}
 use Rattle.levels.proofs.edition3.next_rival.Tie as tie
@@ -81,13 +81,13 @@ reaches c =
     eqb (get_or a.scratch.now f 0) 0 && le_z (to_z w32 (of_z w32 a.least)) (to_z w32 (of_z w32 (get_or a.gains.now f (pos 0))))
 
 abbrev distance : Looked → ℕ
-distance c = let a = (entry (loop c)).args in distIn a.window a.size a.sizes.now a.sides.now (loop c).loop.f
+distance c = let a = (entry (loop c)).args in dist_in a.window a.size a.sizes.now a.sides.now (loop c).loop.f
 
 abbrev lawful : Looked → Bool
 lawful c = leb (distance c) (entry (loop c)).args.window.span
 
 told : (c : Looked) → let a = (entry (loop c)).args in
-    isRival a.window a.size (to_z w32 (of_z w32 a.least)) a.sizes.now a.sides.now a.gains.now (take (length a.sizes.now) a.scratch.now) (loop c).loop.f
+    is_rival a.window a.size (to_z w32 (of_z w32 a.least)) a.sizes.now a.sides.now a.gains.now (take (length a.sizes.now) a.scratch.now) (loop c).loop.f
     ≡ (reaches c && lawful c)
 told c =
     let a = (entry (loop c)).args in

@@ -6,14 +6,14 @@ use native.Mathlib.Omega.{arith}
 use lib.ListN.{length}
 use mir.Facts.{to_z-of_z}
 use borrow.Author.Rules.{rules, sfits_of}
-use Rattle.levels.specs.Numbers.{countsFrom}
+use Rattle.levels.specs.Numbers.{counts_from}
 use Rattle.levels.proofs.Walked.{Leveled, leveled-none, leveled-more, leveled-few, leveled-all}
 use Rattle.levels.proofs.vector.levels_of.Statement.{statement}
 use Rattle.levels.proofs.vector.levels_of.Tie as tie
 
 abbrev invariant-loop : tie.invariant-loop
 invariant-loop gain list own other n adds2₀ takes2₀ adds3₀ takes3₀ k₀ adds2 takes2 adds3 takes3 k =
-    Leveled (countsFrom own other n) 2 list k adds2 takes2 × Leveled (countsFrom own other n) 3 list k adds3 takes3
+    Leveled (counts_from own other n) 2 list k adds2 takes2 × Leveled (counts_from own other n) 3 list k adds3 takes3
 
 abbrev decreases-loop : tie.decreases-loop
 decreases-loop gain list own other n adds2₀ takes2₀ adds3₀ takes3₀ k₀ adds2 takes2 adds3 takes3 k = length list - k

@@ -8,7 +8,7 @@ use mir.Syntax.{w32}
 use mir.Val.{to_z, of_z}
 use mir.Facts.{to_z-of_z}
 use borrow.Author.Rules.{rules, sfits_of}
-use Rattle.tables.specs.Zones.{startsAt, countsAt, part}
+use Rattle.tables.specs.Zones.{starts_at, counts_at, part}
 use Rattle.tables.proofs.Parts.{part_length}
 use Rattle.tables.proofs.Sides.{zones-are}
 use Rattle.levels.proofs.Walked.{view-few, across, vector-is}
@@ -39,12 +39,12 @@ entry c = c.before.before.before.before.before.before
 
 -- the places of the code are those of the zones
 placed : (c : Sided) → let a = (entry c).args in let x = a.extent in let z = c.before.before.before.zones-of.result in
-    ((z.cells ≡ x.files) × (z.starts ≡ startsAt x.files x.pins) × (z.counts ≡ countsAt x.files x.pins)) × (c.before.before.wide.result ≡ x.recipes)
-    × ((c.side-at.result ≤ countsAt x.files x.pins + x.recipes) × (countsAt x.files x.pins ≤ c.side-at.result)) × (countsAt x.files x.pins + 4 * x.recipes ≤ length a.scratch.now)
+    ((z.cells ≡ x.files) × (z.starts ≡ starts_at x.files x.pins) × (z.counts ≡ counts_at x.files x.pins)) × (c.before.before.wide.result ≡ x.recipes)
+    × ((c.side-at.result ≤ counts_at x.files x.pins + x.recipes) × (counts_at x.files x.pins ≤ c.side-at.result)) × (counts_at x.files x.pins + 4 * x.recipes ≤ length a.scratch.now)
 placed c =
     let s = entry c in
     let x = s.args.extent in
-    (zones-are x.files x.pins c.before.before.before.zones-of.ensures, c.before.before.wide.ensures, (across (countsAt x.files x.pins) x.recipes (get_or s.args.sides.now s.args.f 0) c.side-at.result c.side-at.ensures).0, s.pre.2)
+    (zones-are x.files x.pins c.before.before.before.zones-of.ensures, c.before.before.wide.ensures, (across (counts_at x.files x.pins) x.recipes (get_or s.args.sides.now s.args.f 0) c.side-at.result c.side-at.ensures).0, s.pre.2)
 
 add-other : tie.Need-overflow-add-other
 add-other c = omega (arith, placed c)

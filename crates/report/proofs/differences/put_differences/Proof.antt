@@ -1,14 +1,14 @@
 use Prim.Native.Nat.{◌-◌}
 use native.Mathlib.Omega.{arith}
-use Rattle.report.specs.Bytes.{differenceBytes}
+use Rattle.report.specs.Bytes.{difference_bytes}
 use Rattle.report.proofs.Laying.{laid-length, laid_as, Lining, lining-none, lining-more, lining-end, lining-short}
-use Rattle.report.proofs.Comparisons.{recordLine, record-pieces}
+use Rattle.report.proofs.Comparisons.{record_line, record-pieces}
 use borrow.Author.Rules.{rules}
 use Rattle.report.proofs.differences.put_differences.Statement.{statement}
 use Rattle.report.proofs.differences.put_differences.Tie as tie
 
 abbrev invariant-loop : tie.invariant-loop
-invariant-loop out₀ numbers n next₀ i₀ out next i = Lining differenceBytes (recordLine numbers) n 0 out₀ i next out
+invariant-loop out₀ numbers n next₀ i₀ out next i = Lining difference_bytes (record_line numbers) n 0 out₀ i next out
 
 abbrev decreases-loop : tie.decreases-loop
 decreases-loop out₀ numbers n next₀ i₀ out next i = n - i

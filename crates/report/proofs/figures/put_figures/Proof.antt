@@ -1,7 +1,7 @@
 use mathlib.Core.Bool.{true}
 use mathlib.Core.List.{[]}
 use native.Mathlib.Omega.{arith}
-use Rattle.rules.specs.Report.{text, ofFiles}
+use Rattle.rules.specs.Report.{text, of_files}
 use Rattle.report.specs.Laying.{widest, longest}
 use Rattle.report.proofs.Lines.{figure-form, settled-length, sides-length}
 use Rattle.report.proofs.Laying.{laid_as, laid_more}
@@ -41,14 +41,14 @@ put-form-requires-2 c κs = omega (arith, c.before.before.before.before.before.b
 
 put-sides-requires : tie.Need-put-sides-requires
 unfolding widest longest
-put-sides-requires c κs = (omega (arith, c.before.before.before.before.before.before.before.before.before.before.before.before.before.before.before.before.before.before.before.before.before.before.before.before.before.before.requires.sided, c.before.before.before.before.before.before.before.before.before.before.before.before.before.before.before.before.before.before.before.before.before.before.before.before.before.before.requires.marked), record { near = omega (arith, c.before.before.before.before.before.before.before.before.before.before.before.before.before.before.before.before.before.before.before.put_first.ensures.1, c.before.before.before.before.before.before.before.before.before.before.before.before.before.put-form.ensures.1, c.before.before.before.before.before.before.before.before.before.put-settled.ensures.ends, settled-length c.before.before.before.before.before.before.before.before.before.before.before.before.before.before.before.before.before.before.before.before.before.before.before.before.before.before.args.r.settled, c.before.before.before.put-form2.ensures.1, sides-length (ofFiles [] c.before.before.before.before.before.before.before.before.before.before.before.before.before.before.before.before.before.before.before.before.before.before.before.before.before.before.args.marks.now) c.before.before.before.before.before.before.before.before.before.before.before.before.before.before.before.before.before.before.before.before.before.before.before.before.before.before.args.sides.now, c.before.before.before.before.before.before.before.before.before.before.before.before.before.before.before.before.before.before.before.before.before.before.before.before.before.before.requires.few, c.before.before.before.before.before.before.before.before.before.before.before.before.before.before.before.before.before.before.before.before.before.before.before.before.before.before.requires.sided) })
+put-sides-requires c κs = (omega (arith, c.before.before.before.before.before.before.before.before.before.before.before.before.before.before.before.before.before.before.before.before.before.before.before.before.before.before.requires.sided, c.before.before.before.before.before.before.before.before.before.before.before.before.before.before.before.before.before.before.before.before.before.before.before.before.before.before.requires.marked), record { near = omega (arith, c.before.before.before.before.before.before.before.before.before.before.before.before.before.before.before.before.before.before.before.put_first.ensures.1, c.before.before.before.before.before.before.before.before.before.before.before.before.before.put-form.ensures.1, c.before.before.before.before.before.before.before.before.before.put-settled.ensures.ends, settled-length c.before.before.before.before.before.before.before.before.before.before.before.before.before.before.before.before.before.before.before.before.before.before.before.before.before.before.args.r.settled, c.before.before.before.put-form2.ensures.1, sides-length (of_files [] c.before.before.before.before.before.before.before.before.before.before.before.before.before.before.before.before.before.before.before.before.before.before.before.before.before.before.args.marks.now) c.before.before.before.before.before.before.before.before.before.before.before.before.before.before.before.before.before.before.before.before.before.before.before.before.before.before.args.sides.now, c.before.before.before.before.before.before.before.before.before.before.before.before.before.before.before.before.before.before.before.before.before.before.before.before.before.before.requires.few, c.before.before.before.before.before.before.before.before.before.before.before.before.before.before.before.before.before.before.before.before.before.before.before.before.before.before.requires.sided) })
 
 same_length : tie.Need-same-length
 same_length c = search rules
 
 returns : tie.Need-returns
 unfolding text widest longest
-returns c = (laid_as (figure-form c.before.before.before.before.before.before.before.before.before.before.before.before.before.before.before.before.before.before.before.before.before.before.before.before.before.before.before.before.before.args.sizes.now c.before.before.before.before.before.before.before.before.before.before.before.before.before.before.before.before.before.before.before.before.before.before.before.before.before.before.before.before.before.args.marks.now c.before.before.before.before.before.before.before.before.before.before.before.before.before.before.before.before.before.before.before.before.before.before.before.before.before.before.before.before.before.args.r c.before.before.before.before.before.before.before.before.before.before.before.before.before.before.before.before.before.before.before.before.before.before.before.before.before.before.before.before.before.args.sides.now _ c.before.before.before.before.before.before.before.before.before.before.before.before.before.before.before.before.before.before.before.before.before.before.before.before.size-on.ensures) (laid_more (laid_more (laid_more (laid_more c.before.before.before.before.before.before.before.before.before.before.before.before.before.before.before.before.before.before.before.before.before.before.put_first.ensures.0 c.before.before.before.before.before.before.before.before.before.before.before.before.before.before.before.before.put-form.ensures.0) c.before.before.before.before.before.before.before.before.before.before.before.before.put-settled.ensures) c.before.before.before.before.before.before.put-form2.ensures.0) c.before.before.put_sides.ensures), omega (arith, c.before.before.before.before.before.before.before.before.before.before.before.before.before.before.before.before.before.before.before.before.before.before.put_first.ensures.1, c.before.before.before.before.before.before.before.before.before.before.before.before.before.before.before.before.put-form.ensures.1, c.before.before.before.before.before.before.before.before.before.before.before.before.put-settled.ensures.ends, settled-length c.before.before.before.before.before.before.before.before.before.before.before.before.before.before.before.before.before.before.before.before.before.before.before.before.before.before.before.before.before.args.r.settled, c.before.before.before.before.before.before.put-form2.ensures.1, c.before.before.put_sides.ensures.ends, sides-length (ofFiles [] c.before.before.before.before.before.before.before.before.before.before.before.before.before.before.before.before.before.before.before.before.before.before.before.before.before.before.before.before.before.args.marks.now) c.before.before.before.before.before.before.before.before.before.before.before.before.before.before.before.before.before.before.before.before.before.before.before.before.before.before.before.before.before.args.sides.now))
+returns c = (laid_as (figure-form c.before.before.before.before.before.before.before.before.before.before.before.before.before.before.before.before.before.before.before.before.before.before.before.before.before.before.before.before.before.args.sizes.now c.before.before.before.before.before.before.before.before.before.before.before.before.before.before.before.before.before.before.before.before.before.before.before.before.before.before.before.before.before.args.marks.now c.before.before.before.before.before.before.before.before.before.before.before.before.before.before.before.before.before.before.before.before.before.before.before.before.before.before.before.before.before.args.r c.before.before.before.before.before.before.before.before.before.before.before.before.before.before.before.before.before.before.before.before.before.before.before.before.before.before.before.before.before.args.sides.now _ c.before.before.before.before.before.before.before.before.before.before.before.before.before.before.before.before.before.before.before.before.before.before.before.before.size-on.ensures) (laid_more (laid_more (laid_more (laid_more c.before.before.before.before.before.before.before.before.before.before.before.before.before.before.before.before.before.before.before.before.before.before.put_first.ensures.0 c.before.before.before.before.before.before.before.before.before.before.before.before.before.before.before.before.put-form.ensures.0) c.before.before.before.before.before.before.before.before.before.before.before.before.put-settled.ensures) c.before.before.before.before.before.before.put-form2.ensures.0) c.before.before.put_sides.ensures), omega (arith, c.before.before.before.before.before.before.before.before.before.before.before.before.before.before.before.before.before.before.before.before.before.before.put_first.ensures.1, c.before.before.before.before.before.before.before.before.before.before.before.before.before.before.before.before.put-form.ensures.1, c.before.before.before.before.before.before.before.before.before.before.before.before.put-settled.ensures.ends, settled-length c.before.before.before.before.before.before.before.before.before.before.before.before.before.before.before.before.before.before.before.before.before.before.before.before.before.before.before.before.before.args.r.settled, c.before.before.before.before.before.before.put-form2.ensures.1, c.before.before.put_sides.ensures.ends, sides-length (of_files [] c.before.before.before.before.before.before.before.before.before.before.before.before.before.before.before.before.before.before.before.before.before.before.before.before.before.before.before.before.before.args.marks.now) c.before.before.before.before.before.before.before.before.before.before.before.before.before.before.before.before.before.before.before.before.before.before.before.before.before.before.before.before.before.args.sides.now))
 
 pub put-figures-spec : {M : Type 1} → statement M
 put-figures-spec =

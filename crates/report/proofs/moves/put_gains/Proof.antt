@@ -3,7 +3,7 @@ use Prim.Native.Nat.{◌-◌}
 use native.Mathlib.Omega.{arith}
 use lib.ListN.{length}
 use Rattle.rules.specs.Report.{text}
-use Rattle.report.specs.Tracing.{gainsLine}
+use Rattle.report.specs.Tracing.{gains_line}
 use Rattle.report.proofs.Gains.{Gaining, gaining-none, gaining-more, gaining-end, gaining-short}
 use Rattle.report.proofs.Laying.{laid-length, laid_more}
 use borrow.Author.Rules.{rules}
@@ -50,7 +50,7 @@ same_length : tie.Need-same-length invariant-loop decreases-loop
 same_length c = laid-length c.before.before.put.ensures ∙ laid-length c.before.before.before.before.before.loop.invariant.laying.laid ∙ laid-length c.before.before.before.before.before.before.before.before.put-text.ensures
 
 returns : tie.Need-returns invariant-loop decreases-loop
-unfolding gainsLine text
+unfolding gains_line text
 returns c = (laid_more (laid_more c.before.before.before.before.before.before.before.before.put-text.ensures (gaining-end c.before.before.before.before.before.loop.invariant c.before.before.before.before.loop-test.false)) c.before.before.put.ensures, omega (arith, c.before.before.before.before.before.before.before.before.put-text.ensures.ends, gaining-short c.before.before.before.before.before.loop.invariant, c.before.before.put.ensures.ends))
 
 pub put-gains-spec : {M : Type 1} → statement M

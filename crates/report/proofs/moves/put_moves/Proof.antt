@@ -1,6 +1,6 @@
 use Prim.Native.Nat.{◌-◌}
 use native.Mathlib.Omega.{arith}
-use Rattle.report.specs.Tracing.{moveLists}
+use Rattle.report.specs.Tracing.{move_lists}
 use Rattle.report.proofs.Traces.{Moving, moving-none, moving-order, moving-more, moving-end, moving-short}
 use Rattle.report.proofs.Laying.{laid-length}
 use borrow.Author.Rules.{rules}
@@ -8,7 +8,7 @@ use Rattle.report.proofs.moves.put_moves.Statement.{statement}
 use Rattle.report.proofs.moves.put_moves.Tie as tie
 
 abbrev invariant-loop : tie.invariant-loop
-invariant-loop out₀ at n tried gained cuts ends recipes kinds next₀ first₀ i₀ out next first i = Moving (moveLists tried gained cuts ends recipes kinds) n at out₀ i first next out
+invariant-loop out₀ at n tried gained cuts ends recipes kinds next₀ first₀ i₀ out next first i = Moving (move_lists tried gained cuts ends recipes kinds) n at out₀ i first next out
 
 abbrev decreases-loop : tie.decreases-loop
 decreases-loop out₀ at n tried gained cuts ends recipes kinds next₀ first₀ i₀ out next first i = n - i

@@ -1,15 +1,15 @@
 use Prim.Native.Nat.{◌-◌}
 use native.Mathlib.Omega.{arith}
-use Rattle.report.specs.Bytes.{scanBytes}
-use Rattle.report.specs.Tracing.{scanLists}
-use Rattle.report.proofs.Traces.{scanLine, scan-pieces}
+use Rattle.report.specs.Bytes.{scan_bytes}
+use Rattle.report.specs.Tracing.{scan_lists}
+use Rattle.report.proofs.Traces.{scan_line, scan-pieces}
 use Rattle.report.proofs.Laying.{laid-length, laid_as, Lining, lining-none, lining-more, lining-end, lining-short}
 use borrow.Author.Rules.{rules}
 use Rattle.report.proofs.moves.put_scans.Statement.{statement}
 use Rattle.report.proofs.moves.put_scans.Tie as tie
 
 abbrev invariant-loop : tie.invariant-loop
-invariant-loop out₀ at recipes kinds first end a n next₀ k₀ out next k = Lining scanBytes (scanLine (scanLists recipes kinds) a) n at out₀ k next out
+invariant-loop out₀ at recipes kinds first end a n next₀ k₀ out next k = Lining scan_bytes (scan_line (scan_lists recipes kinds) a) n at out₀ k next out
 
 abbrev decreases-loop : tie.decreases-loop
 decreases-loop out₀ at recipes kinds first end a n next₀ k₀ out next k = n - k

@@ -1,18 +1,18 @@
 use Prim.Native.Nat.{◌-◌}
-use Rattle.report.specs.Tracing.{endsOf}
+use Rattle.report.specs.Tracing.{ends_of}
 use Rattle.report.proofs.Traces.{Ending, ending-short, ending-none, ending-more, ending-hit, ending-end}
 use borrow.Author.Rules.{rules}
 use Rattle.report.proofs.pass.holds_scans.Statement.{statement}
 use Rattle.report.proofs.pass.holds_scans.Tie as tie
 
 abbrev invariant-loop : tie.invariant-loop
-invariant-loop n ends recipes kinds m first₀ i₀ first i = Ending (endsOf ends recipes kinds) m i first
+invariant-loop n ends recipes kinds m first₀ i₀ first i = Ending (ends_of ends recipes kinds) m i first
 
 abbrev decreases-loop : tie.decreases-loop
 decreases-loop n ends recipes kinds m first₀ i₀ first i = m - i
 
 returns : tie.Need-returns invariant-loop decreases-loop
-returns c = ending-short (endsOf c.before.before.before.before.args.ends.now c.before.before.before.before.args.recipes.now c.before.before.before.before.args.kinds.now) c.before.before.before.before.args.n c.if1.true
+returns c = ending-short (ends_of c.before.before.before.before.args.ends.now c.before.before.before.before.args.recipes.now c.before.before.before.before.args.kinds.now) c.before.before.before.before.args.n c.if1.true
 
 loop-holds : tie.Need-loop-init invariant-loop decreases-loop
 loop-holds c = ending-none

@@ -3,7 +3,7 @@ use Prim.Native.Nat.{ℕ, ◌-◌}
 use mathlib.Core.List.{List, [], ◌∷◌, map}
 use Rattle.rules.specs.Lists.{up_to}
 use lib.ListN.{length}
-use Rattle.rules.specs.Report.{text, letterOf, sidesLine, ofFiles}
+use Rattle.rules.specs.Report.{text, letter_of, sides_line, of_files}
 use Rattle.report.proofs.Lines.{byte-pieces}
 use Rattle.report.proofs.Laying.{Laying, laying-none, growing-near, growing-more, growing-end, laid-length, laid_as, laid_more, near-as, near-one, near-two, near-three}
 use borrow.Author.Rules.{rules}
@@ -12,10 +12,10 @@ use Rattle.report.proofs.split.put_sides.Tie as tie
 
 -- the letters, one for each file
 abbrev letters : List ℕ → List ℕ → List ℕ
-letters marks sides = map (letterOf (ofFiles [] marks) sides) (up_to (length sides))
+letters marks sides = map (letter_of (of_files [] marks) sides) (up_to (length sides))
 
 abbrev invariant-loop : tie.invariant-loop
-invariant-loop out₀ at sides marks next₀ f₀ out next f = Laying (λ k. letterOf (ofFiles [] marks) sides k ∷ []) (up_to (length sides)) next₀ out₀ f next out
+invariant-loop out₀ at sides marks next₀ f₀ out next f = Laying (λ k. letter_of (of_files [] marks) sides k ∷ []) (up_to (length sides)) next₀ out₀ f next out
 
 abbrev decreases-loop : tie.decreases-loop
 decreases-loop out₀ at sides marks next₀ f₀ out next f = length sides - f
@@ -24,7 +24,7 @@ slice-aggregate-put-text : tie.Need-slice-aggregate-put-text invariant-loop decr
 slice-aggregate-put-text c = search rules
 
 put-text-requires : tie.Need-put-text-requires invariant-loop decreases-loop
-unfolding sidesLine text
+unfolding sides_line text
 put-text-requires c κs = near-one (text "sides ") (letters c.before.before.before.before.before.args.marks.now c.before.before.before.before.before.args.sides.now) (10 ∷ []) c.before.before.before.before.before.requires.1
 
 loop-holds : tie.Need-loop-init invariant-loop decreases-loop
@@ -46,7 +46,7 @@ letter-requires : tie.Need-letter-requires invariant-loop decreases-loop
 letter-requires c κs = search rules
 
 put-requires : tie.Need-put-requires invariant-loop decreases-loop
-unfolding sidesLine text
+unfolding sides_line text
 put-requires c κs =
     let near = near-two (text "sides ") (letters c.before.before.before.before.before.before.before.before.before.before.before.before.before.before.args.marks.now c.before.before.before.before.before.before.before.before.before.before.before.before.before.before.args.sides.now) (10 ∷ []) c.before.before.before.before.before.before.before.before.before.before.before.before.before.before.requires.1 c.before.before.before.before.before.before.before.before.put-text.ensures in
     near-as (ap (λ (b : ℕ). b ∷ []) (sym c.letter.ensures)) (growing-near c.before.before.before.before.before.loop.invariant (near-as (sym (byte-pieces _ _)) near) c.before.before.before.before.loop-test.true)
@@ -61,14 +61,14 @@ loop-again : tie.Need-loop-preserved invariant-loop decreases-loop
 loop-again c = growing-more c.before.before.before.before.before.before.before.before.loop.invariant c.before.before.before.before.before.before.before.loop-test.true (laid_as (ap (λ (b : ℕ). b ∷ []) c.before.before.before.letter.ensures) c.before.before.put.ensures)
 
 put-requires-2 : tie.Need-put-requires-2 invariant-loop decreases-loop
-unfolding sidesLine text
+unfolding sides_line text
 put-requires-2 c κs = near-three (text "sides ") (letters c.before.before.before.before.before.before.before.before.before.before.before.args.marks.now c.before.before.before.before.before.before.before.before.before.before.before.args.sides.now) (10 ∷ []) c.before.before.before.before.before.before.before.before.before.before.before.requires.1 c.before.before.before.before.before.put-text.ensures (laid_as (byte-pieces _ _) (growing-end c.before.before.loop.invariant c.before.loop-test.false))
 
 same_length : tie.Need-same-length invariant-loop decreases-loop
 same_length c = laid-length c.before.before.put2.ensures ∙ laid-length c.before.before.before.before.before.loop.invariant.laid ∙ laid-length c.before.before.before.before.before.before.before.before.put-text.ensures
 
 returns : tie.Need-returns invariant-loop decreases-loop
-unfolding sidesLine text
+unfolding sides_line text
 returns c = laid_more (laid_more c.before.before.before.before.before.before.before.before.put-text.ensures (laid_as (byte-pieces _ _) (growing-end c.before.before.before.before.before.loop.invariant c.before.before.before.before.loop-test.false))) c.before.before.put2.ensures
 
 pub put-sides-spec : {M : Type 1} → statement M

@@ -6,7 +6,7 @@ use lib.ListN.{length, get_or}
 use lib.Dec.{eqb}
 use native.Mathlib.Omega.{arith}
 use Rattle.rules.specs.Job.{files}
-use Rattle.rules.specs.Split.{sizeOn}
+use Rattle.rules.specs.Split.{size_on}
 use Rattle.rules.specs.Lists.{bit}
 use Rattle.rules.proofs.Count.{Summed, summed-none, summed-more, summed-end}
 use borrow.Author.Rules.{rules}
@@ -68,7 +68,7 @@ loop-again c =
     ]
 
 returns : tie.Need-returns invariant-loop decreases-loop
-unfolding sizeOn files
+unfolding size_on files
 returns c = summed-end c.before.loop.invariant c.loop-test.false
 
 pub size-on-spec : {M : Type 1} → statement M

@@ -7,22 +7,22 @@ use native.Mathlib.Omega.{arith}
 use lib.ListN.{length}
 use Rattle.rules.specs.Job.{Job, Limits, Lent}
 use Rattle.job.specs.declared.Job.{Job as Figures}
-use Rattle.job.specs.Parts.{wholeJob}
+use Rattle.job.specs.Parts.{whole_job}
 use Rattle.split.specs.Scanning.{Treated, treated}
-use Rattle.split.specs.Moving.{treatFrom}
+use Rattle.split.specs.Moving.{treat_from}
 use Rattle.split.proofs.Playable.{Playable}
 use Rattle.split.proofs.PassOnce.{few-numbers, extent-known}
 use Rattle.split.proofs.Played.{same-below, one_less, under-long, sides-stay, gains-stay, choosable}
 use Rattle.split.proofs.Accepting.{Accepting, unread-is, begins-as, sums-small, playable}
-use Rattle.split.proofs.Balanced.{BalanceUnderway, balance-first, balance-safe, balance-fits, balance-early, balance-more, balance-goes, balance-ends, ownLent, own-accepting, balance-refused, balance-done}
+use Rattle.split.proofs.Balanced.{BalanceUnderway, balance-first, balance-safe, balance-fits, balance-early, balance-more, balance-goes, balance-ends, own_lent, own-accepting, balance-refused, balance-done}
 use Rattle.split.proofs.balancing.balance_with.Statement.{statement}
 use Rattle.split.proofs.balancing.balance_with.Tie as tie
 
 abbrev invariant-loop : tie.invariant-loop
 invariant-loop sizes sides₀ marks bounds pins gains₀ recipes₀ kinds₀ scratch₀ c s window p₀ sides gains recipes kinds scratch p =
     (figures : Figures) (l : Lent)
-    → BalanceUnderway (wholeJob figures sizes sides₀ marks bounds pins) l window sides₀ (treated scratch₀ gains₀ recipes₀ kinds₀ p₀)
-    → BalanceUnderway (wholeJob figures sizes sides₀ marks bounds pins) l window sides (treated scratch gains recipes kinds p)
+    → BalanceUnderway (whole_job figures sizes sides₀ marks bounds pins) l window sides₀ (treated scratch₀ gains₀ recipes₀ kinds₀ p₀)
+    → BalanceUnderway (whole_job figures sizes sides₀ marks bounds pins) l window sides (treated scratch gains recipes kinds p)
 
 abbrev decreases-loop : tie.decreases-loop
 decreases-loop sizes sides₀ marks bounds pins gains₀ recipes₀ kinds₀ scratch₀ c s window p₀ sides gains recipes kinds scratch p = length sizes - p.moves
@@ -43,10 +43,10 @@ module _ (t : tie.After-lay-out invariant-loop decreases-loop) where
   s = t.before.before.before.before.before.before.before.before.before.before.before.before
 
   abbrev job : Job
-  job = wholeJob s.args.job s.args.sizes.now s.args.sides.now s.args.marks.now s.args.bounds.now s.args.pins.now
+  job = whole_job s.args.job s.args.sizes.now s.args.sides.now s.args.marks.now s.args.bounds.now s.args.pins.now
 
   abbrev lists : Lent
-  lists = ownLent (length s.args.sizes.now) s.args.gains.now s.args.recipes.now s.args.kinds.now s.args.scratch.now
+  lists = own_lent (length s.args.sizes.now) s.args.gains.now s.args.recipes.now s.args.kinds.now s.args.scratch.now
 
   -- the job's own limits, and the answer by them
   abbrev known : (most : Limits) × Accepting 1 true most job lists t.lay-out.last.1.1.1.1.1.1.1.0 t.lay-out.last.1.1.1.1.1.1.1.1.0 t.lay-out.result
@@ -126,11 +126,11 @@ module _ (k : Chosen) where
 -- ---- once its recipes are treated
 
 module _ (t : Treats) where
-  abbrev goesOn : tie.Else2 invariant-loop decreases-loop
-  goesOn = t.before.before.before.before.before.before
+  abbrev goes_on : tie.Else2 invariant-loop decreases-loop
+  goes_on = t.before.before.before.before.before.before
 
   abbrev choice : Chosen
-  choice = goesOn.before
+  choice = goes_on.before
 
   abbrev a : At
   a = at choice
@@ -140,7 +140,7 @@ module _ (t : Treats) where
       treated t.treat-move.last.1.1.1.1.1.1.1.0 t.treat-move.last.1.1.1.1.0 t.treat-move.last.1.1.1.1.1.0
       t.treat-move.last.1.1.1.1.1.1.0 t.treat-move.result
 
-  left_is : left ≡ treatFrom (args a).args.sizes.now (args a).args.bounds.now (args a).args.pins.now (f choice) a.loop.sides (rest a)
+  left_is : left ≡ treat_from (args a).args.sizes.now (args a).args.bounds.now (args a).args.pins.now (f choice) a.loop.sides (rest a)
   left_is = t.treat-move.ensures.1
 
 window-of-requires : tie.Need-window-of-requires invariant-loop decreases-loop
@@ -189,10 +189,10 @@ same-length-5 : tie.Need-same-length-5 invariant-loop decreases-loop
 same-length-5 c = gains-stay (now (last c)).under
 
 same-length-6 : tie.Need-same-length-6 invariant-loop decreases-loop
-same-length-6 c = (scans c).end-scans.auto.0 ∙ (under-long (now (last c)).under).scannedRecipes
+same-length-6 c = (scans c).end-scans.auto.0 ∙ (under-long (now (last c)).under).scanned_recipes
 
 same-length-7 : tie.Need-same-length-7 invariant-loop decreases-loop
-same-length-7 c = (scans c).end-scans.auto.1.0 ∙ (under-long (now (last c)).under).scannedKinds
+same-length-7 c = (scans c).end-scans.auto.1.0 ∙ (under-long (now (last c)).under).scanned_kinds
 
 same-length-8 : tie.Need-same-length-8 invariant-loop decreases-loop
 same-length-8 c = (scans c).end-scans.auto.1.1.0 ∙ (under-long (now (last c)).under).scratch
@@ -217,7 +217,7 @@ counted-requires c κs =
     let t = c.before.before.before.before.before.before.before.before.before in
     let k = choice t in
     same-below (ap (λ (y : Treated). y.scanned.progress.moves) (left_is t))
-    (balance-fits (now (at k)) k.before.before.before.before.heavy-side.ensures k.greatest-on.ensures (goesOn t).if2.false).moves
+    (balance-fits (now (at k)) k.before.before.before.before.heavy-side.ensures k.greatest-on.ensures (goes_on t).if2.false).moves
 
 module _ (n : tie.After-counted invariant-loop decreases-loop) where
   abbrev t : Treats
@@ -231,13 +231,13 @@ loop-less c =
     let k = k c in
     let u = now (at k) in
     let heavier = k.before.before.before.before.heavy-side.ensures in
-    one_less (balance-early u heavier k.greatest-on.ensures (goesOn (t c)).if2.left)
-    (balance-more u heavier k.greatest-on.ensures (goesOn (t c)).if2.left (t c).treat-move.ensures.0 (left_is (t c)) c.counted.ensures)
+    one_less (balance-early u heavier k.greatest-on.ensures (goes_on (t c)).if2.left)
+    (balance-more u heavier k.greatest-on.ensures (goes_on (t c)).if2.left (t c).treat-move.ensures.0 (left_is (t c)) c.counted.ensures)
 
 loop-again : tie.Need-loop-preserved invariant-loop decreases-loop
 loop-again c figures l u =
     let k = k c in
-    balance-goes ((at k).loop.inv figures l u) k.before.before.before.before.heavy-side.ensures k.greatest-on.ensures (goesOn (t c)).if2.left
+    balance-goes ((at k).loop.inv figures l u) k.before.before.before.before.heavy-side.ensures k.greatest-on.ensures (goes_on (t c)).if2.left
     (t c).treat-move.ensures.0 (left_is (t c)) c.counted.ensures
 
 pub balance-with-spec : {M : Type 1} → statement M

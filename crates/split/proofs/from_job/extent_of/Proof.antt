@@ -3,7 +3,7 @@ use mathlib.Core.Path.{ap}
 use Prim.Native.Nat.{ℕ}
 use lib.ListN.{length}
 use borrow.Author.Rules.{rules}
-use Rattle.tables.specs.Zones.{extentOf}
+use Rattle.tables.specs.Zones.{extent_of}
 use Rattle.split.proofs.from_job.extent_of.Statement.{statement}
 use Rattle.split.proofs.from_job.extent_of.Tie as tie
 
@@ -22,7 +22,7 @@ cast-t8 c = search rules
 returns : tie.Need-returns
 returns c =
     let s = c.before.before.before in
-    ap (λ (n : ℕ). extentOf s.args.c n (length s.args.pins.now)) c.recipe-count.ensures
+    ap (λ (n : ℕ). extent_of s.args.c n (length s.args.pins.now)) c.recipe-count.ensures
 
 pub extent-of-spec : {M : Type 1} → statement M
 extent-of-spec = tie.close (tie.spec cast-t4 recipe-count-requires cast-t6 cast-t8 returns)

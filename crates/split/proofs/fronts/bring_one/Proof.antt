@@ -7,9 +7,9 @@ use lib.ListN.{get_or}
 use lib.IntN.{pos}
 use borrow.Author.Tests.{not-true, not-false}
 use Rattle.rules.specs.Move.{touches}
-use Rattle.tables.specs.Zones.{stateIn}
-use Rattle.split.specs.Scanning.{changedBy}
-use Rattle.split.specs.Links.{broughtIn}
+use Rattle.tables.specs.Zones.{state_in}
+use Rattle.split.specs.Scanning.{changed_by}
+use Rattle.split.specs.Links.{brought_in}
 use Rattle.split.proofs.Shifts.{mag-back}
 use Rattle.split.proofs.LinksLent.{brought-back}
 use Rattle.split.proofs.LinksSteps.{touched-is}
@@ -21,11 +21,11 @@ entry c = c.before.before.before.before.before.before
 
 -- the code's test is whether the scan changes the file
 tested : (c : tie.After-is-changed) {b : Bool} → c.is-changed.result ≡ b
-    → touches (stateIn (entry c).args.extent.files (entry c).args.sides.now (entry c).args.scratch.now) (entry c).args.side (entry c).args.kind (entry c).args.f ≡ b
+    → touches (state_in (entry c).args.extent.files (entry c).args.sides.now (entry c).args.scratch.now) (entry c).args.side (entry c).args.kind (entry c).args.f ≡ b
 tested c e =
     let a = (entry c).args in
     sym (touched-is a.extent.files a.sides.now a.scratch.now a.side a.kind a.f (entry c).requires.0.3)
-    ∙ sym (ap (λ (i : ℕ). changedBy (get_or a.scratch.now i 0) (get_or a.sides.now i 0) a.side (1 - a.side) a.kind) c.before.before.before.wide.ensures)
+    ∙ sym (ap (λ (i : ℕ). changed_by (get_or a.scratch.now i 0) (get_or a.sides.now i 0) a.side (1 - a.side) a.kind) c.before.before.before.wide.ensures)
     ∙ sym c.is-changed.ensures ∙ e
 
 wide-requires : tie.Need-wide-requires
@@ -53,7 +53,7 @@ returns : tie.Need-returns
 returns c =
     let a = (entry c.before).args in
     let z = a.scratch.now in
-    sym (ap (λ (b : Bool). cond b (broughtIn a.extent.files a.extent.recipes a.extent.pins a.sides.now a.gains.now z a.f) z) (tested c.before (not-true _ c.if1.true)))
+    sym (ap (λ (b : Bool). cond b (brought_in a.extent.files a.extent.recipes a.extent.pins a.sides.now a.gains.now z a.f) z) (tested c.before (not-true _ c.if1.true)))
 
 links-of-requires : tie.Need-links-of-requires
 links-of-requires c κs = search rules
@@ -94,7 +94,7 @@ returns-2 c =
     let i = w.before.before.before.wide.ensures in
     brought-back a.extent.files a.extent.recipes a.extent.pins z at.0 at.1 a.sides.now a.gains.now a.f
     c.before.before.before.before.shape_of.ensures (ap (λ (k : ℕ). get_or a.sides.now k 0) i) (mag-back _ c.before.before.before.to-front-arg2.given ∙ ap (λ (k : ℕ). get_or a.gains.now k (pos 0)) i) c.before.before.to_front.ensures
-    ∙ sym (ap (λ (b : Bool). cond b (broughtIn a.extent.files a.extent.recipes a.extent.pins a.sides.now a.gains.now z a.f) z) (tested w (not-false _ c.before.before.before.before.before.before.before.if1.false)))
+    ∙ sym (ap (λ (b : Bool). cond b (brought_in a.extent.files a.extent.recipes a.extent.pins a.sides.now a.gains.now z a.f) z) (tested w (not-false _ c.before.before.before.before.before.before.before.if1.false)))
 
 pub bring-one-spec : {M : Type 1} → statement M
 bring-one-spec =

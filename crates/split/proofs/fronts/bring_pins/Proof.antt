@@ -6,9 +6,9 @@ use native.Mathlib.Omega.{arith}
 use lib.ListN.{length, get_or, take}
 use lib.Seq.{take_all}
 use Rattle.rules.specs.Lists.{those}
-use Rattle.rules.specs.Move.{State, stepsBy}
-use Rattle.tables.specs.Zones.{stateIn}
-use Rattle.split.specs.Links.{broughtIf, broughtPins}
+use Rattle.rules.specs.Move.{State, steps_by}
+use Rattle.tables.specs.Zones.{state_in}
+use Rattle.split.specs.Links.{brought_if, brought_pins}
 use Rattle.split.proofs.LinksLent.{Kept, kept-is}
 use Rattle.split.proofs.LinksSteps.{kept-state, kept-fits, kept_pins, pins-more}
 use Rattle.split.proofs.fronts.bring_pins.Statement.{statement}
@@ -16,7 +16,7 @@ use Rattle.split.proofs.fronts.bring_pins.Tie as tie
 
 abbrev invariant-loop : tie.invariant-loop
 invariant-loop scratch₀ gains sides pins side kind extent k₀ scratch k =
-    (k ≤ length pins) × (scratch ≡ broughtPins extent.files extent.recipes extent.pins gains (stateIn extent.files sides scratch₀) side kind (take k pins) scratch₀)
+    (k ≤ length pins) × (scratch ≡ brought_pins extent.files extent.recipes extent.pins gains (state_in extent.files sides scratch₀) side kind (take k pins) scratch₀)
 
 abbrev decreases-loop : tie.decreases-loop
 decreases-loop scratch₀ gains sides pins side kind extent k₀ scratch k = length pins - k
@@ -33,10 +33,10 @@ kept c =
     let s = entry c in
     let a = s.args in
     kept-is c.loop.invariant.1
-    (kept_pins a.extent.files a.extent.recipes a.extent.pins a.gains.now (stateIn a.extent.files a.sides.now a.scratch.now) a.side a.kind (take c.loop.k a.pins.now) a.scratch.now s.pre.1.1)
+    (kept_pins a.extent.files a.extent.recipes a.extent.pins a.gains.now (state_in a.extent.files a.sides.now a.scratch.now) a.side a.kind (take c.loop.k a.pins.now) a.scratch.now s.pre.1.1)
 
 loop-holds : tie.Need-loop-init invariant-loop decreases-loop
-unfolding broughtPins those stepsBy
+unfolding brought_pins those steps_by
 loop-holds c = (omega arith, refl)
 
 mul-bring-one : tie.Need-overflow-mul-bring-one invariant-loop decreases-loop
@@ -65,9 +65,9 @@ loop-again c =
     let a = s.args in (
       omega (arith, i.loop-test.true),
       c.before.before.bring-one.ensures
-          ∙ ap (λ (st : State). broughtIf a.extent.files a.extent.recipes a.extent.pins a.gains.now st a.side a.kind h.loop.scratch (get_or a.pins.now h.loop.k 0))
+          ∙ ap (λ (st : State). brought_if a.extent.files a.extent.recipes a.extent.pins a.gains.now st a.side a.kind h.loop.scratch (get_or a.pins.now h.loop.k 0))
           (kept-state a.extent.files a.extent.recipes a.extent.pins a.sides.now (kept h))
-          ∙ pins-more a.extent.files a.extent.recipes a.extent.pins a.gains.now (stateIn a.extent.files a.sides.now a.scratch.now) a.side a.kind a.pins.now h.loop.k a.scratch.now
+          ∙ pins-more a.extent.files a.extent.recipes a.extent.pins a.gains.now (state_in a.extent.files a.sides.now a.scratch.now) a.side a.kind a.pins.now h.loop.k a.scratch.now
           i.loop-test.true h.loop.invariant.1,
     )
 

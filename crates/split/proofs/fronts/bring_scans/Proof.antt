@@ -6,8 +6,8 @@ use native.Mathlib.Omega.{arith}
 use lib.ListN.{get_or, take, drop}
 use Rattle.rules.specs.Job.{view_of}
 use Rattle.rules.specs.Move.{State}
-use Rattle.tables.specs.Zones.{stateIn}
-use Rattle.split.specs.Links.{broughtPins, broughtScans}
+use Rattle.tables.specs.Zones.{state_in}
+use Rattle.split.specs.Links.{brought_pins, brought_scans}
 use Rattle.split.proofs.LinksLent.{Kept, kept-is}
 use Rattle.split.proofs.LinksSteps.{view-below, kept-state, kept-fits, kept-scans, scans-more}
 use Rattle.split.proofs.fronts.bring_scans.Statement.{statement}
@@ -15,7 +15,7 @@ use Rattle.split.proofs.fronts.bring_scans.Tie as tie
 
 abbrev invariant-loop : tie.invariant-loop
 invariant-loop scratch₀ gains sides bounds pins recipes kinds from to side extent i₀ scratch i =
-    (from ≤ i) × (i ≤ to) × (scratch ≡ broughtScans extent.files extent.recipes extent.pins gains (stateIn extent.files sides scratch₀) side (view_of bounds pins) (take (i - from) (drop from recipes)) (take (i - from) (drop from kinds)) scratch₀)
+    (from ≤ i) × (i ≤ to) × (scratch ≡ brought_scans extent.files extent.recipes extent.pins gains (state_in extent.files sides scratch₀) side (view_of bounds pins) (take (i - from) (drop from recipes)) (take (i - from) (drop from kinds)) scratch₀)
 
 abbrev decreases-loop : tie.decreases-loop
 decreases-loop scratch₀ gains sides bounds pins recipes kinds from to side extent i₀ scratch i = to - i
@@ -27,7 +27,7 @@ abbrev entry : At → tie.Start invariant-loop decreases-loop
 entry c = c.before.before.before.before.before.before.before
 
 abbrev st : tie.Start invariant-loop decreases-loop → State
-st s = stateIn s.args.extent.files s.args.sides.now s.args.scratch.now
+st s = state_in s.args.extent.files s.args.sides.now s.args.scratch.now
 
 -- nothing but the links differs from the scratch that was lent
 kept : (c : At) → Kept (entry c).args.extent.files (entry c).args.extent.recipes (entry c).args.extent.pins (entry c).args.scratch.now c.loop.scratch
@@ -38,7 +38,7 @@ kept c =
     (kept-scans a.extent.files a.extent.recipes a.extent.pins a.gains.now (st s) a.side (view_of a.bounds.now a.pins.now) (take (c.loop.i - a.from) (drop a.from a.recipes.now)) (take (c.loop.i - a.from) (drop a.from a.kinds.now)) a.scratch.now s.pre.1.1.1)
 
 loop-holds : tie.Need-loop-init invariant-loop decreases-loop
-unfolding broughtScans
+unfolding brought_scans
 loop-holds c =
     let s = c.before.before.before.before.before.before in
     let z : s.args.from - s.args.from ≡ 0 = omega arith in
@@ -84,7 +84,7 @@ loop-again c =
       omega (arith, h.loop.invariant.0),
       omega arith,
       c.before.before.bring-pins.ensures
-          ∙ ap₂ (λ (st : State) (r : List ℕ). broughtPins a.extent.files a.extent.recipes a.extent.pins a.gains.now st a.side (get_or a.kinds.now h.loop.i 0) r h.loop.scratch)
+          ∙ ap₂ (λ (st : State) (r : List ℕ). brought_pins a.extent.files a.extent.recipes a.extent.pins a.gains.now st a.side (get_or a.kinds.now h.loop.i 0) r h.loop.scratch)
           (kept-state a.extent.files a.extent.recipes a.extent.pins a.sides.now (kept h))
           (c.before.before.before.before.before.view.ensures ∙ ap (view_of a.bounds.now a.pins.now) c.before.before.before.before.before.before.wide.ensures)
           ∙ scans-more a.extent.files a.extent.recipes a.extent.pins a.gains.now (st s) a.side (view_of a.bounds.now a.pins.now) a.from h.loop.i a.recipes.now a.kinds.now a.scratch.now

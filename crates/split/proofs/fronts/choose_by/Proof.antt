@@ -4,8 +4,8 @@ use mathlib.Core.Path.{ap, ap₂, ◌∙◌}
 use native.Mathlib.Omega.{arith}
 use borrow.Author.Tests.{eq-eqb, ne_eqb}
 use Rattle.choice.specs.declared.edition1.Best.{Best}
-use Rattle.buckets.specs.Offers.{Chosen, chosenFront}
-use Rattle.split.specs.Links.{pickedIs, pickedBy}
+use Rattle.buckets.specs.Offers.{Chosen, chosen_front}
+use Rattle.split.specs.Links.{picked_is, picked_by}
 use Rattle.split.proofs.LinksLent.{lent_back, lent-read}
 use Rattle.split.proofs.fronts.choose_by.Statement.{statement}
 use Rattle.split.proofs.fronts.choose_by.Tie as tie
@@ -17,10 +17,10 @@ same_length : tie.Need-same-length
 same_length c = search rules
 
 returns : tie.Need-returns
-unfolding pickedBy
+unfolding picked_by
 returns c =
     let s = c.before.before.before.before.before.before in
-    rw c.before.before.if1.true (ap (λ (b : Best). pickedIs b s.args.scratch.now) c.choose-vector.ensures)
+    rw c.before.before.if1.true (ap (λ (b : Best). picked_is b s.args.scratch.now) c.choose-vector.ensures)
 
 choose-requires : tie.Need-choose-requires
 choose-requires c κs = search rules
@@ -29,10 +29,10 @@ same-length-2 : tie.Need-same-length-2
 same-length-2 c = search rules
 
 returns-2 : tie.Need-returns-2
-unfolding pickedBy
+unfolding picked_by
 returns-2 c =
     let s = c.before.before.before.before.before.before.before in
-    rw (ne_eqb _ 2 c.before.before.if2.true, ne_eqb _ 3 c.before.before.before.if1.false) (ap (λ (b : Best). pickedIs b s.args.scratch.now) c.choose.ensures)
+    rw (ne_eqb _ 2 c.before.before.if2.true, ne_eqb _ 3 c.before.before.before.if1.false) (ap (λ (b : Best). picked_is b s.args.scratch.now) c.choose.ensures)
 
 links-of-requires : tie.Need-links-of-requires
 links-of-requires c κs = search rules
@@ -59,7 +59,7 @@ same-length-3 : tie.Need-same-length-3
 same-length-3 c = search rules
 
 returns-3 : tie.Need-returns-3
-unfolding pickedBy
+unfolding picked_by
 returns-3 c =
     let s = c.before.before.before.before.before.before.before.before.before.before.before in
     let a = s.args in
@@ -67,12 +67,12 @@ returns-3 c =
     let shape = c.before.before.before.shape_of.ensures in
     let q = c.before.before.choose-front.ensures in
     rw (eq-eqb _ 2 c.before.before.before.before.before.before.if2.false)
-    (ap₂ pickedIs
+    (ap₂ picked_is
     (ap (λ (x : Chosen). x.best) q
     ∙ lent-read a.extent.files a.extent.recipes a.extent.pins a.scratch.now at.ensures.0 at.ensures.1
-    (λ x l. (chosenFront x a.window a.size a.sizes.now a.sides.now a.gains.now l).best) shape)
+    (λ x l. (chosen_front x a.window a.size a.sizes.now a.sides.now a.gains.now l).best) shape)
     (lent_back a.extent.files a.extent.recipes a.extent.pins a.scratch.now at.ensures.0 at.ensures.1
-    (λ x l. (chosenFront x a.window a.size a.sizes.now a.sides.now a.gains.now l).links) shape (ap (λ (x : Chosen). x.links) q)))
+    (λ x l. (chosen_front x a.window a.size a.sizes.now a.sides.now a.gains.now l).links) shape (ap (λ (x : Chosen). x.links) q)))
 
 pub choose-by-spec : {M : Type 1} → statement M
 choose-by-spec =

@@ -3,14 +3,14 @@ use borrow.Author.Rules.{rules}
 use mathlib.Core.Path.{refl}
 use native.Mathlib.Omega.{arith}
 use borrow.Author.Tests.{eq-eqb, ne_eqb}
-use Rattle.buckets.specs.Entries.{enteredAll}
-use Rattle.split.specs.Links.{enteredBy}
+use Rattle.buckets.specs.Entries.{entered_all}
+use Rattle.split.specs.Links.{entered_by}
 use Rattle.split.proofs.LinksLent.{lent_back}
 use Rattle.split.proofs.fronts.enter_by.Statement.{statement}
 use Rattle.split.proofs.fronts.enter_by.Tie as tie
 
 returns : tie.Need-returns
-unfolding enteredBy
+unfolding entered_by
 returns c = rw (ne_eqb _ 2 c.if1.true) refl
 
 links-of-requires : tie.Need-links-of-requires
@@ -38,13 +38,13 @@ same_length : tie.Need-same-length
 same_length c = search rules
 
 returns-2 : tie.Need-returns-2
-unfolding enteredBy
+unfolding entered_by
 returns-2 c =
     let s = c.before.before.before.before.before.before.before.before.before.before in
     let at = c.before.before.before.before.before.links-of in
     rw (eq-eqb _ 2 c.before.before.before.before.before.before.if1.false)
     (lent_back s.args.extent.files s.args.extent.recipes s.args.extent.pins s.args.scratch.now at.ensures.0 at.ensures.1
-    (λ x l. enteredAll x s.args.marks.now s.args.sides.now s.args.gains.now l) c.before.before.before.shape_of.ensures c.before.before.enter-all.ensures)
+    (λ x l. entered_all x s.args.marks.now s.args.sides.now s.args.gains.now l) c.before.before.before.shape_of.ensures c.before.before.enter-all.ensures)
 
 pub enter-by-spec : {M : Type 1} → statement M
 enter-by-spec =

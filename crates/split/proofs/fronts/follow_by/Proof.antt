@@ -8,7 +8,7 @@ use Rattle.rules.specs.Job.{view_of}
 use Rattle.rules.specs.Split.{side_of}
 use Rattle.rules.specs.Move.{State}
 use borrow.Author.Tests.{eq-eqb, ne_eqb}
-use Rattle.split.specs.Links.{linksAt, linksLong, broughtScans, followedBy}
+use Rattle.split.specs.Links.{links_at, links_long, brought_scans, followed_by}
 use Rattle.split.proofs.LinksLent.{Kept, kept-is}
 use Rattle.split.proofs.LinksSteps.{kept-state, kept-fits, kept_out}
 use Rattle.split.proofs.fronts.follow_by.Statement.{statement}
@@ -17,7 +17,7 @@ use Rattle.split.proofs.fronts.follow_by.Tie as tie
 abbrev entry : tie.After-leave → tie.Start
 entry c = c.before.before.before.before.before.before.before.before.before
 
-roomy : (c : tie.After-leave) → linksAt (entry c).args.extent.files (entry c).args.extent.recipes (entry c).args.extent.pins + linksLong (entry c).args.extent.files (entry c).args.extent.recipes ≤ length (entry c).args.scratch.now
+roomy : (c : tie.After-leave) → links_at (entry c).args.extent.files (entry c).args.extent.recipes (entry c).args.extent.pins + links_long (entry c).args.extent.files (entry c).args.extent.recipes ≤ length (entry c).args.scratch.now
 roomy c = (entry c).requires.1.1.1 c.before.before.if1.false
 
 -- with the moved file gone, nothing but the links differs
@@ -25,7 +25,7 @@ kept : (c : tie.After-leave) → Kept (entry c).args.extent.files (entry c).args
 kept c = let a = (entry c).args in kept-is c.leave.ensures (kept_out a.extent.files a.extent.recipes a.extent.pins a.scratch.now a.f (roomy c))
 
 returns : tie.Need-returns
-unfolding followedBy
+unfolding followed_by
 returns c = rw (ne_eqb _ 2 c.if1.true) refl
 
 cast-leave : tie.Need-overflow-cast-leave
@@ -51,13 +51,13 @@ same_length : tie.Need-same-length
 same_length c = search rules
 
 returns-2 : tie.Need-returns-2
-unfolding followedBy
+unfolding followed_by
 returns-2 c =
     let l = c.before.before.before.before.before.before.before in
     let a = (entry l).args in
     rw (eq-eqb _ 2 l.before.before.if1.false)
     (c.before.before.bring-scans.ensures
-    ∙ ap₂ (λ (st : State) (z : List ℕ). broughtScans a.extent.files a.extent.recipes a.extent.pins a.gains.now st (side_of a.sides.now a.f) (view_of a.bounds.now a.pins.now) (take (a.to - a.from) (drop a.from a.recipes.now)) (take (a.to - a.from) (drop a.from a.kinds.now)) z)
+    ∙ ap₂ (λ (st : State) (z : List ℕ). brought_scans a.extent.files a.extent.recipes a.extent.pins a.gains.now st (side_of a.sides.now a.f) (view_of a.bounds.now a.pins.now) (take (a.to - a.from) (drop a.from a.recipes.now)) (take (a.to - a.from) (drop a.from a.kinds.now)) z)
     (kept-state a.extent.files a.extent.recipes a.extent.pins a.sides.now (kept l)) l.leave.ensures)
 
 pub follow-by-spec : {M : Type 1} → statement M

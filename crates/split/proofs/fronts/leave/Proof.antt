@@ -1,6 +1,6 @@
 -- `fronts::leave` meets its contract: the links come back to their place. Assumes nothing.
 use borrow.Author.Rules.{rules}
-use Rattle.buckets.specs.Entries.{takenOut}
+use Rattle.buckets.specs.Entries.{taken_out}
 use Rattle.split.proofs.LinksLent.{lent_back}
 use Rattle.split.proofs.fronts.leave.Statement.{statement}
 use Rattle.split.proofs.fronts.leave.Tie as tie
@@ -34,7 +34,7 @@ returns c =
     let s = c.before.before.before.before.before.before.before in
     let at = c.before.before.before.before.before.links-of in
     lent_back s.args.extent.files s.args.extent.recipes s.args.extent.pins s.args.scratch.now at.ensures.0 at.ensures.1
-    (λ x l. takenOut x s.args.f l) c.before.before.before.shape_of.ensures c.before.before.take_out.ensures
+    (λ x l. taken_out x s.args.f l) c.before.before.before.shape_of.ensures c.before.before.take_out.ensures
 
 pub leave_spec : {M : Type 1} → statement M
 leave_spec =

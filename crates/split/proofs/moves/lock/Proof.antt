@@ -4,7 +4,7 @@ use Prim.Native.Nat.{ℕ, ◌+◌}
 use native.Mathlib.Omega.{arith}
 use lib.ListN.{get_or}
 use borrow.Author.Rules.{rules}
-use Rattle.tables.specs.Zones.{cellsAt, startsAt, countsAt}
+use Rattle.tables.specs.Zones.{cells_at, starts_at, counts_at}
 use Rattle.tables.proofs.Sides.{zones-are}
 use Rattle.split.proofs.moves.lock.Statement.{statement}
 use Rattle.split.proofs.moves.lock.Tie as tie
@@ -20,7 +20,7 @@ module _ (z : tie.After-zones-of) where
   P = s.args.extent.pins
 
   -- where the zones begin
-  zones : (z.zones-of.result.cells ≡ cellsAt C) × (z.zones-of.result.starts ≡ startsAt C P) × (z.zones-of.result.counts ≡ countsAt C P)
+  zones : (z.zones-of.result.cells ≡ cells_at C) × (z.zones-of.result.starts ≡ starts_at C P) × (z.zones-of.result.counts ≡ counts_at C P)
   zones = zones-are C P z.zones-of.ensures
 
 zones-of-requires : tie.Need-zones-of-requires

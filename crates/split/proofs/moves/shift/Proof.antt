@@ -3,7 +3,7 @@ use mathlib.Core.Path.{ap, ap₂, ◌∙◌}
 use lib.ListN.{get_or}
 use lib.IntN.{pos}
 use borrow.Author.Rules.{rules}
-use Rattle.split.specs.Moving.{shiftedTo, cutBy}
+use Rattle.split.specs.Moving.{shifted_to, cut_by}
 use Rattle.split.proofs.Shifts.{mag-back}
 use Rattle.split.proofs.moves.shift.Statement.{statement}
 use Rattle.split.proofs.moves.shift.Tie as tie
@@ -42,8 +42,8 @@ returns : tie.Need-returns
 returns c =
     let s = c.before.before.before.before.before.before.before.before.before in
     c.shifted.ensures
-    ∙ ap₂ (shiftedTo s.args.p) c.before.before.before.size-after.ensures
-    (c.before.cut-after.ensures ∙ ap (cutBy s.args.p.cut) (mag-back (get_or s.args.gains.now s.args.f (pos 0)) c.before.before.cut-after-arg.given))
+    ∙ ap₂ (shifted_to s.args.p) c.before.before.before.size-after.ensures
+    (c.before.cut-after.ensures ∙ ap (cut_by s.args.p.cut) (mag-back (get_or s.args.gains.now s.args.f (pos 0)) c.before.before.cut-after-arg.given))
 
 pub shift-spec : {M : Type 1} → statement M
 shift-spec =

@@ -4,7 +4,7 @@ use native.Mathlib.Omega.{arith}
 use Prim.Native.Nat.{ℕ}
 use Rattle.tables.specs.declared.zones.Extent.{Extent}
 use Rattle.split.specs.Scanning.{Treated, treated}
-use Rattle.split.specs.Moving.{wayTo, Locked}
+use Rattle.split.specs.Moving.{way_to, Locked}
 use Rattle.split.proofs.OneMove.{HandedOn, treats-safe, treats-from}
 use Rattle.split.proofs.moves.treat_move.Statement.{statement}
 use Rattle.split.proofs.moves.treat_move.Tie as tie
@@ -27,7 +27,7 @@ module _ (t : tie.After-lock) where
     turn = turn_of.turn.ensures.1;
     cells = subst (λ (e : Extent). Locked e.files e.pins s.args.f s.args.scratch.now t.lock.last.0 t.lock.result.from t.lock.result.to) t.before.before.before.extent-of.ensures t.lock.ensures;
     to = t.before.before.way-to.ensures
-        ∙ ap₂ (λ (e : Extent) (side : ℕ). wayTo e.files e.recipes e.pins side) t.before.before.before.extent-of.ensures turn_of.turn.ensures.0;
+        ∙ ap₂ (λ (e : Extent) (side : ℕ). way_to e.files e.recipes e.pins side) t.before.before.before.extent-of.ensures turn_of.turn.ensures.0;
     shift = t.before.before.before.before.before.before.before.before.shift.ensures;
   }
 
@@ -49,7 +49,7 @@ lock-requires c κs =
     let e = c.before.before.extent-of.ensures in
     let files = ap (λ (x : Extent). x.files) e in
     let pins = ap (λ (x : Extent). x.pins) e in
-    (omega (arith, files, m.file), omega (arith, files, pins, m.scratchLong))
+    (omega (arith, files, m.file), omega (arith, files, pins, m.scratch_long))
 
 treat-all-requires : tie.Need-treat-all-requires
 treat-all-requires c κs = let t = c.before.before.before.before.before.before.before in treats-safe (s t).requires (handed t)

@@ -1,6 +1,6 @@
 -- `moves::way_to` meets its contract. Assumes nothing.
 use borrow.Author.Rules.{rules}
-use Rattle.split.specs.Moving.{wayTo}
+use Rattle.split.specs.Moving.{way_to}
 use Rattle.split.proofs.moves.way_to.Statement.{statement}
 use Rattle.split.proofs.moves.way_to.Tie as tie
 
@@ -20,7 +20,7 @@ side-at-requires-2 : tie.Need-side-at-requires-2
 side-at-requires-2 c κs = search rules
 
 returns : tie.Need-returns
-unfolding wayTo
+unfolding way_to
 returns c = λ i. record {
   side = c.before.before.before.before.args.side;
   files = c.before.before.before.wide.ensures i;

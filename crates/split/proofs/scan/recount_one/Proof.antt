@@ -7,7 +7,7 @@ use lib.ListN.{length, set, length-set}
 use mir.Syntax.{w16, w64}
 use mir.Val.{Fits}
 use Rattle.split.specs.declared.scan.Way.{Way}
-use Rattle.split.specs.Scanning.{count_t, countF, recount}
+use Rattle.split.specs.Scanning.{count_t, count_f, recount}
 use Rattle.split.proofs.Lasting.{recount-length}
 use Rattle.split.proofs.scan.recount_one.Statement.{statement}
 use Rattle.split.proofs.scan.recount_one.Tie as tie
@@ -29,10 +29,10 @@ one_more h = omega (arith, h)
 -- and stands there after the first write, and the second
 module _ (way : Way) (j : ℕ) (z : List ℕ) where
   abbrev left : List ℕ
-  left = set z (way.left + j) (countF way j z)
+  left = set z (way.left + j) (count_f way j z)
 
   first : length left ≡ length z
-  first = length-set z (way.left + j) (countF way j z)
+  first = length-set z (way.left + j) (count_f way j z)
 
   second : length (set left (way.there + j) (count_t way j z + 1)) ≡ length z
   second = length-set left (way.there + j) (count_t way j z + 1) ∙ first

@@ -8,7 +8,7 @@ use lib.ListN.{length, get_or, take}
 use lib.Seq.{take_all, get_or-take}
 use mir.Syntax.{w32}
 use mir.Val.{to_z, of_z}
-use Rattle.rules.specs.Move.{State, scanPins}
+use Rattle.rules.specs.Move.{State, scan_pins}
 use Rattle.rules.proofs.GainKept.{scan-length}
 use Rattle.rules.proofs.Signed.{abs}
 use Rattle.tables.specs.Zones.{state_of}
@@ -19,7 +19,7 @@ use Rattle.split.proofs.scan.scan_pins.Tie as tie
 
 abbrev invariant-loop : tie.invariant-loop
 invariant-loop gains₀ sides scratch pins kind there left k₀ gains k =
-    (k ≤ length pins) × (gains ≡ scanPins (state_of sides (take (length gains₀) scratch)) there kind (take k pins) gains₀)
+    (k ≤ length pins) × (gains ≡ scan_pins (state_of sides (take (length gains₀) scratch)) there kind (take k pins) gains₀)
 
 abbrev decreases-loop : tie.decreases-loop
 decreases-loop gains₀ sides scratch pins kind there left k₀ gains k = length pins - k
@@ -36,8 +36,8 @@ Wide = tie.After-wide invariant-loop decreases-loop
 abbrev entry : At → tie.Start invariant-loop decreases-loop
 entry c = c.before.before.before.before
 
-abbrev stateAt : tie.Start invariant-loop decreases-loop → State
-stateAt s = state_of s.args.sides.now (take (length s.args.gains.now) s.args.scratch.now)
+abbrev state_at : tie.Start invariant-loop decreases-loop → State
+state_at s = state_of s.args.sides.now (take (length s.args.gains.now) s.args.scratch.now)
 
 -- in a turn: the pin's file, and its gain
 abbrev F : In → ℕ
@@ -61,12 +61,12 @@ long c = ap length c.loop.invariant.1 ∙ scan-length _ _ _ _ _
 room : (c : In) → abs (G c) < 2 ^ 31 - 1
 room c =
     let s = entry c.before in
-    scan-room (stateAt s) s.args.way.side s.args.kind s.args.pins.now c.before.loop.k s.args.gains.now
+    scan-room (state_at s) s.args.way.side s.args.kind s.args.pins.now c.before.loop.k s.args.gains.now
     c.loop-test.true c.before.loop.invariant.1 s.pre.1.1.1 (F c)
 
 -- the lock that is handed on, and the gain, are the file's
 lock : (w : Wide) → get_or (entry w.before.before.before).args.scratch.now w.wide.result 0
-    ≡ get_or (stateAt (entry w.before.before.before)).locks (F w.before.before) 0
+    ≡ get_or (state_at (entry w.before.before.before)).locks (F w.before.before) 0
 lock w =
     let s = entry w.before.before.before in
     ap (λ (f : ℕ). get_or s.args.scratch.now f 0) w.wide.ensures
@@ -79,7 +79,7 @@ sub-left : tie.Need-overflow-sub-left invariant-loop decreases-loop
 sub-left c = c.before.before.before.requires.0
 
 loop-holds : tie.Need-loop-init invariant-loop decreases-loop
-unfolding scanPins
+unfolding scan_pins
 loop-holds c = (omega arith, refl)
 
 mul_wide : tie.Need-overflow-mul-wide invariant-loop decreases-loop
@@ -131,7 +131,7 @@ loop-again c =
     let s = entry i.before in (
       omega (arith, i.loop-test.true),
       rw (mag-back _ c.shifted.type-inv, c.shifted.ensures, handed w, lock w, w.wide.ensures)
-          (scan-pin (stateAt s) s.args.way.side s.args.kind s.args.pins.now i.before.loop.k s.args.gains.now i.loop-test.true i.before.loop.invariant.1),
+          (scan-pin (state_at s) s.args.way.side s.args.kind s.args.pins.now i.before.loop.k s.args.gains.now i.loop-test.true i.before.loop.invariant.1),
     )
 
 same_length : tie.Need-same-length invariant-loop decreases-loop

@@ -1,14 +1,14 @@
 -- `scan::shifted` meets its contract: its tests are those of the definition. Assumes nothing.
 use mathlib.Core.Path.{◌≡◌, sym, ◌∙◌}
 use mathlib.Core.Bool.{Bool}
-use Rattle.split.specs.Scanning.{changedBy}
+use Rattle.split.specs.Scanning.{changed_by}
 use Rattle.split.proofs.Shifts.{same_back, up_fits, up-back, down_fits, down-back, shifts-up, shifts-down, shifts_none}
 use Rattle.split.proofs.scan.shifted.Statement.{statement}
 use Rattle.split.proofs.scan.shifted.Tie as tie
 
 -- the test is the definition's
 tested : (c : tie.After-is-changed) {b : Bool} → c.is-changed.result ≡ b
-    → changedBy c.before.args.lock c.before.args.side c.before.args.there c.before.args.left c.before.args.kind ≡ b
+    → changed_by c.before.args.lock c.before.args.side c.before.args.there c.before.args.left c.before.args.kind ≡ b
 tested c e = sym c.is-changed.ensures ∙ e
 
 is-changed-requires : tie.Need-is-changed-requires

@@ -4,11 +4,11 @@ use Prim.Native.Nat.{ℕ, ◌+◌, ◌-◌, ◌≤◌, ◌<◌}
 use mathlib.Core.List.{List}
 use native.Mathlib.Omega.{arith}
 use lib.ListN.{length, get_or, take}
-use Rattle.rules.specs.Lists.{allBelow}
+use Rattle.rules.specs.Lists.{AllBelow}
 use Rattle.rules.specs.Job.{view_of}
 use Rattle.rules.specs.Move.{State}
 use Rattle.tables.specs.Zones.{state_of}
-use Rattle.split.specs.Scanning.{Scanned, scanned, scanIf, Treated, treated}
+use Rattle.split.specs.Scanning.{Scanned, scanned, scan_if, Treated, treated}
 use Rattle.split.proofs.Turns.{Turn, turn-first, turn_last, turn-treatable, own_below, seen-long, first_fits, second-near, second_fits, turn_more}
 use Rattle.split.proofs.scan.treat_all.Statement.{statement}
 use Rattle.split.proofs.scan.treat_all.Tie as tie
@@ -73,7 +73,7 @@ module _ (r : tie.After-recount-one invariant-loop decreases-loop) where
   own = v.view.ensures ∙ ap (look s) v.before.wide.ensures
 
   -- what both scans ask
-  below : allBelow s.args.way.files v.view.result.now
+  below : AllBelow s.args.way.files v.view.result.now
   below = own_below c.loop.invariant more (reach s) s.pre.1.0.2 own r.recount-one.ensures.1 r.recount-one.ensures.0
 
   long : s.args.way.files ≤ length r.recount-one.last.0
@@ -82,7 +82,7 @@ module _ (r : tie.After-recount-one invariant-loop decreases-loop) where
   -- a scan as the code makes it
   abbrev scan : ℕ → Scanned → Scanned
   scan kind x =
-      scanIf (state_of s.args.sides.now (take s.args.way.files r.recount-one.last.0)) s.args.way.side j v.view.result.now kind x
+      scan_if (state_of s.args.sides.now (take s.args.way.files r.recount-one.last.0)) s.args.way.side j v.view.result.now kind x
 
 -- ---- and once the first scan is made
 

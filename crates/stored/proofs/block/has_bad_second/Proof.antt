@@ -1,12 +1,12 @@
 use Prim.Native.Nat.{◌-◌}
 use native.Mathlib.Omega.{arith}
 use Rattle.rules.proofs.Searches.{Passed, passed_none, passed-more, passed-some, passed-no}
-use Rattle.stored.specs.Steps.{badSecond}
+use Rattle.stored.specs.Steps.{bad_second}
 use Rattle.stored.proofs.block.has_bad_second.Statement.{statement}
 use Rattle.stored.proofs.block.has_bad_second.Tie as tie
 
 abbrev invariant-loop : tie.invariant-loop
-invariant-loop block n f₀ f = Passed (badSecond block n) 126 f
+invariant-loop block n f₀ f = Passed (bad_second block n) 126 f
 
 abbrev decreases-loop : tie.decreases-loop
 decreases-loop block n f₀ f = 126 - f

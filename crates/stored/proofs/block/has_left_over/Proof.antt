@@ -5,20 +5,20 @@ use mathlib.Core.List.{List}
 use native.Mathlib.Omega.{arith}
 use borrow.Author.Tests.{lt-leb, le-leb, ne_eqb, eq-eqb}
 use borrow.Author.Count.{below_more}
-use Rattle.rules.specs.Stored.{valueIn}
+use Rattle.rules.specs.Stored.{value_in}
 use Rattle.rules.proofs.Searches.{some-here, some-none}
-use Rattle.stored.specs.Steps.{leftOver}
+use Rattle.stored.specs.Steps.{left_over}
 use Rattle.stored.proofs.block.has_left_over.Statement.{statement}
 use Rattle.stored.proofs.block.has_left_over.Tie as tie
 
-over : (b : List ℕ) (n v x : ℕ) → n ≤ v → x ≡ valueIn b v → (x ≡ 0 → ⊥) → leftOver b n v ≡ true
-over b n v x h e z = simp (le-leb n v h, ne_eqb (valueIn b v) 0 (λ q. z (e ∙ q)))
+over : (b : List ℕ) (n v x : ℕ) → n ≤ v → x ≡ value_in b v → (x ≡ 0 → ⊥) → left_over b n v ≡ true
+over b n v x h e z = simp (le-leb n v h, ne_eqb (value_in b v) 0 (λ q. z (e ∙ q)))
 
-none : (b : List ℕ) (n v x : ℕ) → n ≤ v → x ≡ valueIn b v → x ≡ 0 → leftOver b n v ≡ false
-none b n v x h e z = simp (le-leb n v h, eq-eqb (valueIn b v) 0 (sym e ∙ z))
+none : (b : List ℕ) (n v x : ℕ) → n ≤ v → x ≡ value_in b v → x ≡ 0 → left_over b n v ≡ false
+none b n v x h e z = simp (le-leb n v h, eq-eqb (value_in b v) 0 (sym e ∙ z))
 
 abbrev invariant-loop : tie.invariant-loop
-invariant-loop block n v₀ v = (n ≤ v) × ((k : ℕ) → k < v → leftOver block n k ≡ false)
+invariant-loop block n v₀ v = (n ≤ v) × ((k : ℕ) → k < v → left_over block n k ≡ false)
 
 abbrev decreases-loop : tie.decreases-loop
 decreases-loop block n v₀ v = 253 - v
@@ -33,7 +33,7 @@ returns : tie.Need-returns invariant-loop decreases-loop
 returns c =
     let l = c.before.before.before.loop in
     let b = c.before.before.before.before.args.block.now in
-    sym (some-here (leftOver b _) 253 l.v (omega arith) (over b _ l.v c.before.value_in.result l.invariant.0 c.before.value_in.ensures c.if1.true))
+    sym (some-here (left_over b _) 253 l.v (omega arith) (over b _ l.v c.before.value_in.result l.invariant.0 c.before.value_in.ensures c.if1.true))
 
 add-v : tie.Need-overflow-add-v invariant-loop decreases-loop
 add-v c = omega arith
@@ -50,7 +50,7 @@ loop-again c =
 returns-2 : tie.Need-returns-2 invariant-loop decreases-loop
 returns-2 c =
     let l = c.before.loop in
-    sym (some-none (leftOver c.before.before.args.block.now c.before.before.args.n) 253 (λ i h. l.invariant.1 i (omega arith)))
+    sym (some-none (left_over c.before.before.args.block.now c.before.before.args.n) 253 (λ i h. l.invariant.1 i (omega arith)))
 
 pub has-left-over-spec : {M : Type 1} → statement M
 has-left-over-spec =

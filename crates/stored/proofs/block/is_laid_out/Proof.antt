@@ -1,5 +1,5 @@
 use native.Mathlib.Omega.{arith}
-use Rattle.rules.specs.Stored.{laidOut}
+use Rattle.rules.specs.Stored.{laid_out}
 use Rattle.stored.proofs.block.is_laid_out.Statement.{statement}
 use Rattle.stored.proofs.block.is_laid_out.Tie as tie
 
@@ -19,7 +19,7 @@ has-bad-second-requires : tie.Need-has-bad-second-requires
 has-bad-second-requires c κs = tt
 
 returns : tie.Need-returns
-unfolding laidOut
+unfolding laid_out
 returns c = rw (← c.before.before.before.before.word_at.ensures, ← c.before.has-left-over.ensures, ← c.has-bad-second.ensures)
 
 pub is-laid-out-spec : {M : Type 1} → statement M

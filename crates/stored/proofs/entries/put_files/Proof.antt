@@ -1,15 +1,15 @@
 use mathlib.Core.Path.{◌≡◌, ap}
 use Prim.Native.Nat.{ℕ, ◌+◌, ◌-◌, ◌*◌, ◌/◌, ◌%◌, ◌≤◌}
 use native.Mathlib.Omega.{arith}
-use Rattle.rules.specs.Stored.{valueIn}
+use Rattle.rules.specs.Stored.{value_in}
 use Rattle.stored.specs.Steps.{Put}
 use Rattle.stored.proofs.Filled.{put-none, put-more}
 use Rattle.stored.proofs.entries.put_files.Statement.{statement}
 use Rattle.stored.proofs.entries.put_files.Tie as tie
 
 abbrev invariant-loop : tie.invariant-loop
-invariant-loop block n sizes₀ sides₀ marks₀ a f₀ sizes sides marks f = (f ≤ n) × Put (λ i. valueIn block (2 * i)) a f sizes₀ sizes × Put (λ i. valueIn block (2 * i + 1) % 2) a f sides₀ sides
-    × Put (λ i. valueIn block (2 * i + 1) / 2) a f marks₀ marks
+invariant-loop block n sizes₀ sides₀ marks₀ a f₀ sizes sides marks f = (f ≤ n) × Put (λ i. value_in block (2 * i)) a f sizes₀ sizes × Put (λ i. value_in block (2 * i + 1) % 2) a f sides₀ sides
+    × Put (λ i. value_in block (2 * i + 1) / 2) a f marks₀ marks
 
 abbrev decreases-loop : tie.decreases-loop
 decreases-loop block n sizes₀ sides₀ marks₀ a f₀ sizes sides marks f = n - f

@@ -1,14 +1,14 @@
 use mathlib.Core.Path.{◌≡◌}
 use Prim.Native.Nat.{◌-◌, ◌≤◌}
 use native.Mathlib.Omega.{arith}
-use Rattle.rules.specs.Stored.{valueIn}
+use Rattle.rules.specs.Stored.{value_in}
 use Rattle.stored.specs.Steps.{Put}
 use Rattle.stored.proofs.Filled.{put-none, put-more}
 use Rattle.stored.proofs.entries.put_values.Statement.{statement}
 use Rattle.stored.proofs.entries.put_values.Tie as tie
 
 abbrev invariant-loop : tie.invariant-loop
-invariant-loop block n into₀ a v₀ into v = (v ≤ n) × Put (valueIn block) a v into₀ into
+invariant-loop block n into₀ a v₀ into v = (v ≤ n) × Put (value_in block) a v into₀ into
 
 abbrev decreases-loop : tie.decreases-loop
 decreases-loop block n into₀ a v₀ into v = n - v

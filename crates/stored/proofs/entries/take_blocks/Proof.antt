@@ -1,6 +1,6 @@
 use mathlib.Core.Path.{ap₂, ◌∙◌}
 use native.Mathlib.Omega.{arith}
-use Rattle.rules.specs.Check.{◌orElse◌}
+use Rattle.rules.specs.Check.{◌or_else◌}
 use Rattle.rules.proofs.Verdicts.{zero_of, passes-both}
 use Rattle.stored.proofs.Readings.{by-kinds, job-taken}
 use Rattle.stored.proofs.entries.take_blocks.Statement.{statement}
@@ -82,7 +82,7 @@ returns c =
     let w = c.before.before.before.before.take-values2.ensures in
     let o = c.or-else2.ensures in
     let u = c.before.or_else.ensures in (
-      o ∙ ap₂ ◌orElse◌ f.0 (u ∙ ap₂ ◌orElse◌ v.0 w.0) ∙ by-kinds s.args.h s.args.bytes.now b p c.before.before.before.before.before.before.before.before.before.before.before.before.before.before.before.before.before.before.before.before.block-count.ensures,
+      o ∙ ap₂ ◌or_else◌ f.0 (u ∙ ap₂ ◌or_else◌ v.0 w.0) ∙ by-kinds s.args.h s.args.bytes.now b p c.before.before.before.before.before.before.before.before.before.before.before.before.before.before.before.before.before.before.before.before.block-count.ensures,
       λ z.
           let y = passes-both _ _ (zero_of o z) in
           let x = passes-both _ _ (zero_of u y.1) in

@@ -2,7 +2,7 @@ use mathlib.Core.Path.{◌≡◌, refl, sym, ap, ◌∙◌}
 use Prim.Native.Nat.{ℕ, ◌+◌, ◌-◌, ◌*◌, ◌/◌, ◌%◌, ◌≤◌, min}
 use mathlib.Core.List.{List}
 use native.Mathlib.Omega.{arith}
-use Rattle.rules.specs.Stored.{valueIn, value, blocksVerdict}
+use Rattle.rules.specs.Stored.{value_in, value, blocks_verdict}
 use Rattle.rules.proofs.Blocks.{blocks_more, blocks_end}
 use Rattle.rules.proofs.Verdicts.{chain-stop, chain-go}
 use Rattle.stored.specs.Steps.{TakenFiles, files_of}
@@ -12,7 +12,7 @@ use Rattle.stored.proofs.entries.take_files.Statement.{statement}
 use Rattle.stored.proofs.entries.take_files.Tie as tie
 
 abbrev invariant-loop : tie.invariant-loop
-invariant-loop bytes h blocks c sizes₀ sides₀ marks₀ k₀ sizes sides marks k = (k ≤ blocks) × (blocksVerdict h bytes 1 blocks ≡ blocksVerdict h bytes (1 + k) (blocks - k))
+invariant-loop bytes h blocks c sizes₀ sides₀ marks₀ k₀ sizes sides marks k = (k ≤ blocks) × (blocks_verdict h bytes 1 blocks ≡ blocks_verdict h bytes (1 + k) (blocks - k))
     × TakenFiles bytes (min (126 * k) c) (files_of sizes₀ sides₀ marks₀) (files_of sizes sides marks)
 
 abbrev decreases-loop : tie.decreases-loop
@@ -23,7 +23,7 @@ loop-holds c =
     let a = c.before.before.before.before.args in
     let e : min 0 a.c ≡ 0 = omega arith in
     let g : a.blocks ≡ a.blocks - 0 = omega arith in
-    (omega arith, ap (λ (j : ℕ). blocksVerdict a.h a.bytes.now 1 j) g, record { sizes = rw e (taken_none _ _); sides = rw e (taken_none _ _); marks = rw e (taken_none _ _) })
+    (omega arith, ap (λ (j : ℕ). blocks_verdict a.h a.bytes.now 1 j) g, record { sizes = rw e (taken_none _ _); sides = rw e (taken_none _ _); marks = rw e (taken_none _ _) })
 
 add-block-at : tie.Need-overflow-add-block-at invariant-loop decreases-loop
 add-block-at c = omega arith
@@ -51,7 +51,7 @@ returns c =
     let l = c.before.before.before.before.before.before.loop in
     let a = c.before.before.before.before.before.before.before.before.before.before.before.args in
     let n = c.if1.true in (
-      chain-stop (blocksVerdict a.h a.bytes.now (1 + (l.k + 1)) (a.blocks - (l.k + 1))) (block-told a.h a.bytes.now (1 + l.k) c.before.before.before.before.block-at.ensures c.before.before.further-verdict.ensures) n
+      chain-stop (blocks_verdict a.h a.bytes.now (1 + (l.k + 1)) (a.blocks - (l.k + 1))) (block-told a.h a.bytes.now (1 + l.k) c.before.before.before.before.block-at.ensures c.before.before.further-verdict.ensures) n
           ∙ sym (blocks_more a.h a.bytes.now 1 a.blocks l.k (omega arith)) ∙ sym l.invariant.1,
       λ z. absurd (n z),
     )
@@ -87,9 +87,9 @@ loop-again c =
       l.invariant.1 ∙ blocks_more a.h a.bytes.now 1 a.blocks l.k (omega arith)
           ∙ sym (chain-go (block-told a.h a.bytes.now (1 + l.k) b c.before.before.before.before.before.before.before.before.before.before.before.before.before.before.further-verdict.ensures) c.before.before.before.before.before.before.before.before.before.before.before.before.if1.false refl),
       record {
-        sizes = taken-block 126 l.k a.c m n l.invariant.2.sizes p.0 (λ v i. ap (λ (x : List ℕ). valueIn x (2 * v)) b ∙ spread (λ q r. at q (2 * r)) 126 l.k v i);
-        sides = taken-block 126 l.k a.c m n l.invariant.2.sides p.1.0 (λ v i. ap (λ (x : List ℕ). valueIn x (2 * v + 1) % 2) b ∙ spread (λ q r. at q (2 * r + 1) % 2) 126 l.k v i);
-        marks = taken-block 126 l.k a.c m n l.invariant.2.marks p.1.1 (λ v i. ap (λ (x : List ℕ). valueIn x (2 * v + 1) / 2) b ∙ spread (λ q r. at q (2 * r + 1) / 2) 126 l.k v i);
+        sizes = taken-block 126 l.k a.c m n l.invariant.2.sizes p.0 (λ v i. ap (λ (x : List ℕ). value_in x (2 * v)) b ∙ spread (λ q r. at q (2 * r)) 126 l.k v i);
+        sides = taken-block 126 l.k a.c m n l.invariant.2.sides p.1.0 (λ v i. ap (λ (x : List ℕ). value_in x (2 * v + 1) % 2) b ∙ spread (λ q r. at q (2 * r + 1) % 2) 126 l.k v i);
+        marks = taken-block 126 l.k a.c m n l.invariant.2.marks p.1.1 (λ v i. ap (λ (x : List ℕ). value_in x (2 * v + 1) / 2) b ∙ spread (λ q r. at q (2 * r + 1) / 2) 126 l.k v i);
       },
     )
 

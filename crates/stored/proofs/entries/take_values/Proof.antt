@@ -2,17 +2,17 @@ use mathlib.Core.Path.{◌≡◌, refl, sym, ap, ap₂, ◌∙◌}
 use Prim.Native.Nat.{ℕ, ◌+◌, ◌-◌, ◌*◌, ◌≤◌, min}
 use mathlib.Core.List.{List}
 use native.Mathlib.Omega.{arith}
-use Rattle.rules.specs.Stored.{valueIn, value, blocksVerdict}
+use Rattle.rules.specs.Stored.{value_in, value, blocks_verdict}
 use Rattle.rules.proofs.Blocks.{blocks_more, blocks_end}
 use Rattle.rules.proofs.Verdicts.{chain-stop, chain-go}
-use Rattle.stored.specs.Steps.{Taken, storedValue}
+use Rattle.stored.specs.Steps.{Taken, stored_value}
 use Rattle.stored.proofs.Blocks.{block-told}
 use Rattle.stored.proofs.Filled.{taken_none, taken-block, spread}
 use Rattle.stored.proofs.entries.take_values.Statement.{statement}
 use Rattle.stored.proofs.entries.take_values.Tie as tie
 
 abbrev invariant-loop : tie.invariant-loop
-invariant-loop bytes h first blocks x into₀ k₀ into k = (k ≤ blocks) × (blocksVerdict h bytes first blocks ≡ blocksVerdict h bytes (first + k) (blocks - k)) × Taken (storedValue bytes first) (min (253 * k) x) into₀ into
+invariant-loop bytes h first blocks x into₀ k₀ into k = (k ≤ blocks) × (blocks_verdict h bytes first blocks ≡ blocks_verdict h bytes (first + k) (blocks - k)) × Taken (stored_value bytes first) (min (253 * k) x) into₀ into
 
 abbrev decreases-loop : tie.decreases-loop
 decreases-loop bytes h first blocks x into₀ k₀ into k = blocks - k
@@ -23,7 +23,7 @@ loop-holds c =
     let e : min 0 a.x ≡ 0 = omega arith in
     let f : a.first ≡ a.first + 0 = omega arith in
     let g : a.blocks ≡ a.blocks - 0 = omega arith in
-    (omega arith, ap₂ (λ (i j : ℕ). blocksVerdict a.h a.bytes.now i j) f g, rw e (taken_none _ _))
+    (omega arith, ap₂ (λ (i j : ℕ). blocks_verdict a.h a.bytes.now i j) f g, rw e (taken_none _ _))
 
 add-block-at : tie.Need-overflow-add-block-at invariant-loop decreases-loop
 add-block-at c = omega arith
@@ -45,7 +45,7 @@ returns c =
     let l = c.before.before.before.before.before.before.loop in
     let a = c.before.before.before.before.before.before.before.before.before.args in
     let n = c.if1.true in (
-      chain-stop (blocksVerdict a.h a.bytes.now (a.first + (l.k + 1)) (a.blocks - (l.k + 1))) (block-told a.h a.bytes.now (a.first + l.k) c.before.before.before.before.block-at.ensures c.before.before.further-verdict.ensures) n
+      chain-stop (blocks_verdict a.h a.bytes.now (a.first + (l.k + 1)) (a.blocks - (l.k + 1))) (block-told a.h a.bytes.now (a.first + l.k) c.before.before.before.before.block-at.ensures c.before.before.further-verdict.ensures) n
           ∙ sym (blocks_more a.h a.bytes.now a.first a.blocks l.k (omega arith)) ∙ sym l.invariant.1,
       λ z. absurd (n z),
     )
@@ -77,7 +77,7 @@ loop-again c =
       l.invariant.1 ∙ blocks_more a.h a.bytes.now a.first a.blocks l.k (omega arith)
           ∙ sym (chain-go (block-told a.h a.bytes.now (a.first + l.k) b c.before.before.before.before.before.before.before.before.further-verdict.ensures) c.before.before.before.before.before.before.if1.false refl),
       taken-block 253 l.k a.x (omega arith) c.before.before.before.before.held_in.ensures l.invariant.2 c.before.before.put-values.ensures
-          (λ v i. ap (λ (x : List ℕ). valueIn x v) b ∙ spread (λ q r. value a.bytes.now (a.first + q) r) 253 l.k v i),
+          (λ v i. ap (λ (x : List ℕ). value_in x v) b ∙ spread (λ q r. value a.bytes.now (a.first + q) r) 253 l.k v i),
     )
 
 same-length-2 : tie.Need-same-length-2 invariant-loop decreases-loop

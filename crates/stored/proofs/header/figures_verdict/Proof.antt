@@ -2,7 +2,7 @@ use mathlib.Core.Path.{ap, ap₂, ◌∙◌}
 use mathlib.Core.Bool.{Bool}
 use native.Mathlib.Omega.{arith}
 use lib.ListN.{length-replicate}
-use Rattle.rules.specs.Check.{refuseIf, ◌orElse◌}
+use Rattle.rules.specs.Check.{refuse_if, ◌or_else◌}
 use Rattle.stored.proofs.header.figures_verdict.Statement.{statement}
 use Rattle.stored.proofs.header.figures_verdict.Tie as tie
 
@@ -49,10 +49,10 @@ returns c =
     let k = t.before.before.before in
     simp length-replicate
     (c.or-else3.ensures
-    ∙ ap₂ ◌orElse◌ (k.refuse-if.ensures ∙ ap (λ (b : Bool). refuseIf b 22 0) k.before.bad-k.ensures)
+    ∙ ap₂ ◌or_else◌ (k.refuse-if.ensures ∙ ap (λ (b : Bool). refuse_if b 22 0) k.before.bad-k.ensures)
     (c.before.or-else2.ensures
-    ∙ ap₂ ◌orElse◌ t.before.refuse-if2.ensures
-    (c.before.before.or_else.ensures ∙ ap₂ ◌orElse◌ t.check-counts.ensures s.refuse-if3.ensures)))
+    ∙ ap₂ ◌or_else◌ t.before.refuse-if2.ensures
+    (c.before.before.or_else.ensures ∙ ap₂ ◌or_else◌ t.check-counts.ensures s.refuse-if3.ensures)))
 
 pub figures-verdict-spec : {M : Type 1} → statement M
 figures-verdict-spec =

@@ -5,12 +5,12 @@ use Prim.Native.Nat.{ℕ, ◌+◌, ◌*◌, ◌<◌}
 use native.Mathlib.Omega.{arith}
 use lib.ListN.{length, set}
 use borrow.Author.Rules.{rules}
-use Rattle.rules.proofs.Count.{countOn-le}
-use Rattle.rules.proofs.Locked.{lockedOn-le}
+use Rattle.rules.proofs.Count.{count_on-le}
+use Rattle.rules.proofs.Locked.{locked_on-le}
 use Rattle.rules.proofs.Readable.{those-short}
-use Rattle.rules.specs.Job.{isRead}
-use Rattle.job.specs.Parts.{ofMarks}
-use Rattle.job.specs.Holds.{heldOn}
+use Rattle.rules.specs.Job.{is_read}
+use Rattle.job.specs.Parts.{of_marks}
+use Rattle.job.specs.Holds.{held_on}
 use Rattle.job.specs.declared.holds.Held.{Held}
 use Rattle.job.specs.declared.holds.Vaults.{Vaults}
 use Rattle.tables.specs.Zones.{state_of}
@@ -19,12 +19,12 @@ use Rattle.tables.specs.Counting.{counted}
 use Rattle.tables.proofs.counts.count_recipe.Statement.{statement}
 use Rattle.tables.proofs.counts.count_recipe.Tie as tie
 
-few : (sides marks r : List ℕ) (u : ℕ) {h : Held} → h ≡ heldOn sides marks u r → length r < 65536 → (h.all < 65536) × (h.locked < 65536)
+few : (sides marks r : List ℕ) (u : ℕ) {h : Held} → h ≡ held_on sides marks u r → length r < 65536 → (h.all < 65536) × (h.locked < 65536)
 few sides marks r u e l =
     let read = readable marks r in
-    let short = those-short (isRead (ofMarks marks)) r in (
-      omega (arith, ap (λ (y : Held). y.all) e, countOn-le sides u read, short),
-      omega (arith, ap (λ (y : Held). y.locked) e, lockedOn-le (state_of sides marks) u read, short),
+    let short = those-short (is_read (of_marks marks)) r in (
+      omega (arith, ap (λ (y : Held). y.all) e, count_on-le sides u read, short),
+      omega (arith, ap (λ (y : Held). y.locked) e, locked_on-le (state_of sides marks) u read, short),
     )
 
 tally-requires : tie.Need-tally-requires

@@ -7,7 +7,7 @@ use lib.ListN.{length}
 use borrow.Author.Rules.{rules}
 use Rattle.rules.specs.Job.{view_of}
 use Rattle.tables.specs.Zones.{state_of}
-use Rattle.tables.specs.Building.{read_of, twoReadable}
+use Rattle.tables.specs.Building.{read_of, two_readable}
 use Rattle.tables.proofs.Buildable.{own_read, own-short}
 use Rattle.tables.proofs.FourCounts.{CountedTo, counted_none, counted-more, counted-end}
 use Rattle.tables.proofs.counts.fill_counts.Statement.{statement}
@@ -34,8 +34,8 @@ number c = c.before.before.before.loop.j
 there : (c : Taken) → number c < length (start c).args.bounds.now - 1
 there c = omega arith
 
-own_is : (c : Taken) → own c ≡ twoReadable (start c).args.locks.now (view_of (start c).args.bounds.now (start c).args.pins.now (number c))
-own_is c = c.two-readable.ensures ∙ ap (twoReadable (start c).args.locks.now) c.before.view.ensures
+own_is : (c : Taken) → own c ≡ two_readable (start c).args.locks.now (view_of (start c).args.bounds.now (start c).args.pins.now (number c))
+own_is c = c.two-readable.ensures ∙ ap (two_readable (start c).args.locks.now) c.before.view.ensures
 
 loop-holds : tie.Need-loop-init invariant-loop decreases-loop
 loop-holds c = counted_none _ _ _ _ (omega arith)
@@ -51,7 +51,7 @@ count-recipe-requires c κs =
     let w = c.before in
     let s = start w in
     let l = own-short s.args.bounds.now s.args.pins.now _ s.pre.0 s.args.locks.now (number w) (there w) (own w) (own_is w) in
-    (omega (arith, s.pre.0.fewPins), omega arith, omega (arith, s.pre.0.fewRecipes), omega (arith, w.before.before.before.loop.invariant.long))
+    (omega (arith, s.pre.0.few_pins), omega arith, omega (arith, s.pre.0.few_recipes), omega (arith, w.before.before.before.loop.invariant.long))
 
 add-j : tie.Need-overflow-add-j invariant-loop decreases-loop
 add-j c = search rules

@@ -6,16 +6,16 @@ use lib.Dec.{eqb}
 use lib.ListN.{length, get_or}
 use borrow.Author.Rules.{rules}
 use Rattle.rules.specs.Lists.{bit, diff}
-use Rattle.rules.specs.Split.{onSide, countOn}
+use Rattle.rules.specs.Split.{on_side, count_on}
 use Rattle.rules.proofs.Count.{Summed, summed-none, summed-bit, summed-entries}
-use Rattle.tables.specs.Counting.{gainBy}
+use Rattle.tables.specs.Counting.{gain_by}
 use Rattle.tables.proofs.Starting.{sub-fits, sub_back}
 use Rattle.tables.proofs.counts.gain_by.Statement.{statement}
 use Rattle.tables.proofs.counts.gain_by.Tie as tie
 
 abbrev invariant-loop : tie.invariant-loop
 invariant-loop list own other up₀ down₀ k₀ up down k =
-    Summed (λ i. bit (onSide own 1 (get_or list i 0))) 1 (length list) k up × Summed (λ i. bit (onSide other 0 (get_or list i 0))) 1 (length list) k down
+    Summed (λ i. bit (on_side own 1 (get_or list i 0))) 1 (length list) k up × Summed (λ i. bit (on_side other 0 (get_or list i 0))) 1 (length list) k down
 
 abbrev decreases-loop : tie.decreases-loop
 decreases-loop list own other up₀ down₀ k₀ up down k = length list - k
@@ -62,10 +62,10 @@ loop-again c =
     let w = e.before in
     let i = w.before.before in
     let a = i.before.before.before.before.before.args in (
-      summed-bit (λ j. onSide a.own.now 1 (get_or a.list.now j 0)) i.before.loop.invariant.0 i.loop-test.true
-          (c.before.before.bit.ensures.0 ∙ ap (λ (s : ℕ). bit (eqb s 1)) e.entry_at.ensures ∙ ap (λ (x : ℕ). bit (onSide a.own.now 1 x)) w.wide.ensures),
-      summed-bit (λ j. onSide a.other.now 0 (get_or a.list.now j 0)) i.before.loop.invariant.1 i.loop-test.true
-          (c.bit2.ensures.0 ∙ ap (λ (s : ℕ). bit (eqb s 0)) c.before.entry-at2.ensures ∙ ap (λ (x : ℕ). bit (onSide a.other.now 0 x)) w.wide.ensures),
+      summed-bit (λ j. on_side a.own.now 1 (get_or a.list.now j 0)) i.before.loop.invariant.0 i.loop-test.true
+          (c.before.before.bit.ensures.0 ∙ ap (λ (s : ℕ). bit (eqb s 1)) e.entry_at.ensures ∙ ap (λ (x : ℕ). bit (on_side a.own.now 1 x)) w.wide.ensures),
+      summed-bit (λ j. on_side a.other.now 0 (get_or a.list.now j 0)) i.before.loop.invariant.1 i.loop-test.true
+          (c.bit2.ensures.0 ∙ ap (λ (s : ℕ). bit (eqb s 0)) c.before.entry-at2.ensures ∙ ap (λ (x : ℕ). bit (on_side a.other.now 0 x)) w.wide.ensures),
     )
 
 -- neither count is above the length of the list
@@ -85,12 +85,12 @@ sub-result : tie.Need-overflow-sub-result invariant-loop decreases-loop
 sub-result c = sub-fits c.before.loop.up c.before.loop.down (few c.before).0 (few c.before).1
 
 returns : tie.Need-returns invariant-loop decreases-loop
-unfolding gainBy countOn
+unfolding gain_by count_on
 returns c =
     let a = c.before.before.before.before.before.args in
     let i = c.before.loop.invariant in
     sub_back c.before.loop.up c.before.loop.down (few c.before).0 (few c.before).1
-    ∙ ap₂ diff (summed-entries (onSide a.own.now 1) a.list.now i.0 c.loop-test.false) (summed-entries (onSide a.other.now 0) a.list.now i.1 c.loop-test.false)
+    ∙ ap₂ diff (summed-entries (on_side a.own.now 1) a.list.now i.0 c.loop-test.false) (summed-entries (on_side a.other.now 0) a.list.now i.1 c.loop-test.false)
 
 pub gain-by-spec : {M : Type 1} → statement M
 gain-by-spec =

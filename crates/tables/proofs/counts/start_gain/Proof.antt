@@ -6,13 +6,13 @@ use borrow.Author.Tests.{eq-eqb, ne_eqb}
 use borrow.Author.Rules.{rules}
 use mir.Syntax.{w32}
 use mir.Val.{to_z, of_z}
-use Rattle.tables.specs.Counting.{startGain}
+use Rattle.tables.specs.Counting.{start_gain}
 use Rattle.tables.proofs.Parts.{part_length}
 use Rattle.tables.proofs.counts.start_gain.Statement.{statement}
 use Rattle.tables.proofs.counts.start_gain.Tie as tie
 
 returns : tie.Need-returns
-unfolding startGain
+unfolding start_gain
 returns c = rw (ne_eqb _ _ c.if1.true) refl
 
 mul-gain-by : tie.Need-overflow-mul-gain-by
@@ -63,7 +63,7 @@ gain-by-requires c κs =
     omega (arith, part_length x.s (x.e - x.s) x.scratch.now (omega arith))
 
 returns-2 : tie.Need-returns-2
-unfolding startGain
+unfolding start_gain
 returns-2 c =
     let x = c.before.before.before.before.before.before.args in
     let back : to_z w32 (of_z w32 c.gain-by.result) ≡ c.gain-by.result = search rules in

@@ -8,11 +8,11 @@ use lib.IntN.{pos}
 use borrow.Author.Rules.{rules}
 use mir.Syntax.{w32}
 use mir.Val.{to_z, of_z}
-use Rattle.rules.specs.Pass.{startGains}
-use Rattle.tables.specs.Zones.{cellsAt, startsAt, countsAt, sideAt, start_in, end_in, zonesOf, extentOf, state_of}
+use Rattle.rules.specs.Pass.{start_gains}
+use Rattle.tables.specs.Zones.{cells_at, starts_at, counts_at, side_at, start_in, end_in, zones_of, extent_of, state_of}
 use Rattle.tables.specs.declared.zones.Extent.{Extent}
 use Rattle.tables.specs.Building.{read_of}
-use Rattle.tables.specs.Counting.{startGain}
+use Rattle.tables.specs.Counting.{start_gain}
 use Rattle.tables.proofs.Buildable.{read-long}
 use Rattle.tables.proofs.Starting.{start-gain-is, start-gains-long, gain-asks}
 use Rattle.tables.proofs.Sides.{zones-are}
@@ -21,7 +21,7 @@ use Rattle.tables.proofs.counts.start_gains.Statement.{statement}
 use Rattle.tables.proofs.counts.start_gains.Tie as tie
 
 abbrev invariant-loop : tie.invariant-loop
-invariant-loop gains₀ sides marks scratch bounds pins extent zones n f₀ gains f = (f ≤ length sides) × Stored (pos 0) (startGains (read_of marks bounds pins) (length sides) (state_of sides marks)) f gains
+invariant-loop gains₀ sides marks scratch bounds pins extent zones n f₀ gains f = (f ≤ length sides) × Stored (pos 0) (start_gains (read_of marks bounds pins) (length sides) (state_of sides marks)) f gains
 
 abbrev decreases-loop : tie.decreases-loop
 decreases-loop gains₀ sides marks scratch bounds pins extent zones n f₀ gains f = length sides - f
@@ -56,8 +56,8 @@ P t = length t.before.before.before.before.before.before.args.pins.now
 
 -- where the zones begin
 zones : (t : tie.After-zones-of invariant-loop decreases-loop)
-    → (t.zones-of.result.cells ≡ cellsAt (C t)) × (t.zones-of.result.starts ≡ startsAt (C t) (P t)) × (t.zones-of.result.counts ≡ countsAt (C t) (P t))
-zones t = zones-are (C t) (P t) (t.zones-of.ensures ∙ ap (λ (e : Extent). zonesOf e.files e.pins) t.before.before.before.before.before.before.requires.1.0.2)
+    → (t.zones-of.result.cells ≡ cells_at (C t)) × (t.zones-of.result.starts ≡ starts_at (C t) (P t)) × (t.zones-of.result.counts ≡ counts_at (C t) (P t))
+zones t = zones-are (C t) (P t) (t.zones-of.ensures ∙ ap (λ (e : Extent). zones_of e.files e.pins) t.before.before.before.before.before.before.requires.1.0.2)
 
 module _ (c : Turn) where
   abbrev scratch : List ℕ
@@ -75,32 +75,32 @@ module _ (c : Turn) where
   abbrev e : ℕ
   e = (zoned c).zones-of.result.cells + c.before.before.before.before.before.wide3.result
 
-  known : (start c).args.extent ≡ extentOf (C (zoned c)) N (P (zoned c))
+  known : (start c).args.extent ≡ extent_of (C (zoned c)) N (P (zoned c))
   known = (start c).requires.1.0.2
 
   number_is : number ≡ N
   number_is = c.before.before.before.before.before.before.before.before.before.before.before.before.before.before.wide.ensures ∙ ap (λ (e : Extent). e.recipes) known
 
   -- its cells, and the counts of both sides
-  from_is : s ≡ cellsAt (C (zoned c)) + start_in (C (zoned c)) (P (zoned c)) scratch (file c)
+  from_is : s ≡ cells_at (C (zoned c)) + start_in (C (zoned c)) (P (zoned c)) scratch (file c)
   from_is = ap₂ ◌+◌ (zones (zoned c)).0 (c.before.before.before.before.before.before.before.before.before.wide2.ensures ∙ ap (λ (i : ℕ). get_or scratch (i + file c) 0) (zones (zoned c)).1)
 
-  to_is : e ≡ cellsAt (C (zoned c)) + end_in (C (zoned c)) (P (zoned c)) scratch (file c)
+  to_is : e ≡ cells_at (C (zoned c)) + end_in (C (zoned c)) (P (zoned c)) scratch (file c)
   to_is = ap₂ ◌+◌ (zones (zoned c)).0 (c.before.before.before.before.before.wide3.ensures ∙ ap (λ (i : ℕ). get_or scratch (i + file c + 1) 0) (zones (zoned c)).1)
 
-  own_is : c.before.before.side-at.result ≡ sideAt (countsAt (C (zoned c)) (P (zoned c))) N (get_or (start c).args.sides.now (file c) 0)
-  own_is = c.before.before.side-at.ensures ∙ ap (λ (e : Extent). sideAt (countsAt e.files e.pins) e.recipes (get_or (start c).args.sides.now (file c) 0)) known
+  own_is : c.before.before.side-at.result ≡ side_at (counts_at (C (zoned c)) (P (zoned c))) N (get_or (start c).args.sides.now (file c) 0)
+  own_is = c.before.before.side-at.ensures ∙ ap (λ (e : Extent). side_at (counts_at e.files e.pins) e.recipes (get_or (start c).args.sides.now (file c) 0)) known
 
-  other-is : c.side-at2.result ≡ sideAt (countsAt (C (zoned c)) (P (zoned c))) N (1 - get_or (start c).args.sides.now (file c) 0)
-  other-is = c.side-at2.ensures ∙ ap (λ (e : Extent). sideAt (countsAt e.files e.pins) e.recipes (1 - get_or (start c).args.sides.now (file c) 0)) known
+  other-is : c.side-at2.result ≡ side_at (counts_at (C (zoned c)) (P (zoned c))) N (1 - get_or (start c).args.sides.now (file c) 0)
+  other-is = c.side-at2.ensures ∙ ap (λ (e : Extent). side_at (counts_at e.files e.pins) e.recipes (1 - get_or (start c).args.sides.now (file c) 0)) known
 
   -- what the turn works out
-  value : startGain scratch (get_or (start c).args.marks.now (file c) 0) s e c.before.before.side-at.result c.side-at2.result number
-      ≡ get_or (startGains (read_of (start c).args.marks.now (start c).args.bounds.now (start c).args.pins.now) (C (zoned c)) (state_of (start c).args.sides.now (start c).args.marks.now)) (file c) (pos 0)
+  value : start_gain scratch (get_or (start c).args.marks.now (file c) 0) s e c.before.before.side-at.result c.side-at2.result number
+      ≡ get_or (start_gains (read_of (start c).args.marks.now (start c).args.bounds.now (start c).args.pins.now) (C (zoned c)) (state_of (start c).args.sides.now (start c).args.marks.now)) (file c) (pos 0)
   value =
       let x = (start c).args in
       let pre = (start c).requires in
-      ap (startGain scratch (get_or x.marks.now (file c) 0) s e c.before.before.side-at.result c.side-at2.result) number_is
+      ap (start_gain scratch (get_or x.marks.now (file c) 0) s e c.before.before.side-at.result c.side-at2.result) number_is
       ∙ start-gain-is x.sides.now x.marks.now (read_of x.marks.now x.bounds.now x.pins.now) (C (zoned c)) (P (zoned c)) N scratch
       (read-long x.bounds.now x.pins.now _ pre.0 x.marks.now) pre.1.1.1.0 pre.1.1.1.1.0 pre.1.1.1.1.1 (file c) s e (inside c) from_is to_is _ _ own_is other-is
 
@@ -126,7 +126,7 @@ wide-requires-2 : tie.Need-wide-requires-2 invariant-loop decreases-loop
 wide-requires-2 c κs = search rules
 
 add-s : tie.Need-overflow-add-s invariant-loop decreases-loop
-add-s c = omega (arith, zones c.before.before.before.before.before.before.before, c.before.wide2.ensures, c.before.before.shared-slice-known6.given (c.before.before.before.before.before.before.before.zones-of.result.starts + c.before.before.before.before.before.loop.f), c.before.before.before.before.before.before.before.before.before.before.before.before.before.requires.0.fewFiles)
+add-s c = omega (arith, zones c.before.before.before.before.before.before.before, c.before.wide2.ensures, c.before.before.shared-slice-known6.given (c.before.before.before.before.before.before.before.zones-of.result.starts + c.before.before.before.before.before.loop.f), c.before.before.before.before.before.before.before.before.before.before.before.before.before.requires.0.few_files)
 
 add-wide-2 : tie.Need-overflow-add-wide-2 invariant-loop decreases-loop
 add-wide-2 c = omega (arith, zones c.before.before.before.before.before.before.before.before)
@@ -144,7 +144,7 @@ wide-requires-3 : tie.Need-wide-requires-3 invariant-loop decreases-loop
 wide-requires-3 c κs = search rules
 
 add-e : tie.Need-overflow-add-e invariant-loop decreases-loop
-add-e c = omega (arith, zones c.before.before.before.before.before.before.before.before.before.before.before, c.before.wide3.ensures, c.before.before.shared-slice-known7.given (c.before.before.before.before.before.before.before.before.before.before.before.zones-of.result.starts + c.before.before.before.before.before.before.before.before.before.loop.f + 1), c.before.before.before.before.before.before.before.before.before.before.before.before.before.before.before.before.before.requires.0.fewFiles)
+add-e c = omega (arith, zones c.before.before.before.before.before.before.before.before.before.before.before, c.before.wide3.ensures, c.before.before.shared-slice-known7.given (c.before.before.before.before.before.before.before.before.before.before.before.zones-of.result.starts + c.before.before.before.before.before.before.before.before.before.loop.f + 1), c.before.before.before.before.before.before.before.before.before.before.before.before.before.before.before.before.before.requires.0.few_files)
 
 mul-side-at : tie.Need-overflow-mul-side-at invariant-loop decreases-loop
 mul-side-at c = search rules
@@ -168,7 +168,7 @@ side-at-requires-2 : tie.Need-side-at-requires-2 invariant-loop decreases-loop
 side-at-requires-2 c κs = search rules
 
 mul-start-gain : tie.Need-overflow-mul-start-gain invariant-loop decreases-loop
-mul-start-gain c = omega (arith, inside c, (start c).requires.0.fewFiles)
+mul-start-gain c = omega (arith, inside c, (start c).requires.0.few_files)
 
 shared-slice-read-start-gain : tie.Need-shared-slice-read-start-gain invariant-loop decreases-loop
 shared-slice-read-start-gain c = omega (arith, inside c.before, (start c.before).pre.1.0.1)
@@ -178,16 +178,16 @@ start-gain-requires c κs =
     let w = c.before in
     let pre = (start w).requires in
     rw (number_is w)
-    (gain-asks (N w) (file w) (get_or (start w).args.sides.now (file w) 0) pre.1.1.1.1.0 (inside w) pre.0.fewPins pre.1.1.0 (from_is w) (to_is w) (own_is w) (other-is w))
+    (gain-asks (N w) (file w) (get_or (start w).args.sides.now (file w) 0) pre.1.1.1.1.0 (inside w) pre.0.few_pins pre.1.1.0 (from_is w) (to_is w) (own_is w) (other-is w))
 
 mul-t17 : tie.Need-overflow-mul-t17 invariant-loop decreases-loop
-mul-t17 c = omega (arith, inside c.before.before, (start c.before.before).pre.0.fewFiles)
+mul-t17 c = omega (arith, inside c.before.before, (start c.before.before).pre.0.few_files)
 
 slice-set-from-gains : tie.Need-slice-set-from-gains invariant-loop decreases-loop
 slice-set-from-gains c = omega (arith, long c.before.before, inside c.before.before, (start c.before.before).pre.1.0.0)
 
 add-f : tie.Need-overflow-add-f invariant-loop decreases-loop
-add-f c = omega (arith, inside c.before.before, (start c.before.before).pre.0.fewFiles)
+add-f c = omega (arith, inside c.before.before, (start c.before.before).pre.0.few_files)
 
 loop-less : tie.Need-loop-smaller invariant-loop decreases-loop
 loop-less c = search rules

@@ -2,7 +2,7 @@
 use mathlib.Core.Path.{ap, ◌∙◌}
 use Prim.Native.Nat.{ℕ}
 use borrow.Author.Rules.{rules}
-use Rattle.tables.specs.Clearing.{clearedIn}
+use Rattle.tables.specs.Clearing.{cleared_in}
 use Rattle.tables.proofs.ending.end_moves.Statement.{statement}
 use Rattle.tables.proofs.ending.end_moves.Tie as tie
 
@@ -46,7 +46,7 @@ returns c =
       c.before.before.before.before.before.before.before.before.before.before.before.before.before.before.clear.ensures,
       c.before.before.before.before.before.before.before.before.before.before.clear-signed.ensures,
       c.before.before.before.before.before.before.before.clear2.ensures,
-      c.before.before.clear3.ensures ∙ ap (λ (i : ℕ). clearedIn i s.args.files 0 s.args.ends.now) c.before.before.before.shown.ensures,
+      c.before.before.clear3.ensures ∙ ap (λ (i : ℕ). cleared_in i s.args.files 0 s.args.ends.now) c.before.before.before.shown.ensures,
     )
 
 pub end-moves-spec : {M : Type 1} → statement M

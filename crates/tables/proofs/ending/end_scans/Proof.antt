@@ -2,7 +2,7 @@
 use mathlib.Core.Path.{ap, ap₂, ◌∙◌}
 use Prim.Native.Nat.{ℕ}
 use borrow.Author.Rules.{rules}
-use Rattle.tables.specs.Clearing.{clearedIn}
+use Rattle.tables.specs.Clearing.{cleared_in}
 use Rattle.tables.proofs.ending.end_scans.Statement.{statement}
 use Rattle.tables.proofs.ending.end_scans.Tie as tie
 
@@ -39,9 +39,9 @@ returns c =
     let scans = c.before.before.before.before.before.before.before.before.before.before.before.before.before.before.scans-for.ensures.0 in
     let numbers = c.before.before.before.before.before.before.before.before.before.before.before.before.before.numbers-for.ensures.0 in
     let from = c.before.before.before.before.before.before.before.before.before.before.before.before.shown.ensures in (
-      c.before.before.before.before.before.before.before.before.before.before.clear.ensures ∙ ap₂ (λ (i j : ℕ). clearedIn i j 0 s.args.recipes.now) from scans,
-      c.before.before.before.before.before.before.clear2.ensures ∙ ap₂ (λ (i j : ℕ). clearedIn i j 0 s.args.kinds.now) from scans,
-      c.before.before.clear3.ensures ∙ ap (λ (i : ℕ). clearedIn 0 i 0 s.args.scratch.now) numbers,
+      c.before.before.before.before.before.before.before.before.before.before.clear.ensures ∙ ap₂ (λ (i j : ℕ). cleared_in i j 0 s.args.recipes.now) from scans,
+      c.before.before.before.before.before.before.clear2.ensures ∙ ap₂ (λ (i j : ℕ). cleared_in i j 0 s.args.kinds.now) from scans,
+      c.before.before.clear3.ensures ∙ ap (λ (i : ℕ). cleared_in 0 i 0 s.args.scratch.now) numbers,
     )
 
 pub end-scans-spec : {M : Type 1} → statement M

@@ -6,15 +6,15 @@ use Prim.Native.Nat.{ℕ, ◌+◌, ◌*◌, ◌≤◌, ◌<◌, ◌^◌}
 use native.Mathlib.Omega.{arith}
 use lib.ListN.{length}
 use borrow.Author.Rules.{rules}
-use Rattle.rules.specs.Pass.{startGains}
+use Rattle.rules.specs.Pass.{start_gains}
 use Rattle.tables.specs.declared.zones.Zones.{Zones}
-use Rattle.tables.specs.Zones.{countsAt, extentOf, state_of, Counts}
+use Rattle.tables.specs.Zones.{counts_at, extent_of, state_of, Counts}
 use Rattle.tables.specs.Building.{read_of}
 use Rattle.tables.specs.Filling.{start_of}
 use Rattle.tables.specs.LayingOut.{Prepared}
 use Rattle.tables.proofs.Placing.{cells_fit}
 use Rattle.tables.proofs.Sides.{zones-are}
-use Rattle.tables.proofs.LentParts.{Begins, second-in, third-in, OneZone, TwoZones, ThreeZones, threeZones, locks-room, cells-room, counts-room, zones-long, zones-fit, zones-beyond, zones-locks, zones-starts, zones-spare, zones-cells, zones-counts}
+use Rattle.tables.proofs.LentParts.{Begins, second-in, third-in, OneZone, TwoZones, ThreeZones, three_zones, locks-room, cells-room, counts-room, zones-long, zones-fit, zones-beyond, zones-locks, zones-starts, zones-spare, zones-cells, zones-counts}
 use Rattle.tables.proofs.start.prepare.Statement.{statement}
 use Rattle.tables.proofs.start.prepare.Tie as tie
 
@@ -42,11 +42,11 @@ module _ (z : tie.After-zones-of) where
       record { cells = e.0; counts = e.2; end = ap (λ (i : ℕ). i + 4 * N) e.2 }
 
   -- they stand in the scratch, and are small numbers
-  fit : countsAt C P + 4 * N ≤ length s.args.scratch.now
+  fit : counts_at C P + 4 * N ≤ length s.args.scratch.now
   fit = omega (arith, s.pre.1.1.0, z.before.recipe-count.ensures)
 
-  few : countsAt C P + 4 * N < 2 ^ 32
-  few = omega (arith, z.before.recipe-count.ensures, s.pre.0.fewFiles, s.pre.0.fewPins, s.pre.0.fewRecipes)
+  few : counts_at C P + 4 * N < 2 ^ 32
+  few = omega (arith, z.before.recipe-count.ensures, s.pre.0.few_files, s.pre.0.few_pins, s.pre.0.few_recipes)
 
 -- ---- once each zone is filled
 
@@ -85,7 +85,7 @@ module _ (c : Whole) where
 
   abbrev scratch : List ℕ
   scratch =
-      threeZones (at z).cells (at z).counts ((at z).counts + 4 * N z) args.args.scratch.now (copied built).copy.last.0 built.build-cells.last.0 c.fill-counts.new.0
+      three_zones (at z).cells (at z).counts ((at z).counts + 4 * N z) args.args.scratch.now (copied built).copy.last.0 built.build-cells.last.0 c.fill-counts.new.0
 
   three-zones : ThreeZones (C z) (P z) (N z) (at z).cells (at z).counts ((at z).counts + 4 * N z) args.args.scratch.now (copied built).copy.last.0 built.build-cells.last.0 c.fill-counts.new.0
   three-zones = record { before = two-zones built; third = c.fill-counts.auto.0 }
@@ -94,7 +94,7 @@ module _ (c : Whole) where
   fits = cells_fit args.args.marks.now args.args.bounds.now args.args.pins.now (C z) args.pre.0
 
   prepared : (gains : List ℤ)
-      → gains ≡ startGains (read_of args.args.marks.now args.args.bounds.now args.args.pins.now) (C z) (state_of args.args.sides.now args.args.marks.now)
+      → gains ≡ start_gains (read_of args.args.marks.now args.args.bounds.now args.args.pins.now) (C z) (state_of args.args.sides.now args.args.marks.now)
       → Prepared args.args.bounds.now args.args.pins.now args.args.sides.now args.args.marks.now args.args.scratch.now scratch gains (N z)
   prepared gains e = record {
     locks = zones-locks three-zones ∙ (copied built).copy.ensures;
@@ -177,14 +177,14 @@ start-gains-requires c κs =
     let n = (z f).before.recipe-count.ensures in (
       pre.0,
       (
-        (pre.1.0.0, pre.1.0.1, ap (λ (i : ℕ). extentOf (C (z f)) i (P (z f))) n),
+        (pre.1.0.0, pre.1.0.1, ap (λ (i : ℕ). extent_of (C (z f)) i (P (z f))) n),
         (
           omega (arith, zones-fit (three-zones f), n),
           (
             pre.1.1.1,
             (
               zones-cells (three-zones f) (fits f) (built f).build-cells.ensures,
-              subst (λ (i : ℕ). Counts (read_of (args f).args.marks.now (args f).args.bounds.now (args f).args.pins.now) (state_of (args f).args.sides.now (args f).args.marks.now) (countsAt (C (z f)) (P (z f))) i (scratch f)) n (zones-counts (three-zones f) f.fill-counts.ensures),
+              subst (λ (i : ℕ). Counts (read_of (args f).args.marks.now (args f).args.bounds.now (args f).args.pins.now) (state_of (args f).args.sides.now (args f).args.marks.now) (counts_at (C (z f)) (P (z f))) i (scratch f)) n (zones-counts (three-zones f) f.fill-counts.ensures),
             ),
           ),
         ),

@@ -2,7 +2,7 @@
 use mathlib.Core.Path.{ap₂}
 use Prim.Native.Nat.{ℕ}
 use borrow.Author.Rules.{rules}
-use Rattle.tables.specs.Zones.{zonesOf}
+use Rattle.tables.specs.Zones.{zones_of}
 use Rattle.tables.proofs.zones.zones_of.Statement.{statement}
 use Rattle.tables.proofs.zones.zones_of.Tie as tie
 
@@ -22,7 +22,7 @@ add-t5 : tie.Need-overflow-add-t5
 add-t5 c = search rules
 
 returns : tie.Need-returns
-returns c = ap₂ zonesOf c.before.wide.ensures c.wide2.ensures
+returns c = ap₂ zones_of c.before.wide.ensures c.wide2.ensures
 
 pub zones-of-spec : {M : Type 1} → statement M
 zones-of-spec =

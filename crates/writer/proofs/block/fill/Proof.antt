@@ -6,9 +6,9 @@ use lib.ListN.{set, replicate}
 use Rattle.rules.specs.Lists.{up_to}
 use Rattle.rules.specs.Job.{Job}
 use Rattle.rules.specs.Stored.{kind_of}
-use Rattle.rules.specs.Writing.{jobValue}
+use Rattle.rules.specs.Writing.{job_value}
 use Rattle.rules.proofs.RoundTrip.{few-values}
-use Rattle.writer.specs.Filling.{jobWith, withWord, filled}
+use Rattle.writer.specs.Filling.{job_with, with_word, filled}
 use Rattle.writer.proofs.Filled.{filled_none, filled_more, filled-block}
 use borrow.Author.Rules.{rules}
 use Rattle.writer.proofs.block.fill.Statement.{statement}
@@ -16,7 +16,7 @@ use Rattle.writer.proofs.block.fill.Tie as tie
 
 abbrev invariant-loop : tie.invariant-loop
 invariant-loop block₀ h b sizes sides marks bounds pins n v₀ block v =
-    (v ≤ n) × (block ≡ filled b (kind_of h b) n (map (jobValue (jobWith h sizes sides marks bounds pins) b) (up_to v)))
+    (v ≤ n) × (block ≡ filled b (kind_of h b) n (map (job_value (job_with h sizes sides marks bounds pins) b) (up_to v)))
 
 abbrev decreases-loop : tie.decreases-loop
 decreases-loop block₀ h b sizes sides marks bounds pins n v₀ block v = n - v
@@ -43,8 +43,8 @@ loop-holds c =
     let a = s.args in
     let n : ℕ = c.before.before.before.values-in.result in (
       omega arith,
-      ap (λ (t : List ℕ). set (set t 2 c.kind-of.result) 3 n) (c.before.put_word.ensures ∙ ap (λ (t : List ℕ). withWord t 0 a.b) s.requires.0)
-          ∙ ap (λ (k : ℕ). set (set (withWord (replicate 512 0) 0 a.b) 2 k) 3 n) c.kind-of.ensures
+      ap (λ (t : List ℕ). set (set t 2 c.kind-of.result) 3 n) (c.before.put_word.ensures ∙ ap (λ (t : List ℕ). with_word t 0 a.b) s.requires.0)
+          ∙ ap (λ (k : ℕ). set (set (with_word (replicate 512 0) 0 a.b) 2 k) 3 n) c.kind-of.ensures
           ∙ filled_none a.b (kind_of a.h a.b) n,
     )
 
@@ -73,13 +73,13 @@ loop-again : tie.Need-loop-preserved invariant-loop decreases-loop
 loop-again c =
     let a = c.before.before.before.before.before.before.before.before.before.before.before.before.before.before.args in
     let l = c.before.before.before.before.loop in
-    let job : Job = jobWith a.h a.sizes.now a.sides.now a.marks.now a.bounds.now a.pins.now in
+    let job : Job = job_with a.h a.sizes.now a.sides.now a.marks.now a.bounds.now a.pins.now in
     let n : ℕ = c.before.before.before.before.before.before.before.before.values-in.result in
     let x : ℕ = c.before.before.job-value.result in (
       omega arith,
       c.put-word2.ensures
-          ∙ ap (λ (t : List ℕ). withWord t (4 + 2 * l.v) x) l.invariant.1
-          ∙ filled_more a.b (kind_of a.h a.b) n (jobValue job a.b) l.v x (omega (arith, few-values a.h a.b)) c.before.before.job-value.ensures,
+          ∙ ap (λ (t : List ℕ). with_word t (4 + 2 * l.v) x) l.invariant.1
+          ∙ filled_more a.b (kind_of a.h a.b) n (job_value job a.b) l.v x (omega (arith, few-values a.h a.b)) c.before.before.job-value.ensures,
     )
 
 check-of-requires : tie.Need-check-of-requires invariant-loop decreases-loop
@@ -93,13 +93,13 @@ returns c =
     let s = c.before.before.before.before.before.before.before.before.before.before.before.before.before.before.before in
     let a = s.args in
     let l = c.before.before.before.before.before.loop in
-    let job : Job = jobWith a.h a.sizes.now a.sides.now a.marks.now a.bounds.now a.pins.now in
+    let job : Job = job_with a.h a.sizes.now a.sides.now a.marks.now a.bounds.now a.pins.now in
     let n : ℕ = c.before.before.before.before.before.before.before.before.before.values-in.result in
     let e : l.v ≡ n = omega arith in
     c.put-word3.ensures
-    ∙ ap (λ (x : ℕ). withWord l.block 510 x) c.before.before.check-of.ensures
+    ∙ ap (λ (x : ℕ). with_word l.block 510 x) c.before.before.check-of.ensures
     ∙ filled-block a.h job a.b n s.requires.1.header c.before.before.before.before.before.before.before.before.before.values-in.ensures l.block
-    (l.invariant.1 ∙ ap (λ (k : ℕ). filled a.b (kind_of a.h a.b) n (map (jobValue job a.b) (up_to k))) e)
+    (l.invariant.1 ∙ ap (λ (k : ℕ). filled a.b (kind_of a.h a.b) n (map (job_value job a.b) (up_to k))) e)
 
 pub fill_spec : {M : Type 1} → statement M
 fill_spec =

@@ -4,10 +4,10 @@ use native.Mathlib.Omega.{arith}
 use lib.ListN.{get_or}
 use Rattle.rules.specs.declared.Header.{Header}
 use Rattle.rules.specs.Job.{Job, bound, pin}
-use Rattle.rules.specs.Stored.{boundsAt, pinsAt}
-use Rattle.rules.specs.Writing.{headerFor, headerFigures, fileValue, jobValue}
+use Rattle.rules.specs.Stored.{bounds_at, pins_at}
+use Rattle.rules.specs.Writing.{header_for, header_figures, file_value, job_value}
 use Rattle.rules.proofs.RoundTrip.{figure-at, file-at, bound_at, pin_at}
-use Rattle.writer.specs.Filling.{jobWith}
+use Rattle.writer.specs.Filling.{job_with}
 use borrow.Author.Rules.{rules}
 use Rattle.writer.proofs.values.job_value.Statement.{statement}
 use Rattle.writer.proofs.values.job_value.Tie as tie
@@ -19,9 +19,9 @@ returns : tie.Need-returns
 returns c =
     let s = c.before.before.before.before.before.before.before in
     let a = s.args in
-    let job : Job = jobWith a.h a.sizes.now a.sides.now a.marks.now a.bounds.now a.pins.now in
+    let job : Job = job_with a.h a.sizes.now a.sides.now a.marks.now a.bounds.now a.pins.now in
     let e = s.requires.header in
-    c.figure.ensures ∙ ap (λ (k : Header). get_or (headerFigures k) a.v 0) e ∙ sym (ap (λ (b : ℕ). jobValue job b a.v) c.before.if1.true ∙ figure-at job a.v)
+    c.figure.ensures ∙ ap (λ (k : Header). get_or (header_figures k) a.v 0) e ∙ sym (ap (λ (b : ℕ). job_value job b a.v) c.before.if1.true ∙ figure-at job a.v)
 
 bounds-at-requires : tie.Need-bounds-at-requires
 bounds-at-requires c κs = search rules
@@ -48,11 +48,11 @@ returns-2 : tie.Need-returns-2
 returns-2 c =
     let s = c.before.before.before.before.before.before.before.before.before.before in
     let a = s.args in
-    let job : Job = jobWith a.h a.sizes.now a.sides.now a.marks.now a.bounds.now a.pins.now in
+    let job : Job = job_with a.h a.sizes.now a.sides.now a.marks.now a.bounds.now a.pins.now in
     let e = s.requires.header in
     c.file-value.ensures
-    ∙ ap (λ (k : ℕ). fileValue job (126 * k + a.v / 2) (a.v % 2)) c.before.wide.ensures
-    ∙ sym (file-at job a.b a.v (omega arith) (omega (arith, ap boundsAt e)))
+    ∙ ap (λ (k : ℕ). file_value job (126 * k + a.v / 2) (a.v % 2)) c.before.wide.ensures
+    ∙ sym (file-at job a.b a.v (omega arith) (omega (arith, ap bounds_at e)))
 
 pins-at-requires : tie.Need-pins-at-requires
 pins-at-requires c κs = search rules
@@ -73,12 +73,12 @@ returns-3 : tie.Need-returns-3
 returns-3 c =
     let s = c.before.before.before.before.before.before.before.before.before.before.before.before in
     let a = s.args in
-    let job : Job = jobWith a.h a.sizes.now a.sides.now a.marks.now a.bounds.now a.pins.now in
+    let job : Job = job_with a.h a.sizes.now a.sides.now a.marks.now a.bounds.now a.pins.now in
     let e = s.requires.header in
-    let k : c.before.wide2.result ≡ a.b - boundsAt (headerFor job) = omega (arith, ap boundsAt e) in
+    let k : c.before.wide2.result ≡ a.b - bounds_at (header_for job) = omega (arith, ap bounds_at e) in
     c.entry_at.ensures
     ∙ ap (λ (k : ℕ). bound job (253 * k + a.v)) k
-    ∙ sym (bound_at job a.b a.v (omega (arith, ap boundsAt e)) (omega (arith, ap pinsAt e)))
+    ∙ sym (bound_at job a.b a.v (omega (arith, ap bounds_at e)) (omega (arith, ap pins_at e)))
 
 wide-requires-3 : tie.Need-wide-requires-3
 wide-requires-3 c κs = search rules
@@ -96,12 +96,12 @@ returns-4 : tie.Need-returns-4
 returns-4 c =
     let s = c.before.before.before.before.before.before.before.before.before.before.before.before in
     let a = s.args in
-    let job : Job = jobWith a.h a.sizes.now a.sides.now a.marks.now a.bounds.now a.pins.now in
+    let job : Job = job_with a.h a.sizes.now a.sides.now a.marks.now a.bounds.now a.pins.now in
     let e = s.requires.header in
-    let k : c.before.wide3.result ≡ a.b - pinsAt (headerFor job) = omega (arith, ap pinsAt e) in
+    let k : c.before.wide3.result ≡ a.b - pins_at (header_for job) = omega (arith, ap pins_at e) in
     c.entry-at2.ensures
     ∙ ap (λ (k : ℕ). pin job (253 * k + a.v)) k
-    ∙ sym (pin_at job a.b a.v (omega (arith, ap pinsAt e)))
+    ∙ sym (pin_at job a.b a.v (omega (arith, ap pins_at e)))
 
 pub job-value-spec : {M : Type 1} → statement M
 job-value-spec =

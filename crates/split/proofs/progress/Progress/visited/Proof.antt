@@ -1,7 +1,7 @@
 -- `Progress::visited` meets its contract. Assumes nothing.
 use mathlib.Core.Path.{refl}
 use borrow.Author.Rules.{rules}
-use Rattle.split.specs.Scanning.{visitedBy}
+use Rattle.split.specs.Scanning.{visited_by}
 use Rattle.split.proofs.progress.Progress.visited.Statement.{statement}
 use Rattle.split.proofs.progress.Progress.visited.Tie as tie
 
@@ -12,7 +12,7 @@ add-self-2 : tie.Need-overflow-add-self-2
 add-self-2 c = search rules
 
 returns : tie.Need-returns
-unfolding visitedBy
+unfolding visited_by
 returns c = refl
 
 pub visited-spec : {M : Type 1} → statement M
