@@ -1,8 +1,8 @@
 """Calls of the balancing, of which the program `job_cases` prints the answers.
 
 tests/job_cases.py writes them behind its own cases. A case is a heading with its name, and
-then the frames of a call: the letter `b`, the figures num, den, k, the lists sizes, sides,
-marks, bounds, pins, and the scratch as it is before the call. It is lent these lists,
+then the frames of a call: the letter `b`, the figures num, den, cap, k, the lists sizes,
+sides, marks, bounds, pins, and the scratch as it is before the call. It is lent these lists,
 each exactly as long as its frame says. Four lines are printed of it:
 
     1  the name
@@ -24,23 +24,20 @@ from job_cases import (
     EMPTY_VAULTS,
     FAULTS,
     FROM_7_ON,
-    GONE,
-    LARGE,
-    OLDER_FAULTS,
     UNREAD_FILES,
     UP_TO_6,
     figures_and_lists,
 )
-from make_cases import LAST_FREE, SEED, bad_starts, large, most
+from make_cases import LAST_FREE, SEED, bad_starts, large
 from program_files import frame, heading, numbers
 
 import planner
 import samples
-from planner import A, B, FREE, PINNED, UNREAD
+from planner import A, B, FREE, MOST_FILES, PINNED, UNREAD
 
 # The most numbers of any list but the scratch, and of a scratch.
-MOST = planner.MOST_PINS + 1
-MOST_SCRATCH = planner.scratch_numbers(most(), 2) + 16
+MOST = 4097
+MOST_SCRATCH = 12320
 
 IN_A = CHAIN.changed(sides=[A] * 4)
 IN_B = CHAIN.changed(sides=[B] * 4)
@@ -70,24 +67,20 @@ def called(name, *jobs):
     for k, job in enumerate(jobs):
         if isinstance(job, str):
             name = job
-        elif job is not GONE:
+        else:
             yield Call(f"{name}, {k}", job, scratch_of(job))
 
 
 def scratch_of(job):
-    """Of a job that 1 or 2 refuse, whatever its scratch, a short one; also of one that 2
-    refused before order 11, so that its call is as it was."""
+    """Of a job that 1 or 2 refuse, whatever its scratch, a short one."""
     number, _ = planner.refusal(job, True, 2)
-    larger = job.files > LARGE.files or len(job.pins) > len(LARGE.pins)
-    return used(3) if number or larger else lent(job)
+    return used(3) if number else lent(job)
 
 
 def short(*cases):
     """Without the jobs that need a long scratch, of which `largest` has some."""
     return [
-        case
-        for case in cases
-        if case is GONE or isinstance(case, str) or len(scratch_of(case)) < 600
+        case for case in cases if isinstance(case, str) or len(scratch_of(case)) < 600
     ]
 
 
@@ -118,7 +111,7 @@ def wrong_lengths(field, *lengths):
 # As job_cases has them, but no assignment of the free files is balanced: 9 of 12 are
 # pinned in A.
 BALANCE_FAULTS = {
-    **OLDER_FAULTS,
+    **FAULTS,
     9: {"sizes": [9, 1, 1, 1], "sides": [A, B, B, B], "marks": [PINNED, 0, 0, 0]},
 }
 
@@ -247,10 +240,9 @@ def vault_randoms():
 
 def past_10(calls):
     """What these calls showed before order 8 where 10 now hides it, each past 10 with a
-    scratch as much longer than it must be. One has 1,024 files, which were the most, and is
-    below."""
+    scratch as much longer than it must be. One has 1,024 files, and is below."""
     for name, job, scratch in calls:
-        if planner.balance(job, scratch).number == 10 and job.files < LARGE.files:
+        if planner.balance(job, scratch).number == 10 and job.files < MOST_FILES:
             step = len(scratch) - planner.scratch_numbers(job)
             past = samples.past_10(job)
             yield Call(f"{name}, past 10", past, lent(past, step))
@@ -262,22 +254,6 @@ def largest_past_10():
     yield from off("large, all but three unread", job, 0)
 
 
-def more_files():
-    """Order 11: the largest job, all in A and all in B, with sizes that differ and with unread
-    files; 2 as it is given now; the longest scratch."""
-    for side in (A, B):
-        job = most(sides=[side] * 2048)
-        yield from off(f"most, all in {'AB'[side]}", job, -1, 0)
-    sizes = [65535 - 31 * i for i in range(2048)]
-    marks = [FREE, PINNED, FREE, UNREAD] * 512
-    job = most(sizes=sizes, sides=[A] * 2048, marks=marks, num=499, den=1000, k=2)
-    yield from off("most, of every mark", job, 0)
-    for other in (3, 4, 8, 9):
-        job = IN_A.changed(**{**BALANCE_FAULTS[other], **FAULTS[2]})
-        yield Call(f"2 as raised and fault {other}", job, scratch_of(job))
-    yield from of_lengths("chain in A", IN_A, MOST_SCRATCH)
-
-
 # ---- The cases
 
 OLDER_CASES = (
@@ -285,7 +261,7 @@ OLDER_CASES = (
     *called("two and three files", samples.two_files(), samples.three_files()),
     *of_samples(),
     # Of 50 numbers: none, some, one less, all, one more, many more.
-    *of_lengths("chain in A", IN_A, 0, 1, 34, 38, 49, 50, 51, 66, 1000, 12320),
+    *of_lengths("chain in A", IN_A, 0, 1, 34, 38, 49, 50, 51, 66, 1000, MOST_SCRATCH),
     *of_lengths("chain in B", IN_B, 0, 49, 50, 51),
     *of_lengths("balanced chain", CHAIN, 0, 49, 50, 51),
     *wrong_lengths("sides", 0, 1, 3, 5, 8),
@@ -315,7 +291,6 @@ CASES = (
     *vault_randoms(),
     *past_10(OLDER_CASES),
     *largest_past_10(),
-    *more_files(),
 )
 
 

@@ -38,28 +38,25 @@ import sys
 import tempfile
 from typing import NamedTuple
 
-from make_cases import SEED, large, most, one_recipe, row, wide
+from make_cases import SEED, large, one_recipe, row, wide
 from program_files import frame, heading, keep, numbers
 
 import faults
 import planner
 import samples
 from mill import mill
-from planner import A, B, PINNED, UNREAD
-from samples import CAPS, cap_of, capped, stored, without_cap
+from planner import A, B, PINNED, UNREAD, write_job
 
 # What each record of a lent list is before the call.
 FILLED = (165, 165, 165, 165)
 # The most records of a lent list, and the most bytes of a stored job in a frame.
-MOST_LENT = planner.MOST_DIFFERENCES + 10
-MOST_BYTES = 57 * planner.BLOCK
+MOST_LENT = planner.MOST_DIFFERENCES + 9
+MOST_BYTES = 20000
 
 CHAIN = samples.chain()
 OTHER = samples.all_kinds()[1]
-# Last night's chain and tonight's, in all that can differ: 14 records. Before order 13 tonight's
-# had a cap, and there were 15.
-NIGHTS = stored(CHAIN), stored(capped(OTHER, 1))
-SINCE_13 = stored(CHAIN), stored(OTHER)
+# Last night's chain and tonight's, in all that can differ: 15 records.
+NIGHTS = write_job(CHAIN), write_job(OTHER)
 
 
 class Call(NamedTuple):
@@ -73,12 +70,9 @@ class Call(NamedTuple):
 
 
 def needed(old, new):
-    """How many records two stored jobs need, or 0 where one is refused. Of two from before
-    order 13 it is what they needed then, when their caps were compared."""
-    bare = without_cap(old), without_cap(new)
-    *_, count, _ = planner.compare(*bare, [])
-    capped_ones = bare != (old, new) and cap_of(old) != cap_of(new)
-    return count + capped_ones
+    """How many records two stored jobs need, or 0 where one is refused."""
+    *_, count, _ = planner.compare(old, new, [])
+    return count
 
 
 def of_lengths(name, old, new, *lengths):
@@ -96,7 +90,7 @@ def off(name, old, new, *steps):
 
 
 def jobs_off(name, old, new, *steps):
-    return off(name, stored(old), stored(new), *steps)
+    return off(name, write_job(old), write_job(new), *steps)
 
 
 # ---- The cases
@@ -104,14 +98,14 @@ def jobs_off(name, old, new, *steps):
 
 def by_hand():
     """Those of samples.py: just enough room, too little, and the other way round."""
-    for name, (old, new) in samples.compared_before_13().items():
+    for name, (old, new, _) in samples.compared_jobs().items():
         yield from jobs_off(name, old, new, -1, 0)
         yield from jobs_off(f"{name} turned", new, old, 2)
 
 
 def lists():
     """Every length up to what is needed, and beyond it."""
-    yield from of_lengths("all kinds", *NIGHTS, *range(18), 255, 256, 4103, 4112)
+    yield from of_lengths("all kinds", *NIGHTS, *range(18), 255, 256, 4103, MOST_LENT)
     chain, _ = NIGHTS
     yield from of_lengths("the chain with itself", chain, chain, 0, 1, 5, 4103)
 
@@ -134,18 +128,11 @@ def all_k():
         yield from jobs_off(f"k {old} and k {new}", *jobs, 0)
 
 
-def with_figure(field, figure):
-    """The chain with another figure of the header, which was the cap before order 13."""
-    if field == "cap":
-        return capped(CHAIN, figure)
-    return CHAIN.changed(**{field: figure})
-
-
 def ends_of_numbers():
     """Figures that differ in the low byte alone, in the high one, and by all."""
     for low, high in ((255, 256), (1, 257), (256, 512), (65279, 65535), (1, 65535)):
         for field in ("num", "den", "cap"):
-            jobs = (with_figure(field, figure) for figure in (low, high))
+            jobs = (CHAIN.changed(**{field: figure}) for figure in (low, high))
             yield from jobs_off(f"{field} {low} and {high}", *jobs, 0)
         jobs = (CHAIN.changed(sizes=[1, 1, 1, size]) for size in (low, high))
         yield from jobs_off(f"size {low} and {high}", *jobs, 0)
@@ -163,12 +150,12 @@ def sides_and_marks():
 
 def stored_faults():
     """Each refusal of the reader, by name, in the order of its checks."""
-    chain = stored(CHAIN)
+    chain = write_job(CHAIN)
     found = {f"{length} bytes": chain[:length] for length in (0, 1, 511, 512, 2047)}
     found["2049 bytes"] = chain + b"\0"
-    found["20000 bytes"] = chain.ljust(20000, b"\0")
+    found["20000 bytes"] = chain.ljust(MOST_BYTES, b"\0")
     found["zeros"] = bytes(512)
-    for fault in faults.before_11(faults.IN_ORDER):
+    for fault in faults.IN_ORDER:
         (number, place), _ = fault
         if number not in (7, 8, 9):
             found[f"{number} at {place}"] = faults.stored_chain([fault])
@@ -198,8 +185,8 @@ def read_up_to_6():
     for fault in (*faults.IN_ORDER[-3:], faults.EMPTY_VAULT):
         (number, _), _ = fault
         data = faults.stored_chain([fault])
-        yield from off(f"{number} in job 2", stored(CHAIN), data, -1, 0, 1)
-        yield from off(f"{number} in job 1", data, stored(CHAIN), 0)
+        yield from off(f"{number} in job 2", write_job(CHAIN), data, -1, 0, 1)
+        yield from off(f"{number} in job 1", data, write_job(CHAIN), 0)
 
 
 def blocks_of_a_kind():
@@ -244,7 +231,7 @@ def nights():
     ):
         after = job.changed(sides=planner.all_passes(job)[-1].sides)
         yield from jobs_off(f"{name} and its night", job, after, -1, 0)
-    old = stored(mill())
+    old = write_job(mill())
     new, _ = planner.balance_stored(old)
     yield from off("mill and its start", old, new, 0)
     at_53 = mill().changed(num=53, den=100)
@@ -270,19 +257,12 @@ def randoms():
         last = job
 
 
-def most_different(*shape):
-    """The two as they were before order 13, with a cap in the first."""
-    old, new = samples.most_different(*shape)
-    return stored(capped(old, 65533)), stored(new)
-
-
 def largest():
-    """The most records before order 11, and single changes at the ends of what was the largest
-    job."""
-    old, new = most_different(1024, 4)
+    """The most records, and single changes at the ends of the largest job."""
+    old, new = map(write_job, samples.most_different())
     yield from off("all of the largest", old, new, -4103, -4102, -1, 0, 1, 9)
     yield from off("all of the largest turned", new, old, 0)
-    small = stored(samples.two_files().changed(sides=[A, A]))
+    small = write_job(samples.two_files().changed(sides=[A, A]))
     yield from off("the largest and two files", old, small, -1, 0)
     yield from off("two files and the largest", small, old, 0)
     yield from off("the largest with itself", old, old, 0, 1)
@@ -306,68 +286,6 @@ def largest():
     yield from of_lengths("last block of job 2", new, damaged, 4103)
 
 
-def more_files():
-    """Order 11: the most records, single changes at the ends of the largest job, a job of 1,800
-    files beside one of 1,024, and 2 as it is given now, as job 1's and as job 2's."""
-    old, new = most_different()
-    yield from off("all of the most", old, new, -7175, -1, 0, 9)
-    yield from off("all of the most turned", new, old, 0)
-    yield from off("the most with itself", old, old, 0)
-    job = most()
-    for name, fields in (
-        ("size", {"sizes": samples.put(job.sizes, 2047, 65535)}),
-        ("side", {"sides": samples.put(job.sides, 2047, A)}),
-        ("mark", {"marks": samples.put(job.marks, 2047, UNREAD)}),
-        ("pins", {"pins": (*job.pins[:8190], 2047, 2046)}),
-    ):
-        yield from jobs_off(f"last {name} of the most", job, job.changed(**fields), 0)
-    yield from jobs_off("1800 files and 1024", wide(1800), wide(1024), -1, 0)
-    chain, other = NIGHTS
-    damaged = old[:-1] + bytes([old[-1] ^ 1])
-    two = faults.stored_chain([fault for fault in faults.IN_ORDER if fault[0] == (2, 0)])
-    more = stored(wide(2049))
-    for name, data in (("last block of the most", damaged), ("2 as raised", two), ("2049 files", more)):
-        yield from of_lengths(f"{name}, job 1", data, other, 3)
-        yield from of_lengths(f"{name}, job 2", chain, data, 3)
-    yield from of_lengths("all kinds, the longest list", *NIGHTS, MOST_LENT)
-
-
-def with_caps():
-    """Order 13: each cap in job 1, in job 2, in both, and beside each other refusal of the
-    reader, as job 1's and as job 2's."""
-    chain, other = SINCE_13
-    caps = [(cap, stored(capped(CHAIN, cap))) for cap in CAPS]
-    for cap, data in caps:
-        yield from of_lengths(f"job 1 has cap {cap}", data, other, 0, 14)
-        yield from of_lengths(f"job 2 has cap {cap}", chain, data, 0, 14)
-        yield from of_lengths(f"both have cap {cap}", data, data, 0, 3)
-        wider = stored(capped(CHAIN.changed(k=4), cap))
-        yield from of_lengths(f"job 1 has cap {cap} at k 4", wider, other, 14)
-        yield from of_lengths(f"job 2 has cap {cap} at k 4", chain, wider, 14)
-    for (cap, data), (another, more) in zip(caps, caps[1:] + caps[:1]):
-        yield from of_lengths(f"caps {cap} and {another}", data, more, 3)
-    for (name, bad), (cap, data) in zip(stored_faults().items(), itertools.cycle(caps)):
-        yield from of_lengths(f"job 1 has cap {cap}, job 2 {name}", data, bad, 3)
-        yield from of_lengths(f"job 1 has {name}, job 2 cap {cap}", bad, data, 3)
-
-
-def without_caps(older):
-    """What these showed before order 13 where 23 now hides it: the same two jobs without their
-    caps, with a list that is off by as much, unless there is such a case already."""
-    lengths = (*range(17), 255, 256, planner.MOST_DIFFERENCES, MOST_LENT)
-    held = {(case.old, case.new, case.length) for case in older}
-    found = list(of_lengths("all kinds without cap", *SINCE_13, *lengths))
-    for case in older:
-        bare = without_cap(case.old), without_cap(case.new)
-        length = case.length - needed(case.old, case.new) + needed(*bare)
-        if answer(case)[1] == planner.NOT_ZERO and length >= 0:
-            found.append(Call(f"{case.name}, without cap", *bare, length))
-    for case in found:
-        if (case.old, case.new, case.length) not in held:
-            held.add((case.old, case.new, case.length))
-            yield case
-
-
 GROUPS = (
     by_hand,
     lists,
@@ -382,8 +300,9 @@ GROUPS = (
     nights,
     randoms,
     largest,
-    more_files,
 )
+
+CASES = tuple(itertools.chain.from_iterable(group() for group in GROUPS))
 
 
 # ---- What the program reads, and what it must write
@@ -402,10 +321,6 @@ def kept(before, after):
 
 def answer(case):
     return planner.compare(case.old, case.new, [FILLED] * case.length)
-
-
-BEFORE_13 = tuple(itertools.chain.from_iterable(group() for group in GROUPS))
-CASES = (*BEFORE_13, *without_caps(BEFORE_13), *with_caps())
 
 
 def first_line(case):
@@ -496,13 +411,12 @@ def see_nothing_left_out():
         if number == 0
         for record in after[:count]
     ]
-    # Order 13: 6, the cap, can differ no more.
-    assert {what for what, *_ in records} == set(range(1, 12)) - {6}, "kinds"
+    assert {what for what, *_ in records} == set(range(1, 12)), "kinds"
     given = {(job, number) for _, (job, number, *_) in answers}
-    numbers_given = {1, 2, 4, 5, 6, 20, 21, 22, 23}
+    numbers_given = {1, 2, 4, 5, 6, 20, 21, 22}
     expected = {(0, 0), (0, 30), *itertools.product((1, 2), numbers_given)}
     assert given == expected, "refusals"
-    assert max(count for _, (*_, count, _) in answers) == planner.MOST_DIFFERENCES, "the most records"
+    assert max(count for _, (*_, count, _) in answers) == 4103, "the most records"
     off_by = {case.length - told[3] for case, told in answers if told[0] == 0}
     assert {-1, 0, 1} <= off_by, "lists"
     assert any(case.length == 0 and told[3] for case, told in answers), "no room"
@@ -556,7 +470,7 @@ def compare(program):
             new.write_bytes(new_bytes)
             if not agrees(program, old, new):
                 wrong.append(name)
-        old.write_bytes(stored(CHAIN))
+        old.write_bytes(write_job(CHAIN))
         for files in ((gone, old), (old, gone), (gone, gone), (old, old)):
             if not agrees(program, *files):
                 wrong.append(" and ".join(file.name for file in files))

@@ -4,7 +4,7 @@
     python3 tests/job_cases.py --write    writes both, and those of `balance`
 
 A case is a heading, a job, or a view; behind them stand the calls of the balancing that
-tests/balance_cases.py has. A job is the letter `j`, the figures num, den, k, and the
+tests/balance_cases.py has. A job is the letter `j`, the figures num, den, cap, k, and the
 lists sizes, sides, marks, bounds, pins. The answers are the reference's. Of a job one line
 is printed: number and place of its check; number, place, cut, |A|, unread files and recipes
 that hold one, of its measure.
@@ -13,7 +13,7 @@ that hold one, of its measure.
 import sys
 from typing import NamedTuple
 
-from make_cases import LAST_FREE, large, most, with_pins
+from make_cases import LAST_FREE, large
 from program_files import frame, heading, keep, numbers
 
 import planner
@@ -24,18 +24,11 @@ TOP = 2**64 - 1
 
 CHAIN = samples.chain()
 FLIPPED = CHAIN.changed(sides=[1, 0, 1, 0])
-# The largest job before order 11, its pins in recipes of four, and in four recipes; and the
-# largest since.
+# The largest job, its pins in recipes of four, and in four recipes.
 LARGE = large(4)
 LONG = large(1024)
-MOST = most()
 # As LAST_FREE: one pinned in A, one in B, and the first file is free.
 FIRST_FREE = [FREE, *[UNREAD] * 5, PINNED, *[UNREAD] * 4, PINNED, *[UNREAD] * 1012]
-
-
-# The place of a call that order 13 made the same as another. Those behind it are numbered as they
-# were.
-GONE = None
 
 
 class View(NamedTuple):
@@ -45,12 +38,6 @@ class View(NamedTuple):
 
 
 # ---- Ways to make cases, each of one row after the other
-
-
-def jobs_of(named):
-    """The jobs of samples.py by name, each of which is the last of what is told of it. One that
-    is named for its cap is without it the same as another."""
-    return [GONE if "capped" in name else job for name, (*_, job) in named.items()]
 
 
 def chains(field, *lists):
@@ -105,11 +92,10 @@ def heavy_first(*rows, size=1023):
     ]
 
 
-# A fault of each number; that of 1 is one of 4 too, and that of 2 one of 5. Before order 11
-# that of 2 had fewer pins, and the calls from before have it still: they are of 4 and 5 now.
+# A fault of each number; that of 1 is one of 4 too, and that of 2 one of 5.
 FAULTS = {
     1: {"bounds": [1]},
-    2: {"pins": [0] * 8193},
+    2: {"pins": [0] * 4097},
     3: {"marks": [0, 0, 0]},
     4: {"bounds": [1, 2, 4, 6]},
     5: {"pins": [0, 1, 2, 4, 1, 2]},
@@ -120,14 +106,11 @@ FAULTS = {
 }
 
 
-OLDER_FAULTS = {**FAULTS, 2: {"pins": [0] * 4097}}
-
-
-def faulty(*numbers, given=OLDER_FAULTS, **fields):
+def faulty(*numbers, **fields):
     """The chain with these faults, and with these fields put anew."""
     job = CHAIN.changed(**fields)
     for number in numbers:
-        job = job.changed(**given[number])
+        job = job.changed(**FAULTS[number])
     return job
 
 
@@ -153,10 +136,9 @@ def part_views(*rows):
 # Calls that pass check 6, and those that meet a refusal up to there.
 UP_TO_6 = (
     "done",
-    # Before order 13 it stood here with caps of 1 and 65,535 too.
     CHAIN,
-    GONE,
-    GONE,
+    CHAIN.changed(cap=1),
+    CHAIN.changed(cap=65535),
     # The largest size, and a pinned file in each vault.
     CHAIN.changed(sizes=[65535, 1, 1, 65535], marks=[1, 0, 0, 1]),
     # Files 0 and 3 on no recipe; one file in every recipe.
@@ -382,7 +364,7 @@ LARGEST = (
 # Order 5. Those before it that have a mark of 2 were refused as 6.
 UNREAD_FILES = (
     "unread",
-    *jobs_of(samples.unread_jobs()),
+    *(job for _, _, _, job in samples.unread_jobs().values()),
     *(job for _, _, job in samples.unread_starts().values()),
     # One file of the chain, on either side; two, three and all, and pinned ones beside.
     *puts(CHAIN, "marks", *((file, UNREAD) for file in range(4))),
@@ -411,7 +393,7 @@ UNREAD_FILES = (
     samples.partial_chain(sides=[0, 1, 0, 2]),
     samples.partial_chain(pins=[0, 1, 3, 3, 1, 2]),
     # Faults of each other number; from 7 on the measure has its numbers.
-    *(samples.partial_chain(**OLDER_FAULTS[number]) for number in (1, 2, 4, 5, 6, 7, 9)),
+    *(samples.partial_chain(**FAULTS[number]) for number in (1, 2, 4, 5, 6, 7, 9)),
     samples.partial_chain(marks=[0, 2, 0]),
     samples.partial_chain(marks=[2, 2, 2, 2], num=0, sides=[0] * 4),
 )
@@ -426,7 +408,7 @@ WIDER_WINDOWS = (
         for kinds in (samples.edges, samples.fine_edges)
         for _, job in samples.at_each_wider(kinds).values()
     ),
-    *jobs_of(samples.wider_jobs()),
+    *(job for _, job in samples.wider_jobs().values()),
     # 1,023 of 1,024 files of 65,535 in A: the least num for that, and one less.
     *(
         job.changed(k=k)
@@ -435,7 +417,7 @@ WIDER_WINDOWS = (
     ),
     "k and a fault",
     # 7 stands after 6, and before 8 and 9.
-    *(faulty(number, k=5) for number in OLDER_FAULTS),
+    *(faulty(number, k=5) for number in FAULTS),
     # The same with a k that may be: 9 is none at 2.
     *(faulty(number, k=2) for number in (6, 7, 8, 9)),
     faulty(7, 8, 9, k=0),
@@ -489,13 +471,13 @@ OLDER_CASES = (
 # Order 8. Those before it that 10 refuses now stay, and are shown again past it.
 EMPTY_VAULTS = (
     "no 10",
-    *jobs_of(samples.vault_jobs()),
+    *(job for _, job in samples.vault_jobs().values()),
     "both halves at each k",
     *(job for _, job in samples.at_each_k(samples.vault_edges).values()),
     *(job for _, _, job in samples.at_each_k(samples.vault_starts).values()),
     "10 and a fault",
     # The chain, of which A is to hold a quarter: 10 stands after 8 and before 9.
-    *(faulty(number, den=4) for number in OLDER_FAULTS if number != 7),
+    *(faulty(number, den=4) for number in FAULTS if number != 7),
     *ratios((0, 4), (4, 4), (5, 4), (0, 0), (1, 1001)),
     *(faulty(number, num=3, den=4) for number in (6, 8)),
     CHAIN.changed(num=3, den=4, sides=[1, 1, 1, 1]),
@@ -516,7 +498,7 @@ EMPTY_VAULTS = (
 
 def past_10(cases):
     """What these calls showed before order 8 where 10 now hides it, behind a heading for
-    each of theirs. Those of 1,024 files had no room for more: they are below."""
+    each of theirs. Those of 1,024 files have no room for more: they are below."""
     section = None
     for case in cases:
         if isinstance(case, str):
@@ -529,7 +511,7 @@ def past_10(cases):
 
 
 def hidden_by_10(job):
-    return planner.check(job) == (10, 0) and job.files < LARGE.files
+    return planner.check(job) == (10, 0) and job.files < planner.MOST_FILES
 
 
 SHOWN_AGAIN = (
@@ -544,45 +526,7 @@ SHOWN_AGAIN = (
     LARGE.changed(marks=LAST_FREE),
 )
 
-# Order 11.
-MORE_FILES = (
-    "no 2, raised",
-    *lengths(
-        (1800, 1800, 1800, 2, 4),
-        (2047, 2047, 2047, 2, 4),
-        (2048, 2048, 2048, 2, 4),
-        (2049, 2049, 2049, 2, 4),
-        # Before 3, and after 1.
-        (2049, 4, 4, 2, 4),
-        (2049, 2049, 2049, 0, 4),
-    ),
-    *(with_pins(pins, length) for pins, length in ((4097, 4), (8191, 8), (8193, 8))),
-    *(faulty(2, other, given=FAULTS) for other in (3, 4, 6, 7, 8, 9)),
-    faulty(1, 2, given=FAULTS),
-    "the largest, raised",
-    MOST,
-    most(2048),
-    MOST.changed(sizes=[65535] * 2048, num=500, den=1000),
-    MOST.changed(sizes=[65535] * 2048, num=1, den=1000, k=4),
-    # |A| is 1,028 of 2,048 at k = 4, at the edge of the window, and one more.
-    *(MOST.changed(sides=[0] * (2 * a) + [0, 1] * (1024 - a), k=4) for a in (4, 5)),
-    # 4: the last recipe, the end. 5: C at the last position, and a repeat. 6: the last file.
-    *puts(MOST, "bounds", (1024, 8185), (1024, 8191), (1024, 8193), (1023, 8191)),
-    *puts(MOST, "pins", (8191, 2048), (8191, 2040), (8191, 2046), (8191, 2039)),
-    *puts(MOST, "sizes", (2047, 0), (2047, 65535)),
-    *puts(MOST, "sides", (2047, 2), (2047, 0)),
-    *puts(MOST, "marks", (2047, 3), (2047, UNREAD), (2047, PINNED)),
-    "large views, raised",
-    *views(MOST.bounds, MOST.pins, 0, 1023, 1024),
-    *views(MOST.bounds, MOST.pins[:8191], 1022, 1023),
-    *views(most(2048).bounds, MOST.pins, 3, 4),
-)
-
-CASES = tuple(
-    case
-    for case in OLDER_CASES + EMPTY_VAULTS + SHOWN_AGAIN + MORE_FILES
-    if case is not GONE
-)
+CASES = OLDER_CASES + EMPTY_VAULTS + SHOWN_AGAIN
 
 
 # ---- What the program reads, and what it must write
@@ -600,7 +544,7 @@ def framed(case):
 
 def figures_and_lists(job, *more):
     """Six frames of a job: its figures, with any more behind them, and its lists."""
-    figures = (job.num, job.den, job.k, *more)
+    figures = (job.num, job.den, job.cap, job.k, *more)
     lists = (figures, job.sizes, job.sides, job.marks, job.bounds, job.pins)
     return b"".join(map(numbers, lists))
 

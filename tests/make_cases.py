@@ -6,7 +6,7 @@
     python3 tests/make_cases.py --examples DIR   the same of the examples alone
     python3 tests/make_cases.py --program DIR    DIR/stdin and DIR/stdout of the program `cases`
     python3 tests/make_cases.py --check DIR      whether these are as made here, and whether the
-                     reports and the jobs show what orders 8 and 13 ask of them
+                     reports and the jobs show what order 8 asks of them
     python3 tests/make_cases.py --compare PROGRAM
                      run the program on every job and compare what it prints
     python3 tests/make_cases.py --compare-traces PROGRAM
@@ -33,18 +33,16 @@ import faults
 import planner
 import samples
 from mill import mill
-from planner import A, B, FREE, PINNED, UNREAD, make_block, write_values
+from planner import A, B, FREE, PINNED, UNREAD, make_block, write_job, write_values
 from program_files import frame
-from samples import CAPS, cap_of, capped, stored, with_cap, without_cap
 
 SEED = 1982
 
 
-# ---- Small jobs that more than one group uses. A cap is what a stored job had before order 13,
-# ---- and has still: it is refused as 23 then.
+# ---- Small jobs that more than one group uses
 
 
-def wide(files, cap=0, **fields):
+def wide(files, **fields):
     """So many files of size 1, A and B in turn, in one recipe of two."""
     job = planner.Job(
         sizes=[1] * files,
@@ -54,8 +52,9 @@ def wide(files, cap=0, **fields):
         pins=[0, 1],
         num=1,
         den=2,
+        cap=0,
     )
-    return capped(job.changed(**fields), cap)
+    return job.changed(**fields)
 
 
 def one_recipe(pins):
@@ -68,9 +67,8 @@ def row(files):
     return samples.in_a_row([], samples.in_turn(1, files))
 
 
-def large(length, cap=0, **fields):
-    """1,024 files in recipes of this length that go round them four times: before order 11
-    there could be no more files, and no more pins."""
+def large(length, **fields):
+    """1,024 files in recipes of this length that go round them four times."""
     job = planner.Job(
         sizes=[1] * 1024,
         sides=[i % 2 for i in range(1024)],
@@ -79,34 +77,13 @@ def large(length, cap=0, **fields):
         pins=[k % 1024 for k in range(4096)],
         num=1,
         den=2,
+        cap=0,
     )
-    return capped(job.changed(**fields), cap)
-
-
-def most(length=8, cap=0, **fields):
-    """As many files, recipes and pins as there may be: 2,048 files in recipes of this length
-    that go round them four times."""
-    job = planner.Job(
-        sizes=[1] * 2048,
-        sides=[i % 2 for i in range(2048)],
-        marks=[FREE] * 2048,
-        bounds=range(0, 8193, length),
-        pins=[k % 2048 for k in range(8192)],
-        num=1,
-        den=2,
-    )
-    return capped(job.changed(**fields), cap)
-
-
-def with_pins(pins, length):
-    """1,024 recipes of this length over 2,048 files, the last of them shorter or longer so
-    that there are so many pins."""
-    bounds = [*range(0, 1024 * length, length), pins]
-    return most(bounds=bounds, pins=[k % 2048 for k in range(pins)], cap=1)
+    return job.changed(**fields)
 
 
 def rising(**fields):
-    """1,024 files with sizes that differ by as much as they can."""
+    """The largest job with sizes that differ by as much as they can, under one pass."""
     sizes = [1 + 64 * i for i in range(1024)]
     return large(4, sizes=sizes, num=499, den=1000, cap=1, **fields)
 
@@ -116,38 +93,38 @@ def rising(**fields):
 
 def own_cases():
     """Those that document 01 gives."""
-    yield "chain", stored(samples.chain())
-    for cap in (1, 2, 65535):
-        yield f"chain_cap_{cap}", stored(capped(samples.chain(), cap))
-    yield "m5", stored(samples.two_files())
-    yield "m6", stored(samples.three_files())
+    yield "chain", write_job(samples.chain())
+    yield "chain_cap_1", write_job(samples.chain(cap=1))
+    yield "chain_cap_2", write_job(samples.chain(cap=2))
+    yield "chain_cap_65535", write_job(samples.chain(cap=65535))
+    yield "m5", write_job(samples.two_files())
+    yield "m6", write_job(samples.three_files())
     yield "m9", bytes(512)
 
 
 def limits():
-    """The most of each count before order 11 and one more, and the blocks that counts just
-    fill."""
-    yield "files_1024", stored(wide(1024))
-    yield "files_1025", stored(wide(1025))
-    yield "recipes_1024", stored(large(4))
-    yield "recipes_1025", stored(large(4, bounds=range(0, 4101, 4)))
-    yield "pins_4096_in_four", stored(large(1024, cap=1))
-    yield "pins_4097", stored(large(1024, pins=[0] * 4097))
+    """The most of each count and one more, and the blocks that counts just fill."""
+    yield "files_1024", write_job(wide(1024))
+    yield "files_1025", write_job(wide(1025))
+    yield "recipes_1024", write_job(large(4))
+    yield "recipes_1025", write_job(large(4, bounds=range(0, 4101, 4)))
+    yield "pins_4096_in_four", write_job(large(1024, cap=1))
+    yield "pins_4097", write_job(large(1024, pins=[0] * 4097))
     for files in (125, 126, 127, 252, 253):
-        yield f"files_{files}", stored(wide(files))
+        yield f"files_{files}", write_job(wide(files))
     # 253 and 254 bounds, and pins of 252, 254, 506 and 508.
     for files in (127, 128, 253, 254, 255):
-        yield f"row_of_{files}", stored(row(files))
+        yield f"row_of_{files}", write_job(row(files))
     for pins in (252, 253, 254, 506, 507, 1024):
-        yield f"one_recipe_of_{pins}", stored(one_recipe(pins))
-    yield "den_1000", stored(samples.chain().changed(num=500, den=1000))
-    yield "den_1001", stored(samples.chain().changed(num=500, den=1001))
-    yield "num_is_den", stored(samples.chain().changed(num=2))
-    yield "num_is_den_1000", stored(samples.chain().changed(num=1000, den=1000))
+        yield f"one_recipe_of_{pins}", write_job(one_recipe(pins))
+    yield "den_1000", write_job(samples.chain().changed(num=500, den=1000))
+    yield "den_1001", write_job(samples.chain().changed(num=500, den=1001))
+    yield "num_is_den", write_job(samples.chain().changed(num=2))
+    yield "num_is_den_1000", write_job(samples.chain().changed(num=1000, den=1000))
     # Products over 32 bits, and a walk in which each distance differs.
     heavy = large(4, sizes=[65535] * 1024, num=500, den=1000, cap=2)
-    yield "sizes_65535", stored(heavy)
-    yield "sizes_rising", stored(rising())
+    yield "sizes_65535", write_job(heavy)
+    yield "sizes_rising", write_job(rising())
 
 
 def refusals():
@@ -176,32 +153,32 @@ def refusals():
         ("end_above", [0, 2, 4, 7]),
         ("end_far_above", [0, 2, 4, 65535]),
     ):
-        yield f"no_4_{name}", stored(chain.changed(bounds=bounds))
-    yield "no_4_end_below", stored(chain.changed(pins=[0, 1, 2, 3, 1, 2, 3]))
-    yield "no_4_no_pins", stored(chain.changed(pins=[]))
+        yield f"no_4_{name}", write_job(chain.changed(bounds=bounds))
+    yield "no_4_end_below", write_job(chain.changed(pins=[0, 1, 2, 3, 1, 2, 3]))
+    yield "no_4_no_pins", write_job(chain.changed(pins=[]))
     for place, pins in (
         (0, [4, 1, 2, 3, 1, 2]),
         (1, [0, 0, 2, 3, 1, 2]),
         (3, [0, 1, 2, 65535, 1, 2]),
         (5, [0, 1, 2, 3, 1, 1]),
     ):
-        yield f"no_5_at_{place}", stored(chain.changed(pins=pins))
-    yield "no_5_not_across", stored(chain.changed(pins=[0, 1, 1, 0, 0, 1]))
+        yield f"no_5_at_{place}", write_job(chain.changed(pins=pins))
+    yield "no_5_not_across", write_job(chain.changed(pins=[0, 1, 1, 0, 0, 1]))
     for file in range(4):
         sizes = [0 if i == file else 1 for i in range(4)]
-        yield f"no_6_at_{file}", stored(chain.changed(sizes=sizes))
+        yield f"no_6_at_{file}", write_job(chain.changed(sizes=sizes))
     for num, den in ((0, 2), (3, 2), (0, 0), (1, 0), (1, 1), (65535, 65535)):
-        yield f"no_7_{num}_of_{den}", stored(chain.changed(num=num, den=den))
-    yield "no_8", stored(chain.changed(marks=[PINNED] * 4))
+        yield f"no_7_{num}_of_{den}", write_job(chain.changed(num=num, den=den))
+    yield "no_8", write_job(chain.changed(marks=[PINNED] * 4))
     for file in (0, 3):
         marks = [FREE if i == file else PINNED for i in range(4)]
-        yield f"free_{file}_alone", stored(chain.changed(marks=marks))
-    yield "no_9_all_in_a", stored(chain.changed(sides=[A] * 4))
-    yield "no_9_all_in_b", stored(chain.changed(sides=[B] * 4))
+        yield f"free_{file}_alone", write_job(chain.changed(marks=marks))
+    yield "no_9_all_in_a", write_job(chain.changed(sides=[A] * 4))
+    yield "no_9_all_in_b", write_job(chain.changed(sides=[B] * 4))
     # |A| is 2 of 4, and smax 1: balanced from a quarter up to three.
     for num, den in ((1, 4), (249, 1000), (3, 4), (751, 1000)):
         job = chain.changed(num=num, den=den)
-        yield f"edge_of_balance_{num}_of_{den}", stored(job)
+        yield f"edge_of_balance_{num}_of_{den}", write_job(job)
 
 
 def large_refusals():
@@ -209,25 +186,25 @@ def large_refusals():
     for place, bound in ((512, 2045), (1023, 4095), (1024, 4095), (1024, 65535)):
         bounds = list(range(0, 4097, 4))
         bounds[place] = bound
-        yield f"large_no_4_{place}_{bound}", stored(large(4, bounds=bounds))
+        yield f"large_no_4_{place}_{bound}", write_job(large(4, bounds=bounds))
     for place, pin in ((253, 1024), (4095, 1024), (4095, 1020), (4095, 1022)):
         pins = [k % 1024 for k in range(4096)]
         pins[place] = pin
-        yield f"large_no_5_{place}_{pin}", stored(large(4, pins=pins))
+        yield f"large_no_5_{place}_{pin}", write_job(large(4, pins=pins))
     for place in (125, 126, 1023):
         sizes = [0 if i == place else 1 for i in range(1024)]
-        yield f"large_no_6_{place}", stored(large(4, sizes=sizes))
+        yield f"large_no_6_{place}", write_job(large(4, sizes=sizes))
 
 
 def lengths():
     """Files shorter and longer than they must be."""
-    data = stored(samples.chain())
+    data = write_job(samples.chain())
     for length in (0, 1, 2, 510, 511, 512, 513, 1024, 1536, 2047):
         yield f"no_20_{length}_bytes", data[:length]
     yield "no_20_one_byte_more", data + b"\0"
     yield "no_20_a_block_more", data + data[-512:]
-    yield "no_20_a_block_less_of_the_largest", stored(large(4))[:-512]
-    yield "no_20_a_byte_more_than_the_largest", stored(large(4)) + b"\0"
+    yield "no_20_a_block_less_of_the_largest", write_job(large(4))[:-512]
+    yield "no_20_a_byte_more_than_the_largest", write_job(large(4)) + b"\0"
     yield "no_20_many_more", data + bytes(20000)
     yield "m9_and_more", bytes(1024)
 
@@ -250,7 +227,7 @@ def layouts():
     """One wrong byte of one block at a time."""
     for block in range(4):
         for name, at in (("low", 510), ("high", 511), ("head", 0), ("value", 4)):
-            data = bytearray(stored(samples.chain()))
+            data = bytearray(write_job(samples.chain()))
             data[512 * block + at] ^= 1
             yield f"no_21_block_{block}_{name}", bytes(data)
         for name, at, byte in WRONG_HEADS:
@@ -295,20 +272,16 @@ def fault_name(fault):
     return f"{number}_at_{place}"
 
 
-# The faults of the cases from before order 11.
-OLDER_FAULTS = faults.before_11(faults.IN_ORDER)
-
-
 def pairs():
-    """Two faults of the chain at once: every pair of them."""
-    for early, late in itertools.combinations(OLDER_FAULTS, 2):
+    """Two faults of the chain at once: every pair of faults.IN_ORDER."""
+    for early, late in itertools.combinations(faults.IN_ORDER, 2):
         name = f"pair_{fault_name(early)}_and_{fault_name(late)}"
         yield name, faults.stored_chain([early, late])
 
 
 def triples():
     """Three neighbours in the order of the refusals."""
-    for three in zip(OLDER_FAULTS, OLDER_FAULTS[1:], OLDER_FAULTS[2:]):
+    for three in zip(faults.IN_ORDER, faults.IN_ORDER[1:], faults.IN_ORDER[2:]):
         name = "_and_".join(fault_name(fault) for fault in three)
         yield f"triple_{name}", faults.stored_chain(three)
 
@@ -323,7 +296,7 @@ SHAPES = (
 
 
 def random_jobs():
-    """Sound jobs of every size, with sizes, pins, ratios and, once, caps of all sorts."""
+    """Sound jobs of every size, with sizes, pins, ratios and caps of all sorts."""
     rng = random.Random(SEED)
     for name, count, files, recipes, longest in SHAPES:
         for k in range(count):
@@ -338,7 +311,7 @@ def random_jobs():
                 den=rng.choice([2, 3, 10, 1000, None]),
                 cap=rng.choice([0, 0, 0, 1, 2, 65535]),
             )
-            yield f"{name}_{k}", stored(job)
+            yield f"{name}_{k}", write_job(job)
 
 
 def full_jobs():
@@ -356,21 +329,22 @@ def full_jobs():
             marks=[PINNED if rng.random() < 0.03 else FREE for _ in range(1024)],
             num=rng.randint(400, 600),
             den=1000,
+            cap=0,
         )
         job = job.changed(sides=samples.wide_window_sides(rng, job))
-        yield f"full_{name}", stored(job)
+        yield f"full_{name}", write_job(job)
 
 
 def mill_job():
     """As it came, which is refused as 9; and under a ratio near to its start."""
-    yield "mill", stored(mill())
-    yield "mill_at_53", stored(mill().changed(num=53, den=100))
+    yield "mill", write_job(mill())
+    yield "mill_at_53", write_job(mill().changed(num=53, den=100))
 
 
 def windows():
     """The window of the free files, beside heavy pinned ones and at its edges."""
     for name, (_, job) in samples.window_jobs().items():
-        yield name, stored(job)
+        yield name, write_job(job)
 
 
 def archived_jobs():
@@ -380,7 +354,7 @@ def archived_jobs():
         job = samples.random_job(
             rng, rng.randint(6, 40), rng.randint(6, 50), pinned=0.25
         )
-        yield f"archived_{k}", stored(samples.with_archives(rng, job))
+        yield f"archived_{k}", write_job(samples.with_archives(rng, job))
 
 
 @functools.cache
@@ -401,7 +375,7 @@ def bad_starts():
 
 def stored_starts(jobs):
     for name, job in jobs.items():
-        yield name, stored(job)
+        yield name, write_job(job)
 
 
 def then_run(jobs):
@@ -412,7 +386,7 @@ def then_run(jobs):
         if after.sides != job.sides:
             number, _ = planner.check(after)
             assert number == planner.balance(job).number, f"{name} is not balanced"
-            yield f"{name}_then_run", stored(after)
+            yield f"{name}_then_run", write_job(after)
 
 
 def unbalanced_jobs():
@@ -426,7 +400,7 @@ def balanced_jobs():
 def unread_jobs():
     """Order 5's, from no file unread to all of them."""
     for name, (_, _, _, job) in samples.unread_jobs().items():
-        yield f"unread_{name}", stored(job)
+        yield f"unread_{name}", write_job(job)
 
 
 def unread_bytes():
@@ -450,18 +424,18 @@ def unread_bytes():
         ("unread_no_6", {"sizes": [1, 1, 1, 0]}),
         ("unread_no_7", {"num": 2}),
     ):
-        yield name, stored(samples.partial_chain(**fields))
+        yield name, write_job(samples.partial_chain(**fields))
 
 
 def large_unread():
     """The largest job: every other file unread, all but the last, and uneven ones."""
     in_pairs = [i // 2 % 2 for i in range(1024)]
     halved = [FREE, UNREAD] * 512
-    yield "large_unread_half", stored(large(4, sides=in_pairs, marks=halved, cap=1))
+    yield "large_unread_half", write_job(large(4, sides=in_pairs, marks=halved, cap=1))
     marks = [UNREAD] * 1023 + [FREE]
-    yield "large_unread_but_one", stored(large(4, marks=marks))
+    yield "large_unread_but_one", write_job(large(4, marks=marks))
     marks = [i % 5 // 3 * UNREAD for i in range(1024)]
-    yield "large_unread_long_recipes", stored(large(1024, marks=marks, cap=1))
+    yield "large_unread_long_recipes", write_job(large(1024, marks=marks, cap=1))
 
 
 @functools.cache
@@ -491,7 +465,7 @@ def random_unread_jobs():
             pinned=rng.choice([0, 0.1, 0.3]),
             cap=rng.choice([0, 0, 2]),
         )
-        yield f"unread_random_{k}", stored(job)
+        yield f"unread_random_{k}", write_job(job)
 
 
 def unread():
@@ -531,10 +505,10 @@ def header_bytes():
 
 def wider_faults():
     """Faults of the chain with seven values, beside a wrong k and beside a right one."""
-    for fault in (OLDER_FAULTS[at] for at in (0, 2, 3, 4, 5)):
+    for fault in (faults.IN_ORDER[at] for at in (0, 2, 3, 4, 5)):
         name = f"seventh_is_5_and_{fault_name(fault)}"
         yield name, faults.stored_chain([fault, faults.WRONG_SEVENTH], k=2)
-    for fault in (OLDER_FAULTS[at] for at in (4, 6, 11, 14, 15)):
+    for fault in (faults.IN_ORDER[at] for at in (4, 6, 11, 14, 15)):
         yield f"wider_{fault_name(fault)}", faults.stored_chain([fault], k=3)
 
 
@@ -562,23 +536,23 @@ def random_wider_jobs():
             pinned=rng.choice([0, 0.1, 0.3]),
             cap=rng.choice([0, 0, 2]),
         )
-        yield f"wider_random_{i}", stored(job)
+        yield f"wider_random_{i}", write_job(job)
 
 
 def large_wider_jobs():
     """The largest job at the edge of its window, and with sizes that differ."""
     # |A| is 516 of 1,024.
     sides = [A] * 8 + [A, B] * 508
-    yield "large_wider_even", stored(large(4, sides=sides, k=4, cap=1))
-    yield "large_wider_rising", stored(rising(k=3))
-    yield "mill_at_k_2", stored(mill().changed(k=2))
+    yield "large_wider_even", write_job(large(4, sides=sides, k=4, cap=1))
+    yield "large_wider_rising", write_job(rising(k=3))
+    yield "mill_at_k_2", write_job(mill().changed(k=2))
 
 
 def wider_windows():
     """Order 6: a wider window when asked."""
     named = {**samples.at_each_wider(samples.edges), **samples.wider_jobs()}
     for name, (_, job) in named.items():
-        yield f"wider_{name}", stored(job)
+        yield f"wider_{name}", write_job(job)
     yield from header_bytes()
     yield from wider_faults()
     yield from stored_starts(wider_starts())
@@ -589,7 +563,7 @@ def wider_windows():
 
 def vault_pairs():
     """Order 8's fault of the chain beside each other one."""
-    for fault in faults.before_11(faults.BEFORE_10):
+    for fault in faults.BEFORE_10:
         name = f"vault_pair_{fault_name(fault)}_and_10_at_0"
         yield name, faults.stored_chain([fault, faults.EMPTY_VAULT])
     for fault in faults.AFTER_10:
@@ -611,19 +585,19 @@ def large_vaults():
         for files in (1000, 1001):
             sides = [side] + [1 - side] * (files - 1)
             job = wide(files, sides=sides, num=num, den=1000, cap=1)
-            yield f"vault_{name}_of_{files}", stored(job)
+            yield f"vault_{name}_of_{files}", write_job(job)
         sides = [side] + [1 - side] * 1023
         for size, k in ((1, 1), (1, 2), (65535, 1), (65535, 2)):
             fields = {"sizes": [size] * 1024, "num": num, "den": 1000, "k": k}
             job = large(4, sides=sides, cap=1, **fields)
-            yield f"large_vault_{name}_of_{size}_at_{k}", stored(job)
+            yield f"large_vault_{name}_of_{size}_at_{k}", write_job(job)
 
 
 def vaults():
     """Order 8: no vault may be emptied."""
     named = {**samples.vault_jobs(), **samples.at_each_k(samples.vault_edges)}
     for name, (_, job) in named.items():
-        yield f"vault_{name}", stored(job)
+        yield f"vault_{name}", write_job(job)
     yield from vault_pairs()
     yield from stored_starts(vault_starts())
     yield from then_run(vault_starts())
@@ -631,14 +605,14 @@ def vaults():
 
 
 def refused_as_10(data):
-    """The job in these bytes, if 10 is what a run answers, or would but for its cap."""
-    number, _, _, job = planner.read_job(without_cap(data))
+    """The job in these bytes, if 10 is what a run answers."""
+    number, _, _, job = planner.read_job(data)
     return job if number == 0 and planner.check(job) == (10, 0) else None
 
 
 # Three readable files in recipes of their own: one pinned in A, one in B, the last free.
 LAST_FREE = [PINNED, *[UNREAD] * 4, PINNED, *[UNREAD] * 1017, FREE]
-# Where there was no room for a file more.
+# Where there is no room for a file more.
 PAST_10 = {"large_unread_but_one": large(4, marks=LAST_FREE)}
 
 
@@ -649,226 +623,15 @@ def shown_again():
         job = refused_as_10(data)
         if job is not None:
             past = PAST_10.get(name) or samples.past_10(job)
-            yield f"{name}_past_10", stored(capped(past, cap_of(data)))
+            yield f"{name}_past_10", write_job(past)
 
 
-def more_counts():
-    """The most of each count and one more; order 11: "One customer has 1,800." """
-    for files in (1800, 2047, 2048, 2049):
-        yield f"files_{files}", stored(wide(files, cap=1))
-    yield "customer_1800", stored(customer())
-    for name, header in (("files", (2049, 3, 6)), ("pins", (4, 3, 8193))):
-        yield f"no_2_{name}_raised", make_block(0, 1, header + (1, 2, 0))
-    for pins, length in ((4097, 4), (8191, 8), (8193, 8)):
-        yield f"pins_{pins}_in_recipes", stored(with_pins(pins, length))
-    yield "pins_8192_in_four", stored(most(2048, cap=1))
-
-
-def customer():
-    """1,800 files in 1,000 recipes, some of them pinned, and a start that is balanced."""
-    rng = random.Random(SEED + 11)
-    job = samples.job_of_recipes(
-        [samples.near_files(rng, 1800, rng.randint(2, 11), 60) for _ in range(1000)],
-        sizes=[rng.randint(1, 900) for _ in range(1800)],
-        sides=[A] * 1800,
-        marks=[PINNED if rng.random() < 0.05 else FREE for _ in range(1800)],
-        num=11,
-        den=20,
-    )
-    return capped(job.changed(sides=samples.wide_window_sides(rng, job)), 2)
-
-
-def largest_jobs():
-    """The largest of everything: planned, with products over 32 bits, with sizes that differ,
-    with unread files, and with all files in one vault, before it is balanced and after."""
-    yield "most", stored(most())
-    yield "most_heavy", stored(most(sizes=[65535] * 2048, num=500, den=1000, cap=1))
-    sizes = [1 + 32 * i for i in range(2048)]
-    yield "most_rising", stored(most(sizes=sizes, num=499, den=1000, cap=1, k=4))
-    marks = [FREE, FREE, PINNED, UNREAD] * 512
-    # Of 1,536 that can be read A holds 1,024.
-    yield "most_of_every_mark", stored(most(marks=marks, num=2, den=3, cap=1))
-    starts = {f"most_all_in_{'ab'[side]}": most(sides=[side] * 2048, cap=1) for side in (A, B)}
-    yield from stored_starts(starts)
-    yield from then_run(starts)
-
-
-def largest_refusals():
-    """The last places of the largest job, and its first and last block of each kind."""
-    job = most()
-    for name, fields in (
-        ("4_1023", {"bounds": samples.put(job.bounds, 1024, 8185)}),
-        ("4_1024", {"bounds": samples.put(job.bounds, 1024, 8191)}),
-        ("5_8191", {"pins": samples.put(job.pins, 8191, 2048)}),
-        ("5_8191_repeat", {"pins": samples.put(job.pins, 8191, 2040)}),
-        ("6_2047", {"sizes": samples.put(job.sizes, 2047, 0)}),
-    ):
-        yield f"most_no_{name}", stored(job.changed(**fields))
-    for block in (0, 1, 17, 18, 22, 23, 55):
-        blocks = faults.Blocks(job)
-        blocks.set_step(block, 256)
-        yield f"most_no_21_block_{block}", blocks.stored()
-        blocks = faults.Blocks(job)
-        blocks.set_byte(block, 0, block ^ 1)
-        yield f"most_no_22_block_{block}", blocks.stored()
-    data = stored(job)
-    yield "no_20_a_block_less_of_the_most", data[:-512]
-    yield "no_20_a_byte_more_than_the_most", data + b"\0"
-    yield "no_20_a_block_more_than_the_most", data + data[-512:]
-
-
-def raised_faults():
-    """2 as it is given now, beside each other fault of the chain, and its neighbours."""
-    in_order = faults.before_13(faults.IN_ORDER)
-    (at,) = (i for i, (told, _) in enumerate(in_order) if told == (2, 0))
-    two = in_order[at]
-    for fault in in_order[:at]:
-        yield f"raised_pair_{fault_name(fault)}_and_2_at_0", faults.stored_chain([fault, two])
-    for fault in (*in_order[at + 1 :], faults.EMPTY_VAULT):
-        yield f"raised_pair_2_at_0_and_{fault_name(fault)}", faults.stored_chain([two, fault])
-    three = in_order[at - 1 : at + 2]
-    name = "_and_".join(map(fault_name, three))
-    yield f"raised_triple_{name}", faults.stored_chain(three)
-
-
-@functools.cache
-def of_order_11():
-    """Order 11: more files, by name."""
-    return named_by((more_counts, largest_jobs, largest_refusals, raised_faults))
-
-
-def more_files():
-    yield from of_order_11().items()
-
-
-def of_caps(*header):
-    """A header of these values, C, N and P first, under each cap, which is its sixth."""
-    five, more = header[:5], header[5:]
-    return ((cap, make_block(0, 1, (*five, cap, *more))) for cap in CAPS)
-
-
-def caps_of_chain():
-    """The chain at each k under each cap; cut off, and longer than it must be: under a block
-    it is 20, and else 23 before 20."""
-    data = stored(samples.chain())
-    for cap, k in itertools.product(CAPS, (1, 2, 3, 4)):
-        if k > 1 or cap in (255, 256):
-            yield f"cap_{cap}_at_k_{k}", with_cap(stored(samples.chain().changed(k=k)), cap)
-    for cap in CAPS:
-        whole = with_cap(data, cap)
-        for length in (15, 16, 511, 512, 513, 2047):
-            yield f"cap_{cap}_of_{length}_bytes", whole[:length]
-        yield f"cap_{cap}_and_a_byte_more", whole + b"\0"
-        yield f"cap_{cap}_and_a_block_more", whole + whole[-512:]
-
-
-def caps_and_21():
-    """Block 0's check is wrong beside a cap: its low byte, its high one, and as it was
-    without the cap."""
-    data = stored(samples.chain())
-    for cap in CAPS:
-        whole = bytearray(with_cap(data, cap))
-        for name, at in (("low", 510), ("high", 511)):
-            damaged = whole.copy()
-            damaged[at] ^= 1
-            yield f"cap_{cap}_and_21_{name}", bytes(damaged)
-        yield f"cap_{cap}_under_the_check_of_0", bytes(whole[:510]) + data[510:]
-
-
-def caps_and_22():
-    """Each fault of block 0's layout beside a cap: its head, a value behind those counted,
-    headers of five values and of eight, and every k that may not be."""
-    six = planner.header_values(samples.chain())
-    for cap in CAPS:
-        for name, at, byte in WRONG_HEADS:
-            blocks = faults.Blocks(capped(samples.chain(), cap))
-            blocks.set_byte(0, at, byte)
-            yield f"cap_{cap}_and_22_{name}", blocks.stored()[:512]
-        for name, k, at in (("first_unused", 1, 6), ("eighth_of_seven", 2, 7), ("last", 4, 252)):
-            blocks = faults.Blocks(capped(samples.chain().changed(k=k), cap))
-            blocks.set_value(0, at, 1)
-            yield f"cap_{cap}_and_22_{name}", blocks.stored()
-    wrong = [k for k in samples.ANY_K if k not in samples.WIDER]
-    for seventh in wrong:
-        for cap, block in of_caps(*six[:5], seventh):
-            yield f"cap_{cap}_and_seventh_is_{seventh}", block
-    for cap, block in of_caps(*six[:5], 2, 0):
-        yield f"cap_{cap}_and_header_of_8", block
-    for cap in CAPS:
-        blocks = faults.Blocks(capped(samples.chain(), cap))
-        blocks.set_byte(0, 3, 5)
-        yield f"cap_{cap}_and_header_of_5", blocks.stored()
-
-
-def caps_and_counts():
-    """Every 1 and every 2 that a header can tell of, beside a cap and, once, beside k too."""
-    for number, name, counts in (
-        (1, "no_files", (0, 3, 6)),
-        (1, "no_recipes", (4, 0, 6)),
-        (1, "none", (0, 0, 0)),
-        (1, "no_files_and_many_pins", (0, 3, 8193)),
-        (2, "files", (2049, 3, 6)),
-        (2, "recipes", (4, 1025, 6)),
-        (2, "pins", (4, 3, 8193)),
-        (2, "all", (65535, 65535, 65535)),
-    ):
-        for cap, block in of_caps(*counts, 1, 2):
-            yield f"cap_{cap}_and_{number}_{name}", block
-        for cap, block in of_caps(*counts, 1, 2, 4):
-            yield f"cap_{cap}_and_{number}_{name}_at_k_4", block
-    chain = samples.chain()
-    files = planner.file_values(chain)
-    for cap in CAPS:
-        header = (0, 3, 6, 1, 2, cap)
-        yield f"cap_{cap}_and_1_whole", write_values(header, [], chain.bounds, chain.pins)
-        header = (4, 0, 6, 1, 2, cap)
-        yield f"cap_{cap}_and_1_whole_recipes", write_values(header, files, [0], chain.pins)
-
-
-def caps_and_faults():
-    """23 beside each other fault of the chain, each cap in turn; its neighbours; and the
-    largest job."""
-    caps = itertools.cycle(CAPS)
-    others = (*faults.before_13(faults.IN_ORDER), faults.EMPTY_VAULT)
-    for fault, cap in zip(others, caps):
-        _, plant = fault
-        blocks = faults.Blocks(capped(samples.chain(), cap))
-        plant(blocks)
-        yield f"cap_pair_{fault_name(fault)}_and_{cap}", blocks.stored()
-    (at,) = (i for i, (told, _) in enumerate(faults.IN_ORDER) if told == (23, 0))
-    for three in (faults.IN_ORDER[at - 1 : at + 2], faults.IN_ORDER[at : at + 3]):
-        name = "_and_".join(map(fault_name, three))
-        yield f"cap_triple_{name}", faults.stored_chain(three)
-    for cap in (1, 65535):
-        yield f"cap_{cap}_of_the_most", with_cap(stored(most()), cap)
-
-
-def shown_without_cap(named):
-    """What a case from before order 13 showed where 23 now hides it: the same without its
-    cap, unless there is such a case already."""
-    held = set(named.values())
-    for name, data in named.items():
-        bare = without_cap(data)
-        if bare not in held:
-            held.add(bare)
-            yield f"{name}_without_cap", bare
-
-
-@functools.cache
-def of_order_13():
-    """Order 13: take the cap away, by name."""
-    groups = (caps_of_chain, caps_and_21, caps_and_22, caps_and_counts, caps_and_faults)
-    again = functools.partial(shown_without_cap, before_13())
-    return named_by((again, *groups))
-
-
-# The guide's passes by editions 2 and 3 are examples and no cases.
-EXAMPLES = ("chain", "eight", "ring", "mill", "mill_at_53")
+# The guide's pass by edition 2 is an example and no case.
+EXAMPLES = ("chain", "eight", "mill", "mill_at_53")
 
 
 def examples(named):
-    guides = {"eight": stored(samples.eight()), "ring": stored(samples.ring())}
-    return [(name, {**named, **guides}[name]) for name in EXAMPLES]
+    return [(name, {**named, "eight": write_job(samples.eight())}[name]) for name in EXAMPLES]
 
 
 OLDER_GROUPS = (
@@ -891,7 +654,7 @@ OLDER_GROUPS = (
     unread,
     wider_windows,
 )
-GROUPS = (vaults, shown_again, more_files)
+GROUPS = (vaults, shown_again)
 
 
 def named_by(groups):
@@ -909,17 +672,9 @@ def older_cases():
     return named_by(OLDER_GROUPS)
 
 
-@functools.cache
-def before_13():
-    """Those from before order 13."""
-    older, newer = older_cases(), named_by(GROUPS)
-    assert not older.keys() & newer.keys(), "two cases have one name"
-    return {**older, **newer}
-
-
 def cases():
     """Every name with its bytes, in a fixed order."""
-    older, newer = before_13(), of_order_13()
+    older, newer = older_cases(), named_by(GROUPS)
     assert not older.keys() & newer.keys(), "two cases have one name"
     return {**older, **newer}
 
@@ -1012,30 +767,10 @@ def see_shown_again(named):
     for name, data in older_cases().items():
         job = refused_as_10(data)
         if job is not None:
-            _, _, _, past = planner.read_job(without_cap(named[f"{name}_past_10"]))
+            _, _, _, past = planner.read_job(named[f"{name}_past_10"])
             assert planner.check(past) in ((0, 0), (9, 0)), name
             assert planned(past) == planned(job), name
             count += 1
-    return count
-
-
-# ---- What order 13 asks of them
-
-
-def see_caps(named, told):
-    """A cap beside each fault of block 0, and each 1 and 2; each older case that is refused for
-    its cap is shown without it; and each run is settled."""
-    for number, group in ((21, caps_and_21), (22, caps_and_22), (23, caps_and_counts)):
-        for name, _ in group():
-            assert told[name] == f"refused {number} 0\n", name
-    held = {data: told[name] for name, data in named.items()}
-    count = 0
-    for name, data in before_13().items():
-        if told[name] == "refused 23 0\n":
-            assert held[without_cap(data)] != told[name], name
-            count += 1
-    for name, report in told.items():
-        assert report.startswith("refused ") or "\nsettled yes\n" in report, name
     return count
 
 
@@ -1049,10 +784,8 @@ def check(folder, named):
     runs = see_no_empty_vault(told)
     see_both_halves(named)
     again = see_shown_again(named)
-    without = see_caps(named, told)
     print(f"{len(named)} stored jobs, {runs} of them planned, and no vault empty")
     print(f"{again} from before order 8 are refused as 10, and shown again past it")
-    print(f"{without} from before order 13 are refused as 23, and shown again without their cap")
     return min(len(wrong), 1)
 
 

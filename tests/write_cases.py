@@ -13,31 +13,25 @@ from typing import NamedTuple
 
 from job_cases import (
     CHAIN,
-    GONE,
+    FAULTS,
     LARGE,
     LARGEST,
     LONG,
-    MORE_FILES,
-    MOST,
-    OLDER_FAULTS,
     SEVERAL_FAULTS,
     UNREAD_FILES,
     UP_TO_6,
-    View,
     chains,
     faulty,
     figures_and_lists,
-    jobs_of,
     lengths,
     ratios,
 )
-import make_cases
-from make_cases import large, of_order_11, of_order_13, one_recipe, row, wide
+from make_cases import cases, large, one_recipe, row, wide
 from program_files import frame, heading, keep
 
 import planner
 from planner import FREE, PINNED, UNREAD
-from samples import ANY_K, CAPS, at_each, capped, stored, vault_jobs
+from samples import ANY_K, at_each, vault_jobs
 
 # What every byte of an output list is before the call.
 FILLED = b"\xa5"
@@ -66,7 +60,6 @@ def called(*jobs):
     return [
         job if isinstance(job, str) else Call(job, planner.stored_length(job))
         for job in jobs
-        if job is not GONE
     ]
 
 
@@ -84,20 +77,7 @@ def every_side_and(*pairs):
     """Two files with each pair of sides and each of these pairs of marks."""
     twice = itertools.product((0, 1), repeat=2)
     for sides, marks in itertools.product(twice, pairs):
-        yield planner.Job([1, 2], sides, marks, [0, 2], [1, 0], 1, 2)
-
-
-def before_11():
-    """The stored jobs of the program `cases` from before order 11."""
-    named = make_cases.before_13()
-    return {name: data for name, data in named.items() if name not in of_order_11()}
-
-
-def round_trips(*jobs):
-    """Each job written, and what was written read and written back."""
-    for job in jobs:
-        yield from called(job)
-        yield Back(planner.write_job(job))
+        yield planner.Job([1, 2], sides, marks, [0, 2], [1, 0], 1, 2, 0)
 
 
 def back(named):
@@ -116,6 +96,7 @@ UNEVEN = large(
     pins=[(k * 5 + k // 1024) % 1024 for k in range(4096)],
     num=0x1234,
     den=0x5678,
+    cap=0x9ABC,
 )
 
 # A job of five blocks, the second of which is full.
@@ -137,10 +118,10 @@ CASES = (
     *called(*(one_recipe(pins) for pins in (252, 253, 254, 506, 507))),
     "the largest",
     *called(UNEVEN, large(4, sizes=[65535] * 1024, marks=[PINNED] * 1024)),
-    # Before order 13 the chain stood here with caps of 1, 255, 256 and 65,535 too.
-    "any ratio",
+    "any ratio and cap",
     *called(*ratios((0, 0), (5, 3), (1, 0), (0, 1), (1, 1), (500, 1001))),
     *called(*ratios((65535, 65535), (255, 256), (256, 255))),
+    *called(*(CHAIN.changed(cap=cap) for cap in (1, 255, 256, 65535))),
     "jobs that a run refuses",
     *called(faulty(7), faulty(8), faulty(9), faulty(7, 8, 9)),
     "output lists",
@@ -171,8 +152,8 @@ CASES = (
     *called(*lengths((2, 1, 3, 2, 4), (5, 4, 5, 2, 4), (5, 5, 4, 2, 4))),
     *called(*lengths((127, 126, 127, 2, 4), (126, 127, 126, 2, 4), (3, 1024, 3, 2, 4))),
     *called(*lengths((1024, 4, 1024, 1025, 4096), (1024, 1024, 4, 1025, 4096))),
-    # The stored jobs of the program `cases` from before order 11.
-    *back(before_11()),
+    # The stored jobs of the program `cases`.
+    *back(cases()),
     # Order 5.
     *called(*UNREAD_FILES),
     "sides and marks of unread files",
@@ -190,10 +171,10 @@ CASES = (
     *called(*at_each(ANY_K, CHAIN)),
     "any ratio and k",
     *called(*at_each((2, 5), CHAIN.changed(num=0, den=0))),
-    *called(*at_each((4, 0), CHAIN.changed(num=65535, den=65535))),
+    *called(*at_each((4, 0), CHAIN.changed(num=65535, den=65535, cap=65535))),
     "k and a fault",
     # 1 to 6 before it; it is given where a run gives 8 or 9, and for no ratio.
-    *called(*(faulty(number, k=5) for number in OLDER_FAULTS)),
+    *called(*(faulty(number, k=5) for number in FAULTS)),
     *called(*(faulty(number, k=3) for number in range(6, 10))),
     "k and other sides and marks",
     *called(*at_each((1, 2), CHAIN.changed(sides=[1, 0, 0, 1], marks=[2, 1, 0, 2]))),
@@ -205,28 +186,10 @@ CASES = (
     *off(TWO_FILE_BLOCKS.changed(k=4), -512, 0, 512),
     # Order 8.
     "jobs that a run refuses as 10",
-    *called(*jobs_of({n: told for n, told in vault_jobs().items() if told[0] == 10})),
+    *called(*(job for number, job in vault_jobs().values() if number == 10)),
     *called(*(faulty(number, den=4) for number in (6, 8, 9))),
     *called(*at_each((4, 5), CHAIN.changed(den=4))),
     *off(CHAIN.changed(den=4), -1, 1),
-    # Order 11.
-    *called(*(job for job in MORE_FILES if not isinstance(job, View))),
-    "output lists of the largest",
-    *off(MOST, -28672, -512, -1, 1, 512),
-    "the stored jobs of order 11",
-    *back(of_order_11()),
-    # Order 13: what is written has 0 in the place of the cap, and is read and written back the
-    # same; what has a cap is not read, and so not written back.
-    "written, read and written back",
-    *round_trips(*at_each((1, 2, 3, 4), CHAIN)),
-    *round_trips(UNEVEN, UNEVEN.changed(k=2), TWO_FILE_BLOCKS, MOST),
-    *round_trips(faulty(7), faulty(8), faulty(9), CHAIN.changed(num=0, den=0, k=3)),
-    "the same with caps",
-    *(Back(stored(capped(job, cap))) for cap in CAPS for job in at_each((1, 2, 3, 4), CHAIN)),
-    *(Back(stored(capped(job, 0x9ABC))) for job in (UNEVEN, UNEVEN.changed(k=2), MOST)),
-    *(Back(stored(capped(faulty(number), 1))) for number in (7, 8, 9)),
-    "the stored jobs of order 13",
-    *back(of_order_13()),
 )
 
 

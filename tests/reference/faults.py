@@ -8,7 +8,7 @@ class Blocks:
     """The blocks of a stored job, open to change; each gets its check at the end."""
 
     def __init__(self, job):
-        data = samples.stored(job)
+        data = planner.write_job(job)
         count = len(data) // planner.BLOCK
         self.blocks = [bytearray(planner.block_at(data, b)) for b in range(count)]
         # What each block's check is off by.
@@ -52,9 +52,8 @@ class Blocks:
 IN_ORDER = (
     ((21, 0), lambda blocks: blocks.set_step(0, 1)),
     ((22, 0), lambda blocks: blocks.set_byte(0, 2, 2)),
-    ((23, 0), lambda blocks: blocks.set_value(0, 5, 1)),
     ((1, 0), lambda blocks: blocks.set_value(0, 1, 0)),
-    ((2, 0), lambda blocks: blocks.set_value(0, 0, 2049)),
+    ((2, 0), lambda blocks: blocks.set_value(0, 0, 1025)),
     ((20, 0), lambda blocks: blocks.add_copy(3)),
     ((21, 1), lambda blocks: blocks.set_step(1, 256)),
     ((22, 1), lambda blocks: blocks.set_byte(1, 509, 1)),
@@ -69,23 +68,6 @@ IN_ORDER = (
     ((8, 0), lambda blocks: blocks.change_seconds(lambda second: second | 2)),
     ((9, 0), lambda blocks: blocks.change_seconds(lambda second: second & 2)),
 )
-
-
-# Before order 11 this was 2. Now such a header only calls for more blocks than the chain has,
-# which is 20. The cases from before have it, under the names that they had.
-ONCE_TWO = ((2, 0), lambda blocks: blocks.set_value(0, 0, 1025))
-
-
-def before_13(faults):
-    """These faults as they were before order 13, when a header could hold a cap."""
-    return tuple(fault for fault in faults if fault[0] != (23, 0))
-
-
-def before_11(faults):
-    """These faults as they were before order 11."""
-    return tuple(
-        ONCE_TWO if fault[0] == (2, 0) else fault for fault in before_13(faults)
-    )
 
 
 # Order 8: A is to hold a quarter, and may hold 0. It stands between 8 and 9. Beside it the

@@ -71,4 +71,5 @@ def mill():
         marks=[FREE] * (FILES - ARCHIVES) + [PINNED] * ARCHIVES,
         num=11,
         den=20,
+        cap=0,
     )

@@ -14,11 +14,10 @@ follows them.
 from dataclasses import dataclass, replace
 from functools import cached_property
 
-# "At most 1,024 files, 1,024 recipes, 4,096 pins; den at most 1,000." Order 11: "Raise refusal 2 to
-# 2,048 files and 8,192 pins; recipes stay at 1,024."
-MOST_FILES = 2048
+# "At most 1,024 files, 1,024 recipes, 4,096 pins; den at most 1,000."
+MOST_FILES = 1024
 MOST_RECIPES = 1024
-MOST_PINS = 8192
+MOST_PINS = 4096
 MOST_DEN = 1000
 # "A whole number k, 1 to 4."
 MOST_K = 4
@@ -26,8 +25,9 @@ MOST_K = 4
 A, B = 0, 1
 FREE, PINNED, UNREAD = 0, 1, 2
 
-# "Edition 2 of the choice, beside edition 1"; order 12: "Add edition 3 with three levels."
-EDITIONS = (1, 2, 3)
+# "Edition 2 of the choice, beside edition 1." Order 12 adds edition 3 and makes this
+# (1, 2, 3): until then a call by 3 is refused, and one_pass and all_passes know it.
+EDITIONS = (1, 2)
 # "An edition other than 1, 2 and those that a later order adds."
 NO_EDITION = 32
 
@@ -46,6 +46,7 @@ class Job:
     pins: tuple
     num: int
     den: int
+    cap: int
     k: int = 1
 
     def __post_init__(self):
@@ -742,15 +743,15 @@ class RunAnswer:
 
 
 def all_passes(job, edition=1):
-    """ "Passes follow one another until one leaves the cut equal"; order 13: "Runs now
-    always go on until settled." """
+    """ "Passes follow one another until one leaves the cut equal, or the cap is
+    reached." A cap of 0 is none."""
     answers = []
     sides = job.sides
     while True:
         answer = one_pass(job, sides, edition)
         answers.append(answer)
         sides = answer.sides
-        if answer.cut_after == answer.cut_before:
+        if answer.cut_after == answer.cut_before or len(answers) == job.cap:
             return answers
 
 
@@ -949,8 +950,6 @@ HEADER, FILES, BOUNDS, PINS = 1, 2, 3, 4
 HEADER_COUNTS = (6, 7)
 # "The reader answers k as a seventh figure."
 HEADER_FIGURES = 7
-# Order 13: the number of a header whose sixth value is not 0.
-NOT_ZERO = 23
 # Side plus 4, the second value of an unread file in B.
 MOST_SECOND = 5
 
@@ -1022,9 +1021,8 @@ def write_values(header, files, bounds, pins):
 
 
 def header_values(job):
-    """Six values where k is 1, and else k as a seventh. The sixth is the place that the cap
-    had: "the writer puts 0 there"."""
-    values = (job.files, job.recipes, len(job.pins), job.num, job.den, 0)
+    """Six values where k is 1, and else k as a seventh."""
+    values = (job.files, job.recipes, len(job.pins), job.num, job.den, job.cap)
     return values if job.k == 1 else (*values, job.k)
 
 
@@ -1082,11 +1080,6 @@ def wrong_seventh(header):
     return any(not 2 <= k <= MOST_K for k in header[6:])
 
 
-def wrong_sixth(header):
-    """ "Stored jobs keep the header place, which must be 0. Any other figure is refused." """
-    return header[5] != 0
-
-
 def header_count(data):
     """How many values block 0 is to hold: what it says, if a header can have so many,
     and else six, which its head then is not."""
@@ -1112,9 +1105,6 @@ def read_job(data, room=None):
         return refused_reading(number, 0)
     # "A header with six values means k = 1."
     header = (*block_values(block_at(data, 0), count), 1)[:HEADER_FIGURES]
-    # "Refused as 23, place 0, after block 0's layout and before 1."
-    if wrong_sixth(header):
-        return refused_reading(NOT_ZERO, 0)
     number = header_refusal(header, room or ROOM_FOR_THE_LARGEST)
     if number:
         return refused_reading(number, 0)
@@ -1159,6 +1149,7 @@ def job_of_blocks(data, header, counts):
         pins=lists[PINS],
         num=header[3],
         den=header[4],
+        cap=header[5],
         k=header[6],
     )
 
@@ -1171,15 +1162,13 @@ FILES_DIFFER = 8
 PINS_DIFFER = 11
 # "A list that is too short is refused as 30."
 TOO_SHORT = 30
-# "C, N, P, num, den, cap, k", of which the cap can differ no more, three of each file and one
-# of each recipe.
-MOST_DIFFERENCES = HEADER_FIGURES - 1 + 3 * MOST_FILES + MOST_RECIPES
+# "C, N, P, num, den, cap, k", three of each file and one of each recipe.
+MOST_DIFFERENCES = HEADER_FIGURES + 3 * MOST_FILES + MOST_RECIPES
 
 
 def header_figures(job):
-    """ "C, N, P, num, den, cap, k", and "a header without k as k = 1". The place of the cap
-    is 0 in each job that is read, so that 6 is never told."""
-    return job.files, job.recipes, len(job.pins), job.num, job.den, 0, job.k
+    """ "C, N, P, num, den, cap, k", and "a header without k as k = 1"."""
+    return job.files, job.recipes, len(job.pins), job.num, job.den, job.cap, job.k
 
 
 def file_figures(job, file):

@@ -1,64 +1,15 @@
 """Jobs for tests: those that the documents give, those at the edges of the window,
 those with unread files, those with a wider window, those to be compared, those whose
 window reaches an empty vault or just not, those whose fronts or vectors are worked out by
-hand, those from before order 13, which had a cap, and random ones."""
+hand, and random ones."""
 
-from dataclasses import dataclass, fields
 from math import gcd
 
-from planner import A, B, BLOCK, CHECKED, FREE, NOT_ZERO, PINNED, UNREAD, Job
+from planner import A, B, FREE, PINNED, UNREAD, Job
 from planner import balancing_moves, no_start_is_balanced, refusal, size_of_a
-from planner import block_check, number_at, read_job, two_bytes, write_job
-
-# ---- Jobs from before order 13, which had a cap
-
-# The first byte of the header's sixth value, where the cap was.
-CAP_AT = 14
-# Those that stand beside other faults: in the low byte alone, in both, in the high one alone.
-CAPS = (1, 2, 255, 256, 65535)
 
 
-@dataclass(frozen=True)
-class Capped(Job):
-    """A job from before order 13 and the cap that it had. No call of the planner knows of it:
-    only its stored form, as `stored` makes it, has the cap."""
-
-    cap: int = 0
-
-
-def capped(job, cap):
-    """The job as it was with this cap; 0 was none."""
-    own = {field.name: getattr(job, field.name) for field in fields(Job)}
-    return Capped(**own, cap=cap) if cap else Job(**own)
-
-
-def stored(job):
-    """The stored form of a job, or of one from before order 13 with its cap."""
-    cap = getattr(job, "cap", 0)
-    return with_cap(write_job(job), cap) if cap else write_job(job)
-
-
-def with_cap(data, cap):
-    """A stored job with this figure in the place of the cap, and block 0's check made anew."""
-    checked = data[:CAP_AT] + two_bytes(cap) + data[CAP_AT + 2 : CHECKED]
-    return checked + two_bytes(block_check(checked)) + data[BLOCK:]
-
-
-def cap_of(data):
-    """What stands in the place of the cap."""
-    return number_at(data, CAP_AT)
-
-
-def without_cap(data):
-    """A stored job that is refused for its cap without it, and any other as it is."""
-    number, _, _, _ = read_job(data)
-    return with_cap(data, 0) if number == NOT_ZERO else data
-
-
-# ---- Those that document 01 gives
-
-
-def chain():
+def chain(cap=0):
     """The chain case, whole."""
     return Job(
         sizes=[1, 1, 1, 1],
@@ -68,17 +19,18 @@ def chain():
         pins=[0, 1, 2, 3, 1, 2],
         num=1,
         den=2,
+        cap=cap,
     )
 
 
 def two_files():
     """m5: two files of size 1, one recipe {0,1}, sides A, B, ratio 1/2."""
-    return Job([1, 1], [A, B], [FREE] * 2, [0, 2], [0, 1], 1, 2)
+    return Job([1, 1], [A, B], [FREE] * 2, [0, 2], [0, 1], 1, 2, 0)
 
 
 def three_files():
     """m6: recipe {0,1,2}, files 0 and 1 in A, 2 in B, all free."""
-    return Job([1] * 3, [A, A, B], [FREE] * 3, [0, 3], [0, 1, 2], 1, 2)
+    return Job([1] * 3, [A, A, B], [FREE] * 3, [0, 3], [0, 1, 2], 1, 2, 0)
 
 
 def bounds_and_pins(recipes):
@@ -108,6 +60,7 @@ def in_a_row(pinned, free, num=1, den=2):
         marks=[PINNED] * len(pinned) + [FREE] * len(free),
         num=num,
         den=den,
+        cap=0,
     )
 
 
@@ -200,6 +153,7 @@ def ring_and_row(side):
         marks=[FREE] * 8,
         num=1,
         den=2,
+        cap=0,
     )
 
 
@@ -309,6 +263,7 @@ def all_free(recipes, sides, num=1, den=2):
         marks=[FREE] * len(sides),
         num=num,
         den=den,
+        cap=0,
     )
 
 
@@ -327,6 +282,7 @@ def every_mark(*marks):
         pins=[0, 1, 2, 1, 2, 3, 3, 4, 5, 0, 5, 2, 4, 1],
         num=1,
         den=2,
+        cap=0,
     )
 
 
@@ -393,7 +349,7 @@ def unread_jobs():
         "archive_of_65535": (0, 1, 2, with_unread(heavy, 6)),
         "beside_pinned": (0, 1, 3, mixed),
         "beside_pinned_one_free": (0, 1, 3, one_free),
-        "beside_pinned_capped": (0, 1, 3, capped(mixed, 1)),
+        "beside_pinned_capped": (0, 1, 3, mixed.changed(cap=1)),
         "on_no_recipe": (0, 1, 0, with_unread(all_free([[0, 1]], [A, B] * 4), 7)),
         "in_every_recipe": (0, 1, 6, with_unread(all_free(star, [A, B] * 3 + [A]), 0)),
         "in_every_wide_recipe": (
@@ -536,7 +492,7 @@ def wider_jobs():
         "beside_pinned_at_3": (0, beside_pinned.changed(k=3)),
         "every_mark_at_2": (9, mixed.changed(k=2)),
         "every_mark_at_3": (10, mixed.changed(k=3)),
-        "every_mark_capped_at_3": (10, capped(mixed.changed(k=3), 1)),
+        "every_mark_capped_at_3": (10, mixed.changed(k=3, cap=1)),
     }
 
 
@@ -605,6 +561,7 @@ def compared_figures():
     return {
         "num": (old, old.changed(num=3), [(4, 0, 1, 3)]),
         "den": (old, old.changed(den=65535), [(5, 0, 2, 65535)]),
+        "cap": (old, old.changed(cap=256), [(6, 0, 0, 256)]),
         "k_of_six_and_seven": (old, old.changed(k=2), [(7, 0, 1, 2)]),
         "k_of_seven_and_six": (old.changed(k=4), old, [(7, 0, 4, 1)]),
         "k_of_seven_and_seven": (old.changed(k=2), old.changed(k=3), [(7, 0, 2, 3)]),
@@ -740,7 +697,7 @@ def compared_recipes():
 
 
 def all_kinds():
-    """Two jobs that differ in each of the eleven but 6, the cap, and the records."""
+    """Two jobs that differ in each of the eleven, and the records."""
     new = Job(
         sizes=[2, 1, 1, 1, 3],
         sides=[B, B, A, B, B],
@@ -749,13 +706,14 @@ def all_kinds():
         pins=[0, 1, 4, 3, 2],
         num=2,
         den=5,
+        cap=1,
         k=4,
     )
     return (
         chain(),
         new,
         [(1, 0, 4, 5), (2, 0, 3, 2), (3, 0, 6, 5)]
-        + [(4, 0, 1, 2), (5, 0, 2, 5), (7, 0, 1, 4)]
+        + [(4, 0, 1, 2), (5, 0, 2, 5), (6, 0, 0, 1), (7, 0, 1, 4)]
         + [(8, 0, 1, 2), (9, 0, 0, 1), (10, 0, 0, 1)]
         + [(8, 4, 0, 3), (9, 4, 0, 1), (10, 4, 0, 2)]
         + [(11, 1, 2, 3), (11, 2, 2, 0)],
@@ -773,39 +731,32 @@ def compared_jobs():
     }
 
 
-def compared_before_13():
-    """By name: the same two jobs as they were before order 13, some of them with a cap."""
-    found = {name: (old, new) for name, (old, new, _) in compared_jobs().items()}
-    old, new = found["all_kinds"]
-    return {**found, "all_kinds": (old, capped(new, 1)), "cap": (old, capped(old, 256))}
-
-
-def most_different(files=2048, length=8):
-    """Two jobs in which all differs, of so many files and 1,024 recipes of this length:
-    6 + 3·2,048 + 1,024 records of the largest.
+def most_different():
+    """Two jobs of the largest size in which all differs: 7 + 3·1,024 + 1,024 records.
 
     The first has one file and one recipe more, which the second lacks.
     """
-    rows = [[(length * j + i) % files for i in range(length)] for j in range(1024)]
+    rows = [[(4 * j + i) % 1024 for i in range(4)] for j in range(1024)]
     old = job_of_recipes(
         rows,
-        sizes=[65535 - i for i in range(files)],
-        sides=[B] * files,
-        marks=[PINNED + i % 2 for i in range(files)],
+        sizes=[65535 - i for i in range(1024)],
+        sides=[B] * 1024,
+        marks=[PINNED + i % 2 for i in range(1024)],
         num=65535,
         den=65534,
+        cap=65533,
         k=4,
     )
-    # Each recipe the other way round, and file 0 in place of the last file.
-    last = files - 1
-    turned = [[file % last for file in reversed(row)] for row in rows[:1023]]
+    # Each recipe the other way round, and file 0 in place of file 1,023.
+    turned = [[file % 1023 for file in reversed(files)] for files in rows[:1023]]
     new = job_of_recipes(
         turned,
-        sizes=[1 + i for i in range(last)],
-        sides=[A] * last,
-        marks=[FREE] * last,
+        sizes=[1 + i for i in range(1023)],
+        sides=[A] * 1023,
+        marks=[FREE] * 1023,
         num=1,
         den=2,
+        cap=0,
     )
     return old, new
 
@@ -842,11 +793,8 @@ def changed_once(rng, job):
     field = rng.choice(
         ("num", "den", "cap", "k", "sizes", "sides", "marks", "files", "", "")
     )
-    if field in ("num", "den"):
+    if field in ("num", "den", "cap"):
         return job.changed(**{field: rng.choice([0, 1, 255, 256, 65535])})
-    # Before order 13 a job had a cap; without it, it is what it was.
-    if field == "cap":
-        return capped(job, rng.choice([0, 1, 255, 256, 65535]))
     if field == "k":
         return job.changed(k=rng.randint(1, 4))
     if field == "files":
@@ -972,7 +920,7 @@ def at_each_k(kind):
 def wide_products(files, last):
     """So many free files of 65,535 and a last one, A and B in turn, under one pass."""
     job = in_a_row([], in_turn(65535, files) + [(last, B)], 500, 1000)
-    return capped(job, 1)
+    return job.changed(cap=1)
 
 
 def vault_jobs():
@@ -986,7 +934,7 @@ def vault_jobs():
         **{f"m5_at_{job.k}": (10, job) for job in at_each(WIDER, m5)},
         "m5_in_a": (10, m5.changed(sides=[A, A])),
         "m5_in_b": (10, m5.changed(sides=[B, B])),
-        "m5_capped": (10, capped(m5, 1)),
+        "m5_capped": (10, m5.changed(cap=1)),
         "m5_at_1_of_1000": (10, m5.changed(den=1000)),
         "m5_at_999_of_1000": (10, m5.changed(num=999, den=1000)),
         # W is twice smax, and 1 more.
@@ -1049,6 +997,7 @@ def worked():
         marks=[PINNED] + [FREE] * 7,
         num=1,
         den=2,
+        cap=0,
     )
 
 
@@ -1138,31 +1087,6 @@ def foresights():
     }
 
 
-def ring():
-    """The guide's tie, `ring` of crates/rules/specs/LevelsWorked.antt, and an example. W is 5
-    and smax 1: |A| is 2 or 3. It starts at 3. Files 1 and 3 are on no recipe."""
-    return all_free([[0, 4], [2, 4], [0, 2]], [B, B, A, A, A])
-
-
-def four_beside_a_pinned_one(recipes):
-    """Four free files in A; in B a pinned one, which stands for what a net of source 004's
-    figures has on the other side, and one on no recipe. |A| is from 2 up to 4."""
-    job = all_free(recipes, [A] * 4 + [B] * 2)
-    return job.changed(marks=[FREE] * 4 + [PINNED, FREE])
-
-
-def figures():
-    """Source 004's figures 1 and 2 by its words, whose cells A and B are files 0 and 1, a tie
-    that level 3 decides in the same manner, and the ring: the jobs of
-    crates/rules/specs/LevelsWorked.antt, where the third is called `third`."""
-    return {
-        "figure1": four_beside_a_pinned_one([[0, 4], [1, 4], [0, 2, 3, 4], [1, 2, 4]]),
-        "figure2": four_beside_a_pinned_one([[0, 4], [1, 2, 4], [1, 3, 4]]),
-        "third_of_six": four_beside_a_pinned_one([[0, 4], [1, 4], [1, 2, 3, 4]]),
-        "ring": ring(),
-    }
-
-
 # ---- Random jobs
 
 
@@ -1235,8 +1159,7 @@ def random_job(
 ):
     """A job that passes check 8, with sides in the wide window.
 
-    reach 0: recipes over all files; else over near ones only. cap: what it had before
-    order 13.
+    reach 0: recipes over all files; else over near ones only.
     """
     den = den or rng.randint(2, 1000)
     lengths = recipe_lengths(rng, files, recipes, most_pins, longest)
@@ -1250,8 +1173,9 @@ def random_job(
         marks=marks,
         num=rng.randint(1, den - 1),
         den=den,
+        cap=cap,
     )
-    return capped(job.changed(sides=wide_window_sides(rng, job)), cap)
+    return job.changed(sides=wide_window_sides(rng, job))
 
 
 def unbalanced_job(rng, files, recipes, side):

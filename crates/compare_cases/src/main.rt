@@ -8,8 +8,8 @@ use job::wide;
 use libc::STDOUT_FILENO;
 use rules::{Compared, Difference};
 
-// The most bytes of a stored job that is read: a block more than the largest has.
-const MOST_BYTES: usize = layout::INPUT_BYTES;
+// The most bytes of a stored job.
+const MOST_BYTES: usize = 20000;
 
 // The longest list that is lent, and what each number of a record of it is before the call.
 const MOST_LIST: usize = comparer::MOST_DIFFERENCES + 9;

@@ -44,7 +44,6 @@ module _ (most : Limits) (h g : Header) (r s : Room) (p : Exact most h r) (q : E
   recipes-are e = omega arith
 
   header-same : head_differences h g ≡ head_differences (header_for (job_in h r)) (header_for (job_in g s))
-  unfolding head_differences
   header-same = rw (p.files, q.files, recipes-are p.recipes, recipes-are q.recipes, p.pins, q.pins) refl
 
   files-same : in_turn (file_differences (of_files r.sizes r.sides r.marks) (of_files s.sizes s.sides s.marks)) (max h.files g.files)

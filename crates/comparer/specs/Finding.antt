@@ -25,7 +25,7 @@ RoomFor k n numbers = 4 * (n + k) ≤ length numbers
 
 -- the job of a header and five lists
 abbrev pub job_in : Header → Room → Job
-job_in h r = as_job r.sizes r.sides r.marks r.bounds r.pins h.num h.den h.k
+job_in h r = as_job r.sizes r.sides r.marks r.bounds r.pins h.num h.den h.cap h.k
 
 -- the lists are as long as the header says, and within the limits
 pub record Exact (most : Limits) (h : Header) (r : Room) : Type 0 where

@@ -26,14 +26,11 @@ pub const MOST_DIFFERENCES: usize = report::MOST_DIFFERENCES;
 // Four numbers to a record.
 const NUMBERS: usize = 4 * MOST_DIFFERENCES;
 
-// More than the line of a refusal takes.
-const REFUSAL_BYTES: usize = 256;
-
-// More than the line of a record takes.
-const LINE_BYTES: usize = 84;
+// More than the line of a record takes, and than the line of a refusal.
+const LINE_BYTES: usize = 128;
 
 // No text is longer: a line for each record, or a refusal.
-pub const TEXT_BYTES: usize = REFUSAL_BYTES + LINE_BYTES * MOST_DIFFERENCES;
+pub const TEXT_BYTES: usize = LINE_BYTES * (MOST_DIFFERENCES + 1);
 
 // What is to be stored of a comparison, and its answer.
 #[derive(Drop)]

@@ -43,16 +43,17 @@ pub(crate) fn note_figure(
     note(numbers, count, old == new, d)
 }
 
-// 1 to 5 and 7, with number 0.
+// 1 to 7, with number 0.
 pub(crate) fn note_header(numbers: &mut [u16], old: Header, new: Header) -> usize
-    requires { RoomFor 6 0 numbers.old }
+    requires { RoomFor 7 0 numbers.old }
     ensures noted { Noted 0 numbers.old (head_differences old new) result numbers.new }
-    ensures upper_bound { result ≤ 6 }
+    ensures upper_bound { result ≤ 7 }
 {
     let mut count = note_figure(numbers, 0, 1, 0, old.files, new.files);
     count = note_figure(numbers, count, 2, 0, old.recipes, new.recipes);
     count = note_figure(numbers, count, 3, 0, old.pins, new.pins);
     count = note_figure(numbers, count, 4, 0, old.num, new.num);
     count = note_figure(numbers, count, 5, 0, old.den, new.den);
+    count = note_figure(numbers, count, 6, 0, old.cap, new.cap);
     note_figure(numbers, count, 7, 0, old.k, new.k)
 }

@@ -56,7 +56,7 @@ pub view-settled : Settles 2 view-kinds.ps view-kinds.r (List ℕ) (λ κs s _. 
 view-settled κs a x y e f p q = both p q
 
 pub new-settled : Settles 0 new-kinds.ps new-kinds.r Job (λ κs j _. j) new.Post
-new-settled κs a x y e f p q = λ i. record { num = both p.0.0 q.0.0 i; den = both p.0.1 q.0.1 i; k = both p.0.2 q.0.2 i }
+new-settled κs a x y e f p q = λ i. record { num = both p.0 q.0 i; den = both p.1 q.1 i; cap = both p.2 q.2 i; k = both p.3 q.3 i }
 
 pub wide-settled : Settles 0 wide-kinds.ps wide-kinds.r ℕ (λ κs x _. x) wide.Post
 wide-settled κs a x y e f p q = both p q

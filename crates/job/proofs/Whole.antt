@@ -18,7 +18,7 @@ use Rattle.job.specs.Parts.{of_lists, of_figures}
 use Rattle.job.specs.Totals.{totals_of, reaches, may_empty_by, Has, start_for}
 use Rattle.job.specs.Survey.{check_for, survey_of}
 
--- 1 to 6 ask for no ratio
+-- 1 to 6 ask for no ratio and no cap
 pub lists-only : (most : Limits) (job : Job) (lent : Bool)
     → check_sound most (of_lists job.sizes job.sides job.marks job.bounds job.pins) lent ≡ check_sound most job lent
 unfolding bad_pin check_sound
@@ -53,7 +53,7 @@ unfolding totals_of unread_files files
 unread-is job t p = ap (λ (u : Totals). u.unread) p
 
 abbrev figures_of : Job → Figures
-figures_of job = record { num = job.num; den = job.den; k = job.k }
+figures_of job = record { num = job.num; den = job.den; cap = job.cap; k = job.k }
 
 module _ {job : Job} {figures : Figures} {t : Totals} (has : Has job figures t) where
   pub ratio-is : (most : Limits) → check_ratio most (of_figures figures) ≡ check_ratio most job

@@ -7,10 +7,9 @@ mod numbers;
 mod pins;
 mod verdict;
 
-ghost use Rattle.std.specs.Prelude.{◌≡◌, true, ◌*◌};
+ghost use Rattle.std.specs.Prelude.{◌≡◌, true};
 ghost use Rattle.rules.specs.Job.{limits_of, view_of};
 ghost use Rattle.job.specs.Parts.{whole_job};
-ghost use Rattle.rules.specs.Theorems.{most_bytes};
 ghost use Rattle.rules.specs.Check.{check_job, «measure»};
 ghost use Rattle.job.specs.Survey.{survey_of};
 
@@ -23,32 +22,30 @@ use rules::{Measure, Verdict};
 use verdict::check_rest;
 pub use verdict::{bad_k, check_counts, check_sound, or_else, refuse_if};
 
-// What a job has besides its lists: the ratio num/den for A, and k of the tolerance.
+// What a job has besides its lists: the ratio num/den for A, the cap, and k of the tolerance.
 #[derive(Drop)]
 pub struct Job {
     pub num: u16,
     pub den: u16,
+    pub cap: u16,
     pub k: u16,
 }
 
 impl Job {
-    pub const MOST_FILES: usize = 2048;
+    pub const MOST_FILES: usize = 1024;
 
     pub const MOST_RECIPES: usize = 1024;
 
-    pub const MOST_PINS: usize = 8192;
+    pub const MOST_PINS: usize = 4096;
 
     pub const MOST_DEN: u16 = 1000;
 
     pub const MOST_K: u16 = 4;
 
-    // The second promise fixes the limits: document 01's, as order 11 of document 02 raises them. By these the largest stored job has 56 blocks.
-    pub fn new(num: u16, den: u16, k: u16) -> Self
-        ensures num_value { (result.num ≡ num) × (result.den ≡ den) × (result.k ≡ k) }
-        ensures* limits_of_value { do ⌜ limits_of (← (⟦Job::MOST_FILES⟧).entry) (← (⟦Job::MOST_RECIPES⟧).entry) (← (⟦Job::MOST_PINS⟧).entry) (← (⟦Job::MOST_DEN⟧).entry) ≡ limits_of 2048 1024 8192 1000 ⌝ }
-        ensures* limits_of_value_2 { do ⌜ most_bytes (limits_of (← (⟦Job::MOST_FILES⟧).entry) (← (⟦Job::MOST_RECIPES⟧).entry) (← (⟦Job::MOST_PINS⟧).entry) (← (⟦Job::MOST_DEN⟧).entry)) ≡ 512 * 56 ⌝ }
+    pub fn new(num: u16, den: u16, cap: u16, k: u16) -> Self
+        ensures { (result.num ≡ num) × (result.den ≡ den) × (result.cap ≡ cap) × (result.k ≡ k) }
     {
-        Self { num, den, k }
+        Self { num, den, cap, k }
     }
 }
 

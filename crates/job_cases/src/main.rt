@@ -100,9 +100,9 @@ fn balance(
 }
 
 fn take_job() -> job::Job {
-    let mut figures = [0u16; 3];
+    let mut figures = [0u16; 4];
     frames::take_numbers(&mut figures);
-    job::Job::new(figures[0], figures[1], figures[2])
+    job::Job::new(figures[0], figures[1], figures[2], figures[3])
 }
 
 fn show_job(balanced: bool) {

@@ -1,5 +1,5 @@
 // Which blocks there are, by the header: document 01, "Kinds in order". A block's number is a two-byte number, its kind and its count of values are bytes.
-ghost use Rattle.std.specs.Prelude.{◌≡◌, ◌+◌, ◌<◌, ◌≤◌};
+ghost use Rattle.std.specs.Prelude.{◌≡◌, ◌<◌, ◌≤◌};
 ghost use Rattle.rules.specs.Job.{limits_of};
 ghost use Rattle.rules.specs.Stored.{blocks_for, bounds_at, pins_at, block_count, kind_of, held_in, header_values, values_in};
 ghost use Rattle.rules.specs.Theorems.{most_bytes};
@@ -21,10 +21,10 @@ pub const INPUT_BYTES: usize = BLOCK_BYTES
         + (Job::MOST_RECIPES + BLOCK_NUMBERS as usize) / BLOCK_NUMBERS as usize
         + (Job::MOST_PINS + (BLOCK_NUMBERS as usize - 1)) / BLOCK_NUMBERS as usize);
 
-// That number, a block more than the bytes of the largest stored job: a program takes up so many of its input, and no more.
+// That number, and that no stored job has as many bytes: a program takes up so many of its input, and no more.
 pub fn input_bytes() -> usize
     ensures* result_value { do ⌜ result ≡ (← (⟦INPUT_BYTES⟧).entry) ⌝ }
-    ensures* result_value_2 { do ⌜ result ≡ 512 + most_bytes (limits_of (← (⟦Job::MOST_FILES⟧).entry) (← (⟦Job::MOST_RECIPES⟧).entry) (← (⟦Job::MOST_PINS⟧).entry) (← (⟦Job::MOST_DEN⟧).entry)) ⌝ }
+    ensures* lower_bound { do ⌜ most_bytes (limits_of (← (⟦Job::MOST_FILES⟧).entry) (← (⟦Job::MOST_RECIPES⟧).entry) (← (⟦Job::MOST_PINS⟧).entry) (← (⟦Job::MOST_DEN⟧).entry)) < result ⌝ }
 {
     INPUT_BYTES
 }

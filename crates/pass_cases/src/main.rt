@@ -241,9 +241,9 @@ fn at_most(n: u16, most: usize) -> usize
 
 // Every entry that is lent beside the job is 7 before the call.
 fn show_call(run: bool, short: bool) {
-    let mut figures = [0u16; 12];
+    let mut figures = [0u16; 13];
     frames::take_numbers(&mut figures);
-    let job = Job::new(figures[1], figures[2], figures[3]);
+    let job = Job::new(figures[1], figures[2], figures[3], figures[4]);
     let mut sizes = [0u16; MOST];
     let s = frames::take_numbers(&mut sizes);
     let mut sides = [0u16; MOST];
@@ -254,14 +254,14 @@ fn show_call(run: bool, short: bool) {
     let b = frames::take_numbers(&mut bounds);
     let mut pins = [0u16; MOST];
     let p = frames::take_numbers(&mut pins);
-    let gains_long = at_most(figures[4], MOST_MOVES);
-    let tried_long = at_most(figures[5], MOST_MOVES);
-    let gained_long = at_most(figures[6], MOST_MOVES);
-    let cuts_long = at_most(figures[7], MOST_MOVES);
-    let ends_long = at_most(figures[8], MOST_MOVES);
-    let recipes_long = at_most(figures[9], MOST_SCANS);
-    let kinds_long = at_most(figures[10], MOST_SCANS);
-    let scratch_long = at_most(figures[11], MOST_SCRATCH);
+    let gains_long = at_most(figures[5], MOST_MOVES);
+    let tried_long = at_most(figures[6], MOST_MOVES);
+    let gained_long = at_most(figures[7], MOST_MOVES);
+    let cuts_long = at_most(figures[8], MOST_MOVES);
+    let ends_long = at_most(figures[9], MOST_MOVES);
+    let recipes_long = at_most(figures[10], MOST_SCANS);
+    let kinds_long = at_most(figures[11], MOST_SCANS);
+    let scratch_long = at_most(figures[12], MOST_SCRATCH);
     let mut gains = [7i32; MOST_MOVES];
     let mut tried = [7u16; MOST_MOVES];
     let mut gained = [7i32; MOST_MOVES];

@@ -29,8 +29,8 @@ use rules::{BalanceFigures, Compared, Figures, Printed, RunFigures, Verdict};
 use text::put_form;
 use verdict::{lengths_verdict, records_verdict, room_verdict};
 
-// No two jobs have more differences: six of the header, three of each file, one of each recipe.
-pub const MOST_DIFFERENCES: usize = 6 + 3 * Job::MOST_FILES + Job::MOST_RECIPES;
+// No two jobs have more differences: seven of the header, three of each file, one of each recipe.
+pub const MOST_DIFFERENCES: usize = 7 + 3 * Job::MOST_FILES + Job::MOST_RECIPES;
 
 // A line told alone: it needs room alone, since it tells of no split.
 fn print_line(form: &[u8], numbers: &[u64], out: &mut [u8]) -> Printed

@@ -4,7 +4,6 @@ use mathlib.Core.Logic.{◌≢◌}
 use Prim.Native.Nat.{ℕ, zero, suc, ◌+◌, ◌-◌, ◌*◌, ◌≤◌, ◌<◌, max}
 use mathlib.Core.Bool.{Bool, true, false, cond}
 use mathlib.Core.List.{List, [], ◌∷◌, ◌++◌}
-use native.Mathlib.Decide.{ℕ_discrete, dec_lt}
 use native.Mathlib.Omega.{arith}
 use lib.Dec.{eqb}
 use lib.ListN.{length, length-append}
@@ -69,13 +68,9 @@ module _ (old new : Job) where
   abbrev figure_of : ℕ → ℕ → List Difference
   figure_of what n = figure what n (shown old what n) (shown new what n)
 
-  -- 6 never differs
-  six-alike : (what n : ℕ) → what ≡ 6 → shown old what n ≡ shown new what n
-  six-alike what n e = rw e refl
-
   figure-told : (what n : ℕ) → 1 ≤ what → what ≤ 10 → (what ≤ 7 → n ≡ 0) → Every nothing (Told old new) (figure_of what n)
   figure-told what n h l z = if-every (Told old new) (eqb (shown old what n) (shown new what n)) (record_of what n) (λ e. record {
-    kind = (h, omega arith, λ q. eqb-false (shown old what n) (shown new what n) e (six-alike what n q));
+    kind = (h, omega arith);
     before = refl;
     after = refl;
     figures = λ _. eqb-false (shown old what n) (shown new what n) e;
@@ -86,12 +81,12 @@ module _ (old new : Job) where
   figure-entry : (what n : ℕ) → shown old what n ≢ shown new what n → Entry nothing (record_of what n) (figure_of what n)
   figure-entry what n h = if-entry (eqb (shown old what n) (shown new what n)) (record_of what n) (ne_eqb (shown old what n) (shown new what n) h)
 
-  -- ---- figures of several kinds, one after the other: the header's are 1 to 5 and 7, and a file's are 8 to 10
+  -- ---- figures of several kinds, one after the other: the header's are 1 to 7, and a file's are 8 to 10
 
   abbrev figures : ℕ → ℕ → ℕ → List Difference
   figures n from count = in_turn (λ (i : ℕ). figure_of (from + i) n) count
 
-  head-is : figures 0 1 5 ++ figures 0 7 1 ≡ head_differences (header_for old) (header_for new)
+  head-is : figures 0 1 7 ≡ head_differences (header_for old) (header_for new)
   unfolding in_turn head_differences
   head-is = refl
 
@@ -121,7 +116,7 @@ module _ (old new : Job) where
   recipe-told : (j : ℕ) → AllTold (recipe_differences old new j)
   unfolding recipe_differences
   recipe-told j = if-every (Told old new) (same (view old j) (view new j)) (record_of 11 j) (λ e. record {
-    kind = (omega arith, omega arith, omega arith);
+    kind = (omega arith, omega arith);
     before = refl;
     after = refl;
     figures = λ n. absurd (n refl);
@@ -144,7 +139,7 @@ module _ (old new : Job) where
       let P : Difference → Type 0 = Told old new in
       every_append nothing P (heads ++ of_files) of_recipes
       (every_append nothing P heads of_files
-      (rw (← head-is) (every_append nothing P (figures 0 1 5) (figures 0 7 1) (figures-told 0 1 5 (omega arith) (omega arith) (λ _. refl)) (figures-told 0 7 1 (omega arith) (omega arith) (λ _. refl))))
+      (rw (← head-is) (figures-told 0 1 7 (omega arith) (omega arith) (λ _. refl)))
       (every-in_turn nothing P (file_differences old new) _ (λ f _. rw (← file-is f) (figures-told f 8 3 (omega arith) (omega arith) (λ l. absurd (omega arith))))))
       (every-in_turn nothing P (recipe_differences old new) _ (λ j _. recipe-told j))
 
@@ -154,16 +149,7 @@ module _ (old new : Job) where
   unfolding differences
   head-has what h l ne =
       let d : Difference = record_of what 0 in
-      let low : List Difference = figures 0 1 5 in
-      let high : List Difference = figures 0 7 1 in
-      entry-left nothing d (heads ++ of_files) of_recipes
-      (entry-left nothing d heads of_files (rw (← head-is) (elim (dec_lt what 6) [
-        | yes k ↦ entry-left nothing d low high (figures-entry 0 1 5 what h (omega arith) ne)
-        | no k ↦ elim (ℕ_discrete what 6) [
-          | yes q ↦ absurd (ne (six-alike what 0 q))
-          | no q ↦ entry-right nothing d low high (figures-entry 0 7 1 what (omega arith) (omega arith) ne)
-        ]
-      ])))
+      entry-left nothing d (heads ++ of_files) of_recipes (entry-left nothing d heads of_files (rw (← head-is) (figures-entry 0 1 7 what h (omega arith) ne)))
 
   pub file-has : (what f : ℕ) → 8 ≤ what → what ≤ 10 → f < max (file_count old) (file_count new) → shown old what f ≢ shown new what f → Has old new what f
   unfolding differences
@@ -189,12 +175,12 @@ module _ (old new : Job) where
   unfolding recipe_differences
   recipe-few j = if-few (same (view old j) (view new j)) (record_of 11 j)
 
-  pub differences-few : length (differences old new) ≤ 6 + 3 * max (file_count old) (file_count new) + max (recipe_count old) (recipe_count new)
+  pub differences-few : length (differences old new) ≤ 7 + 3 * max (file_count old) (file_count new) + max (recipe_count old) (recipe_count new)
   unfolding differences
   differences-few =
       let c : ℕ = max (file_count old) (file_count new) in
       let n : ℕ = max (recipe_count old) (recipe_count new) in
-      let a : length heads ≤ 6 = rw (← head-is) (omega (arith, length-append (figures 0 1 5) (figures 0 7 1), figures-few 0 1 5, figures-few 0 7 1)) in
+      let a : length heads ≤ 7 = rw (← head-is) (figures-few 0 1 7) in
       let b : length of_files ≤ 3 * c = in_turn-few 3 (file_differences old new) (λ f. rw (← file-is f) (figures-few f 8 3)) c in
       let e : length of_recipes ≤ 1 * n = in_turn-few 1 (recipe_differences old new) recipe-few n in
       omega (arith, length-append (heads ++ of_files) of_recipes, length-append heads of_files)

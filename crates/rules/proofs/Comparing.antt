@@ -126,6 +126,7 @@ module _ (most : Limits) (old new : Job) (s : Sound most old) (t : Sound most ne
       pins = pins-agree k;
       num = header-agrees 4 (omega arith) (omega arith) k;
       den = header-agrees 5 (omega arith) (omega arith) k;
+      cap = header-agrees 6 (omega arith) (omega arith) k;
       k = header-agrees 7 (omega arith) (omega arith) k;
     }
 
@@ -161,7 +162,7 @@ differences-hold most old new s t = record {
 
 -- reading never gives 30
 read-never : (most : Limits) (bytes : List ℕ) → (read_for most bytes).number ≢ 30
-read-never most bytes = never-read most bytes (all_room most) 30 (omega arith) (omega arith) (omega arith) (omega arith) (omega arith)
+read-never most bytes = never-read most bytes (all_room most) 30 (omega arith) (omega arith) (omega arith) (omega arith)
 
 module _ (most : Limits) (old new : List ℕ) (room : List Difference) where
   abbrev found : List Difference
@@ -197,7 +198,7 @@ module _ (most : Limits) (old new : List ℕ) (room : List Difference) where
       equal-bytes : AllBelow 256 old → AllBelow 256 new → found ≡ [] → old ≡ new
       equal-bytes p q e = (back-holds most old (all_room most) p).one new (all_room most) q ok fine (both-sound.none e)
 
-  never-short : 6 + 3 * most.files + most.recipes ≤ length room → outcome.answer.verdict.number ≢ 30
+  never-short : 7 + 3 * most.files + most.recipes ≤ length room → outcome.answer.verdict.number ≢ 30
   never-short h = elim (ℕ_discrete (read_for most old).number 0) [
     | no n ↦ rw (first-refused n) (read-never most old)
     | yes ok ↦ elim (ℕ_discrete (read_for most new).number 0) [

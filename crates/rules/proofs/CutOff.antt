@@ -14,7 +14,7 @@ use Rattle.rules.specs.declared.Verdict.{Verdict}
 use Rattle.rules.specs.declared.Header.{Header}
 use Rattle.rules.specs.Job.{Limits}
 use Rattle.rules.specs.Check.{refuse_if, ◌or_else◌, bad_k, over_most, check_counts, check_contents}
-use Rattle.rules.specs.Stored.{block_check, word, block_at, value_in, header_of, blocks_for, block_count, kind_of, values_in, laid_out, block_verdict, blocks_verdict, job_of, Room, roomy, has_cap, layout_verdict, read_verdict}
+use Rattle.rules.specs.Stored.{block_check, word, block_at, value_in, header_of, blocks_for, block_count, kind_of, values_in, laid_out, block_verdict, blocks_verdict, job_of, Room, roomy, layout_verdict, read_verdict}
 use Rattle.rules.specs.Report.{refusal, all_room, all_run, prints}
 use Rattle.rules.specs.Trace.{traces}
 use Rattle.rules.specs.Writing.{resettles}
@@ -74,7 +74,6 @@ module _ (most : Limits) (k : ℕ) (input : List ℕ) (more : most_bytes most < 
       refuse_if (ltb (length bytes) 512) 20 0
       or_else block_verdict h bytes 0
       or_else refuse_if (bad_k h.k) 22 0
-      or_else refuse_if (has_cap h) 23 0
       or_else check_counts most h.files h.recipes h.pins
       or_else refuse_if (not (roomy h room)) 3 0
       or_else refuse_if (not (eqb (length bytes) (512 * block_count h))) 20 0
@@ -86,7 +85,6 @@ module _ (most : Limits) (k : ℕ) (input : List ℕ) (more : most_bytes most < 
   links : (h : Header) (room : Room) → layout-by h cut_off room ≡ layout-by h input room
   links h room =
       let wide = refuse_if (bad_k h.k) 22 0 in
-      let cap = refuse_if (has_cap h) 23 0 in
       let counts = check_counts most h.files h.recipes h.pins in
       let lent = refuse_if (not (roomy h room)) 3 0 in
       let last : List ℕ → Verdict = λ bytes. refuse_if (not (eqb (length bytes) (512 * block_count h))) 20 0 or_else blocks_verdict h bytes 1 (block_count h - 1) in
@@ -94,10 +92,9 @@ module _ (most : Limits) (k : ℕ) (input : List ℕ) (more : most_bytes most < 
       = λ z.
       let l = blocks-short h (counts-pass most h.files h.recipes h.pins z).1 in
       unlike h cut_off (blocks_verdict h cut_off 1 (block_count h - 1)) (omega (arith, l, cut-length)) ∙ sym (unlike h input (blocks_verdict h input 1 (block_count h - 1)) (omega (arith, l))) in
-      let figures : (wide or_else cap or_else counts or_else lent or_else last cut_off) ≡ (wide or_else cap or_else counts or_else lent or_else last input)
-      = chain_same wide (cap or_else counts or_else lent or_else last cut_off) (cap or_else counts or_else lent or_else last input)
-      (λ _. chain_same cap (counts or_else lent or_else last cut_off) (counts or_else lent or_else last input)
-      (λ _. chain_same counts (lent or_else last cut_off) (lent or_else last input) (λ z. chain_same lent (last cut_off) (last input) (λ _. ends z)))) in
+      let figures : (wide or_else counts or_else lent or_else last cut_off) ≡ (wide or_else counts or_else lent or_else last input)
+      = chain_same wide (counts or_else lent or_else last cut_off) (counts or_else lent or_else last input)
+      (λ _. chain_same counts (lent or_else last cut_off) (lent or_else last input) (λ z. chain_same lent (last cut_off) (last input) (λ _. ends z))) in
       ap₂ (λ (v w : Verdict). v or_else w) enough (ap₂ (λ (v w : Verdict). v or_else w) (zeroth-same h) figures)
 
   layout-same : (room : Room) → layout_verdict most cut_off room ≡ layout_verdict most input room
@@ -112,8 +109,7 @@ module _ (most : Limits) (k : ℕ) (input : List ℕ) (more : most_bytes most < 
       let b = passes-both (refuse_if (ltb (length input) 512) 20 0) _ ok in
       let c = passes-both (block_verdict h input 0) _ b.1 in
       let w = passes-both (refuse_if (bad_k h.k) 22 0) _ c.1 in
-      let x = passes-both (refuse_if (has_cap h) 23 0) _ w.1 in
-      let d = passes-both (check_counts most h.files h.recipes h.pins) _ x.1 in
+      let d = passes-both (check_counts most h.files h.recipes h.pins) _ w.1 in
       let f = passes-both (refuse_if (not (roomy h room)) 3 0) _ d.1 in
       let l = blocks-short h (counts-pass most h.files h.recipes h.pins d.0).1 in
       omega (arith, ap (λ (v : Verdict). v.number) (unlike h input (blocks_verdict h input 1 (block_count h - 1)) (omega (arith, l))), f.1)

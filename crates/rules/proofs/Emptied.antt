@@ -21,7 +21,7 @@ use Rattle.rules.specs.Split.{count_on, is_cut, cut, unread_files, unread_recipe
 use Rattle.rules.specs.Check.{done, is_done, refuse_if, may_empty, bad_pin, check_sound, check, check_job, check_lent, measure, check_edition}
 use Rattle.rules.specs.Move.{steps_by, start, after}
 use Rattle.rules.specs.Pass.{keeps, pass_of}
-use Rattle.rules.specs.Editions.{tries_by}
+use Rattle.rules.specs.Fronts.{tries_by}
 use Rattle.rules.specs.Run.{no_figures, no_run_figures, Ended, pass_ends}
 use Rattle.rules.specs.Stored.{weigh, block_check, header_of, laid_out, further_rows, job_of, Room, read_verdict}
 use Rattle.rules.specs.Report.{text, digits_in, spaced, line, refusal, report, all_room, all_lent, all_run, prints}
@@ -37,7 +37,7 @@ use Rattle.rules.proofs.SoundJob.{ratio-pass, goal-pass, sound}
 use Rattle.rules.proofs.Sizes.{sizes-add}
 use Rattle.rules.proofs.Refusals.{never-read, lent-chain}
 use Rattle.rules.proofs.Proved.{accepted, pass-holds-by, given-sides, run-holds-by, lent-passes, answers}
-use Rattle.rules.proofs.Editions.{editions-hold}
+use Rattle.rules.proofs.FrontsProved.{editions-hold}
 use Rattle.rules.proofs.Lending.{lent-enough, read_same}
 use Rattle.rules.proofs.Writes.{few-numbers, write-holds}
 use Rattle.rules.proofs.Balancing.{balance-holds, before-parts, start-passed, balance-answers}
@@ -72,7 +72,7 @@ never-window most = record {
 }
   where
     read : (bytes : List ℕ) (room : Room) → (read_verdict most bytes room).number ≢ 10
-    read bytes room = never-read most bytes room 10 (omega arith) (omega arith) (omega arith) (omega arith) (omega arith)
+    read bytes room = never-read most bytes room 10 (omega arith) (omega arith) (omega arith) (omega arith)
 
     go : (v w : Verdict) (n : ℕ) (room made : List Difference) → v.number ≢ 10 → w.number ≢ 10 → (a b c : Bool)
         → (cond a (cond b (cond c (comparing_of (compared 0 done n) made) (comparing_of (compared 0 (refuse_if true 30 0) n) room)) (comparing_of (compared 2 w 0) room)) (comparing_of (compared 1 v 0) room)).answer.verdict.number ≢ 10

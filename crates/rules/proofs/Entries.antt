@@ -1,7 +1,6 @@
 -- A lent list afterwards, entry by entry. Assumes nothing.
 use mathlib.Core.Path.{◌≡◌, refl, sym, ap, ap₂, ◌∙◌}
 use Prim.Native.Nat.{ℕ, zero, suc, ◌+◌, ◌-◌, ◌≤◌, ◌<◌}
-use mathlib.Core.Bool.{Bool, true, false, cond}
 use mathlib.Core.List.{List, [], ◌∷◌, ◌++◌, append_assoc, append-nil}
 use native.Mathlib.Decide.{dec_lt}
 use native.Mathlib.Numerals.{add-one}
@@ -150,13 +149,3 @@ listed-again {A = A} n z xs ys old h k =
     ap (λ (t : List A). padded n z ys ++ t)
     (onto-drop (padded n z xs) old (length (padded n z ys))
     (omega (arith, padded-length n z xs h, padded-length n z ys k)))
-
--- ---- what is told of scans, which by edition 3 is nothing, is no more than they are
-
-pub shown-few {ℓ} : {A : Type ℓ} {n : ℕ} (third : Bool) (xs : List A) → length xs ≤ n → length (cond third [] xs) ≤ n
-shown-few true xs h = omega arith
-shown-few false xs h = h
-
-pub shown-less : {n : ℕ} (third : Bool) (k : ℕ) → k ≤ n → cond third 0 k ≤ n
-shown-less true k h = omega arith
-shown-less false k h = h

@@ -17,9 +17,8 @@ use Rattle.rules.specs.Job.{Job, Limits, file_count, recipe_count, files, views,
 use Rattle.rules.specs.Split.{other, side_of, times, holds, balanced, weight, smax, size_on}
 use Rattle.rules.specs.Move.{State, start, lock_of, free, steps_by, after, Frees, stop, move, size_after, legal, dist_after, better, choose, moves}
 use Rattle.rules.specs.Pass.{tries}
-use Rattle.rules.specs.Fronts.{Buckets, start_buckets, entered_first, moved_on, gain_in, in_vault, front_of, unless_rejected, offer, of_two, choose_front, front_tries}
-use Rattle.rules.specs.Editions.{tries_by}
-use Rattle.rules.specs.FrontsHold.{Standing, Front, foremost, no_less, FrontsHold, buckets_at, BucketsHold, ChosenFront, fronts_at, PassHoldsFronts}
+use Rattle.rules.specs.Fronts.{Buckets, start_buckets, entered_first, moved_on, gain_in, in_vault, front_of, unless_rejected, offer, of_two, choose_front, front_tries, tries_by}
+use Rattle.rules.specs.FrontsHold.{Standing, Front, foremost, no_less, FrontsHold, buckets_at, BucketsHold, ChosenFront, fronts_at, PassHoldsFronts, EditionsHold}
 use Rattle.rules.specs.RoundTrip.{Sideless}
 use Rattle.rules.specs.Theorems.{Binary, Sound, Sides, Lawful, LawfulTry}
 use Rattle.rules.proofs.Tests.{or_no, and_yes, and_no}
@@ -254,6 +253,12 @@ module _ (most : Limits) (job : Job) (s : Sound most job) (b : Buckets) (standin
       go (some x) (some y) i j =
           ap₂ (λ (a c : ℤ). cond (lt_z a c || (not (lt_z c a) && ltb (dist_after job b.state y) (dist_after job b.state x))) (some y) (some x)) (offered 0 x i) (offered 1 y j)
 
+-- ---- the choice does not go by the job's own sides
+
+pub by-sideless : (job : Job) (edition : ℕ) → Sideless (tries_by edition) job
+unfolding front_tries choose_front front_of moved_on entered_first moves choose legal dist_after size_after balanced weight smax size_on files views recipes read_in
+by-sideless job edition sides = refl
+
 -- ---- any moves of files then free
 
 -- what each move keeps
@@ -351,3 +356,19 @@ module _ (most : Limits) (job : Job) (s : Sound most job) where
               (chosen_none job (fronts_at job sides last) (b.fronts last)
               (ap (λ (fs : List ℕ). choose_front job (steps_by (moved_on job) (start_buckets job sides) fs)) (take-length ms) ∙ fronts-end) u f l p);
         }
+
+  -- ---- by edition
+
+  by_lawful : (edition : ℕ) → LawfulTry job (tries_by edition job)
+  by_lawful edition sides w = go (eqb edition 2)
+    where
+      go : (t : Bool) → Lawful job sides (cond t (front_tries job sides) (tries job sides))
+      go true = fronts-lawful sides w
+      go false = tries-lawful most job s sides w
+
+  pub editions-hold : EditionsHold job
+  editions-hold = record {
+    lawful = by_lawful;
+    run = λ edition. run-holds-by most job s (tries_by edition job) (by_lawful edition);
+    sideless = λ edition. by-sideless job edition;
+  }

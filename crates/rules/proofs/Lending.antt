@@ -15,7 +15,7 @@ use Rattle.rules.specs.declared.Figures.{Figures}
 use Rattle.rules.specs.declared.RunFigures.{RunFigures}
 use Rattle.rules.specs.Job.{Job, Limits, file_count, recipe_count, pin_count, scratch_for, scratch_numbers, fits}
 use Rattle.rules.specs.Check.{done, refuse_if, ◌or_else◌, Rows, ◌followed_by◌, row, first_given, count_rows, content_rows, rest_rows, bad_k, over_most, check_counts, check_rest, check, is_edition, edition_rows, check_edition, check_lent}
-use Rattle.rules.specs.Stored.{header_of, block_count, block_rows, further_rows, job_of, roomy, has_cap, under_one, wrong_total, layout_rows, read_verdict}
+use Rattle.rules.specs.Stored.{header_of, block_count, block_rows, further_rows, job_of, roomy, under_one, wrong_total, layout_rows, read_verdict}
 use Rattle.rules.specs.Pass.{leaves}
 use Rattle.rules.specs.Run.{first_pass, run_by, last_pass, figures_of, run_figures_of, Ended}
 use Rattle.rules.specs.Report.{report, all_room, all_lent, prints}
@@ -31,10 +31,10 @@ use Rattle.rules.proofs.Proved.{answers}
 
 -- by an edition, the report of the run of a job that is let through, and the trace of its first pass
 abbrev pub run_text : ℕ → Job → List ℕ
-run_text edition job = report job (run_figures_of edition done (first_pass edition job) (run_by edition job)) (last_pass edition job).sides_after
+run_text edition job = report job (run_figures_of done (first_pass edition job) (run_by edition job)) (last_pass edition job).sides_after
 
 abbrev pub pass_text : ℕ → Limits → Job → List ℕ
-pass_text edition most job = let p = first_pass edition job in trace job (figures_of edition done p (p ∷ [])) p.sides_after (listing (leaves edition job (all_lent most job) p))
+pass_text edition most job = let p = first_pass edition job in trace job (figures_of done p (p ∷ [])) p.sides_after (listing (leaves edition job (all_lent most job) p))
 
 -- a lent list of n entries has room for m
 has_room {ℓ} : {A : Type ℓ} (m n : ℕ) (z : A) → m ≤ n → leb m (length (replicate n z)) ≡ true
@@ -68,7 +68,6 @@ module _ (most : Limits) where
         let h : Header = header_of input in
         let short : Rows = row 20 (under_one input) 0 in
         let wide : Rows = row 22 (bad_k h.k) 0 in
-        let cap : Rows = row 23 (has_cap h) 0 in
         let counts : Rows = count_rows most h.files h.recipes h.pins in
         let later : Rows = row 20 (wrong_total h input) 0 followed_by further_rows h input 1 (block_count h - 1) in
         let left : (first_given later).number ≢ 3
@@ -79,8 +78,7 @@ module _ (most : Limits) where
         (never-chain 3 (first_given short) _ (never-given 3 short refl (omega arith))
         (λ _. never-chain 3 (first_given (block_rows h input 0)) _ (never-given 3 (block_rows h input 0) refl (omega arith))
         (λ _. never-chain 3 (first_given wide) _ (never-given 3 wide refl (omega arith))
-        (λ _. never-chain 3 (first_given cap) _ (never-given 3 cap refl (omega arith))
-        (λ _. never-chain 3 (first_given counts) _ (never-given 3 counts refl (omega arith)) after)))))
+        (λ _. never-chain 3 (first_given counts) _ (never-given 3 counts refl (omega arith)) after))))
         (λ _. never-given 3 (content_rows (job_of input)) refl (omega arith))
 
     pub lends-enough : LendsEnough most input

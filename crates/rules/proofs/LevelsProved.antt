@@ -2,7 +2,7 @@
 use mathlib.Core.Path.{◌≡◌, refl, sym, ap₂, ◌∙◌}
 use Prim.Native.Nat.{ℕ, zero, suc, ◌*◌, ◌<◌}
 use mathlib.Core.Bool.{true, false}
-use mathlib.Core.List.{List, [], ◌∷◌}
+use mathlib.Core.List.{List, [], ◌∷◌, map}
 use mathlib.Core.Option.{none}
 use native.Mathlib.Decide.{dec_lt}
 use native.Mathlib.Omega.{arith}
@@ -15,22 +15,26 @@ use borrow.Author.Tests.{eqb-true}
 use Rattle.rules.specs.declared.Verdict.{Verdict}
 use Rattle.rules.specs.Job.{Job, Limits, file_count, recipe_count, files, views, read_in, recipes, Lent, fits}
 use Rattle.rules.specs.Split.{gain, weight, smax, size_on, balanced}
+use Rattle.rules.specs.Check.{check_job}
 use Rattle.rules.specs.Move.{State, start, lock_of, free, steps_by, after, moved, Frees, size_after, legal, dist_after}
 use Rattle.rules.specs.Pass.{gains_when, Pass, pass_of, leaves}
-use Rattle.rules.specs.Run.{figures_of}
-use Rattle.rules.specs.Levels.{level, vector, greater_vector, above, choose_vector, vector_tries}
-use Rattle.rules.specs.LevelsHold.{ChosenVector, ChoiceHolds, vectors_at, PassHoldsVectors, VectorsHold, LeftUnscanned, ToldUnscanned}
+use Rattle.rules.specs.Run.{pass_by, last_of, figures_of}
+use Rattle.rules.specs.Levels.{level, vector, greater_vector, above, choose_vector, vector_tries, unscanned}
+use Rattle.rules.specs.LevelsHold.{ChosenVector, ChoiceHolds, vectors_at, PassHoldsVectors, VectorsHold, VectorsAccepted, LeftUnscanned, ToldUnscanned}
 use Rattle.rules.specs.RoundTrip.{Sideless}
 use Rattle.rules.specs.SettledYes.{TakesGreatest}
-use Rattle.rules.specs.Theorems.{Binary, Sound, Sides, LawfulTry}
+use Rattle.rules.specs.Theorems.{Binary, Sound, Accepted, Sides, Left, LawfulTry}
 use Rattle.rules.proofs.Tests.{clash, or_no, and_yes}
-use Rattle.rules.proofs.Count.{count-le, total-zero}
+use Rattle.rules.proofs.Count.{count-le, total-zero, total-map}
 use Rattle.rules.proofs.Entries.{listed-holds}
 use Rattle.rules.proofs.Fits.{long-enough}
 use Rattle.rules.proofs.First.{Order}
 use Rattle.rules.proofs.GainKept.{frees-take, after-binary}
 use Rattle.rules.proofs.MovesEnd.{StateLong, moved-long, Picks, moves-see, moves-end}
-use Rattle.rules.proofs.Proved.{lawful-frees, pass-holds-by}
+use Rattle.rules.proofs.Proved.{accepted, scans-hold, left, lawful-frees, pass-holds-by, run-holds-by}
+use Rattle.rules.proofs.Emptied.{none-emptied}
+use Rattle.rules.proofs.Resettling.{resettled-holds-by}
+use Rattle.rules.proofs.NoneLessens.{settled-least}
 use Rattle.rules.proofs.Orders.{greater-order, none-order, then-order, chosen_by, nothing-by, only-by, found-by, stuck-by}
 use Rattle.rules.proofs.Levels.{level-one}
 
@@ -145,7 +149,7 @@ module _ (most : Limits) (job : Job) (s : Sound most job) where
   -- ---- the run
 
   -- where a move is legal, one is made
-  pub takes-greatest : TakesGreatest job (vector_tries job)
+  takes-greatest : TakesGreatest job (vector_tries job)
   unfolding steps_by
   takes-greatest sides w f h k =
       let p = pass-holds-vectors sides w in
@@ -155,21 +159,60 @@ module _ (most : Limits) (job : Job) (s : Sound most job) where
       ]
 
   pub vectors-hold : VectorsHold job
-  vectors-hold = record { lawful = vectors-lawful; sideless = vectors-sideless job; greatest = takes-greatest }
+  vectors-hold = record {
+    lawful = vectors-lawful;
+    run = run-holds-by most job s (vector_tries job) vectors-lawful;
+    sideless = vectors-sideless job;
+    greatest = takes-greatest;
+    least = settled-least most job s (vector_tries job) vectors-lawful takes-greatest;
+  }
 
--- ---- what is told
+  -- ---- what is told
 
-pub left-unscanned : (job : Job) (l : Lent) (p : Pass) → fits 3 job l ≡ true → LeftUnscanned job l p
-unfolding leaves
-left-unscanned job l p ok =
-    let r = long-enough 3 job l ok in
+  pub left-unscanned : (sides : List ℕ) (l : Lent) → Sides job sides → fits 3 job l ≡ true → LeftUnscanned job l sides
+  unfolding leaves
+  left-unscanned sides l w ok =
+      let p : Pass = pass_by job (vector_tries job) sides in
+      let r = long-enough 3 job l ok in
+      let told : Left 3 job l p = left most job s 3 sides (vector_tries job sides) l ok (pass-holds-vectors sides w).any.moves (scans-hold most job s sides (vector_tries job sides) w (frees sides w)) in
+      let ends = listed-holds (file_count job) 0 [] l.ends (omega arith) r.scans_so_far in
+      let js = listed-holds (4 * recipe_count job) 0 [] l.recipes (omega arith) r.scanned_recipes in
+      let ks = listed-holds (4 * recipe_count job) 0 [] l.kinds (omega arith) r.scanned_kinds in
+      record {
+        left = record { gains = refl; tried = told.tried; gained = told.gained; cuts = told.cuts; ends = ends; recipes = js; kinds = ks; scratch = told.scratch };
+        ends = λ i. ends.then 0 i (omega arith);
+        recipes = λ i. js.then 0 i (omega arith);
+        kinds = λ i. ks.then 0 i (omega arith);
+        scratch = refl;
+      }
+
+pub vectors-accepted : (most : Limits) (job : Job) → (check_job most job).number ≡ 0 → VectorsAccepted most job
+vectors-accepted most job ok =
+    let a : Accepted most job = accepted most job true ok in
+    let h : VectorsHold job = vectors-hold most job a.sound in
+    let none = none-emptied job a.filled most a.sound a.wide.0 in
     record {
-      ends = λ i. (listed-holds (file_count job) 0 [] l.ends (omega arith) r.scans_so_far).then 0 i (omega arith);
-      recipes = λ i. (listed-holds (4 * recipe_count job) 0 [] l.recipes (omega arith) r.scanned_recipes).then 0 i (omega arith);
-      kinds = λ i. (listed-holds (4 * recipe_count job) 0 [] l.kinds (omega arith) r.scanned_kinds).then 0 i (omega arith);
-      scratch = refl;
+      within = none.within (vector_tries job) h.lawful a.balanced;
+      ran = none.ran (vector_tries job) h.lawful a.balanced;
+      again = resettled-holds-by vector_tries job h.sideless most h.lawful ok;
     }
+
+last-unscanned : (first : Pass) (ps : List Pass) → last_of (unscanned first) (map unscanned ps) ≡ unscanned (last_of first ps)
+unfolding last_of
+last-unscanned first [] = refl
+last-unscanned first (p ∷ ps) = last-unscanned p ps
 
 pub told-unscanned : (v : Verdict) (first : Pass) (ps : List Pass) → ToldUnscanned v first ps
 unfolding figures_of
-told-unscanned v first ps = record { scans = total-zero ps; visits = total-zero ps }
+told-unscanned v first ps =
+    record {
+      last = last-unscanned first ps;
+      figures = rw (
+        last-unscanned first ps,
+        total-map (λ p. length p.tried) unscanned ps,
+        total-map (λ p. p.kept) unscanned ps,
+        total-map (λ p. length p.scanned) unscanned ps,
+        total-map (λ p. p.visited) unscanned ps,
+        total-zero ps,
+      ) refl;
+    }

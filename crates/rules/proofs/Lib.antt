@@ -35,10 +35,6 @@ pub mod OneWay
 pub mod Foremost
 pub mod Entering
 pub mod FrontsProved
-pub mod Orders
-pub mod Levels
-pub mod LevelsProved
-pub mod Editions
 pub mod Told
 pub mod Reports
 pub mod Lending
@@ -59,6 +55,8 @@ pub mod Comparing
 pub mod FrontsWorked
 pub mod NoneLessens
 pub mod SettledYes
-pub mod Uncapped
 pub mod MoreFiles
+pub mod Orders
+pub mod Levels
+pub mod LevelsProved
 pub mod LevelsWorked

@@ -19,7 +19,7 @@ use Rattle.rules.specs.Lists.{onto, listed}
 use Rattle.rules.specs.Job.{Job, Limits, file_count, recipe_count, pin_count, Lent, recipes, fits, scratch_for}
 use Rattle.rules.specs.Split.{cut, size_a, unread_files, unread_recipes}
 use Rattle.rules.specs.Check.{done, is_done, refuse_if, ◌or_else◌, Rows, ◌followed_by◌, row, goal_rows, content_rows, empty, over_most, bad_k, check_counts, check_lists, check_contents, check_sound, check_goal, check_rest, check, check_edition, check_lent, measure}
-use Rattle.rules.specs.Stored.{header_of, block_count, further_rows, block_verdict, blocks_verdict, under_one, wrong_total, roomy, has_cap, job_of, Room, layout_verdict, read_verdict, written, no_header, reading}
+use Rattle.rules.specs.Stored.{header_of, block_count, block_rows, further_rows, block_verdict, blocks_verdict, under_one, wrong_total, roomy, job_of, Room, layout_verdict, read_verdict, written, no_header, reading}
 use Rattle.rules.specs.Pass.{Pass, leaves}
 use Rattle.rules.specs.Run.{Ended, first_pass, run_by, last_pass, figures_of, run_figures_of, no_figures, no_run_figures, left_by, unchanged, pass_ends, run_ends}
 use Rattle.rules.specs.Report.{refusal, report, all_room, all_lent, all_run, prints}
@@ -28,10 +28,9 @@ use Rattle.rules.specs.Writing.{blocks_of, header_for, check_written, write_verd
 use Rattle.rules.specs.Balance.{none_balanced, balance_verdict, balance_check, Balancing, balancing, balancing_of, balance_figures, no_balance_figures, balance_sides, all_balancing, balances, balance_lines}
 use Rattle.rules.specs.Compare.{differences, read_for, compared, comparing_of, comparing_jobs, comparing, difference_lines, refused_of, compares}
 use Rattle.rules.specs.Theorems.{Sound, most_bytes}
-use Rattle.rules.specs.Uncapped.{Opened}
 use Rattle.rules.specs.MoreFiles.{Raised, CallsSame, ReadSame, PlannedSame, larger, BeforeTwo, two, LargerRefused, LongestHolds, BlocksWorked}
 use Rattle.rules.proofs.Verdicts.{chain_same, first-not, then-not, goes_on, ends_there, passes-both, not-refused}
-use Rattle.rules.proofs.Refusals.{lacks, never-given, further-lacks, rest-chain, lent-chain, layout-chain, read-chain}
+use Rattle.rules.proofs.Refusals.{lacks, never-given, plain_rows, further-lacks, rest-chain, lent-chain, layout-chain, read-chain}
 use Rattle.rules.proofs.SoundJob.{few-of, counts-pass}
 use Rattle.rules.proofs.Lending.{lends-enough, lent-enough}
 use Rattle.rules.proofs.Reading.{read-holds}
@@ -42,7 +41,6 @@ use Rattle.rules.proofs.Balancing.{balance-answers, balances-no}
 use Rattle.rules.proofs.Reports.{trace-refused}
 use Rattle.rules.proofs.Fits.{long-enough}
 use Rattle.rules.proofs.RoundTrip.{blocks-length, read_length}
-use Rattle.rules.proofs.Uncapped.{cap-asked, later, opened-asks, asks-opened}
 use Rattle.rules.proofs.Tests.{contra'}
 use Rattle.rules.proofs.Entries.{onto-in, onto-stays}
 
@@ -209,10 +207,10 @@ module _ (old new : Limits) (raised : Raised old new) where
         measure = measure-same;
         pass = λ edition l t.
             let p : Pass = first_pass edition job in
-            ap (λ (v : Verdict). elim (is_done v) [ true ↦ left_by edition job l (figures_of edition v p (p ∷ [])) p | false ↦ unchanged job l (no_figures v) ]) (lent_same edition l t);
+            ap (λ (v : Verdict). elim (is_done v) [ true ↦ left_by edition job l (figures_of v p (p ∷ [])) p | false ↦ unchanged job l (no_figures v) ]) (lent_same edition l t);
         run = λ edition l t.
             ap (λ (v : Verdict). elim (is_done v) [
-              | true ↦ left_by edition job l (run_figures_of edition v (first_pass edition job) (run_by edition job)) (last_pass edition job)
+              | true ↦ left_by edition job l (run_figures_of v (first_pass edition job) (run_by edition job)) (last_pass edition job)
               | false ↦ unchanged job l (no_run_figures v)
             ]) (lent_same edition l t);
         balancing = balance-same;
@@ -241,7 +239,6 @@ module _ (old new : Limits) (raised : Raised old new) where
         let short : Verdict = refuse_if (under_one input) 20 0 in
         let zeroth : Verdict = block_verdict head input 0 in
         let wide : Verdict = refuse_if (bad_k head.k) 22 0 in
-        let cap : Verdict = refuse_if (has_cap head) 23 0 in
         let n : Verdict = head-counts new or_else after-counts room in
         let o : Verdict = head-counts old or_else after-counts mine in
         let counted : o.number ≢ 2 → n ≡ o
@@ -251,11 +248,10 @@ module _ (old new : Limits) (raised : Raised old new) where
         ∙ chain_same (head-counts old) (after-counts room) (after-counts mine)
         (λ z. ap (λ (b : Bool). refuse_if (not b) 3 0 or_else total-on) (like (counts-pass old head.files head.recipes head.pins z).1)) in
         layout-chain new input room
-        ∙ chain_same short (zeroth or_else wide or_else cap or_else n) (zeroth or_else wide or_else cap or_else o)
-        (λ a. chain_same zeroth (wide or_else cap or_else n) (wide or_else cap or_else o)
-        (λ b. chain_same wide (cap or_else n) (cap or_else o)
-        (λ c. chain_same cap n o
-        (λ d. counted (then-not 2 cap o d (then-not 2 wide (cap or_else o) c (then-not 2 zeroth (wide or_else cap or_else o) b (then-not 2 short (zeroth or_else wide or_else cap or_else o) a (rw (← layout-chain old input mine) t)))))))))
+        ∙ chain_same short (zeroth or_else wide or_else n) (zeroth or_else wide or_else o)
+        (λ a. chain_same zeroth (wide or_else n) (wide or_else o)
+        (λ b. chain_same wide n o
+        (λ c. counted (then-not 2 wide o c (then-not 2 zeroth (wide or_else o) b (then-not 2 short (zeroth or_else wide or_else o) a (rw (← layout-chain old input mine) t)))))))
         ∙ sym (layout-chain old input mine)
 
     read_alike : (room mine : Room) → (larger old input ≡ false → roomy head room ≡ roomy head mine) → (read_verdict old input mine).number ≢ 2
@@ -370,7 +366,7 @@ module _ (old new : Limits) (raised : Raised old new) where
           let made : (verdict old).number ≡ 0 → tell new ≡ tell old
           = λ q.
           ap shown (a.pass_done (ap (λ (v : Verdict). v.number) verdict-same ∙ q))
-          ∙ trace-alike _ _ (left-alike edition new old job p) job (figures_of edition done p (p ∷ [])) p.sides_after
+          ∙ trace-alike _ _ (left-alike edition new old job p) job (figures_of done p (p ∷ [])) p.sides_after
           ∙ sym (ap shown (b.pass_done q)) in
           let refused : (verdict old).number ≢ 0 → tell new ≡ tell old
           = λ q.
@@ -433,14 +429,25 @@ module _ (input : List ℕ) where
   abbrev told : Header
   told = header_of input
 
-  -- what stands between 23 and 2 in reading
+  -- what stands before 2 in reading, each for itself
+  abbrev short : Verdict
+  short = refuse_if (under_one input) 20 0
+
+  abbrev zeroth : Verdict
+  zeroth = block_verdict told input 0
+
+  abbrev wide : Verdict
+  wide = refuse_if (bad_k told.k) 22 0
+
   abbrev none : Verdict
   none = refuse_if (empty told.files told.recipes) 1 0
 
-  before-two : Opened input → (cap-asked input).number ≡ 0 → none.number ≡ 0 → BeforeTwo input
-  before-two o c d = record {
-    opened = o;
-    capless = not-refused (has_cap told) 22 0 c;
+  before-two : short.number ≡ 0 → zeroth.number ≡ 0 → wide.number ≡ 0 → none.number ≡ 0 → BeforeTwo input
+  unfolding block_verdict lacks
+  before-two a b c d = record {
+    long = not-refused (under_one input) 19 0 a;
+    opened = plain_rows (block_rows told input 0) refl b;
+    wide = not-refused (bad_k told.k) 21 0 c;
     some = not-refused (empty told.files told.recipes) 0 0 d;
   }
 
@@ -453,29 +460,31 @@ module _ (input : List ℕ) where
 
     two-given : BeforeTwo input → larger most input ≡ true → read_verdict most input room ≡ two
     unfolding check_counts
-    two-given b h = rw (opened-asks input most room b.opened, b.capless, b.some, h) refl
+    two-given b h = rw (read-chain most input room, layout-chain most input room, b.long, b.opened, b.wide, b.some, h) refl
 
     two-only : (read_verdict most input room).number ≡ 2 → BeforeTwo input × (larger most input ≡ true)
-    unfolding lacks blocks_verdict check_counts check_contents
+    unfolding lacks block_verdict blocks_verdict check_counts check_contents
     two-only e =
         let contents : (check_contents (job_of input)).number ≢ 2 = never-given 2 (content_rows (job_of input)) refl (omega arith) in
         let laid = ends_there 2 (layout_verdict most input room) (check_contents (job_of input)) contents (rw (← read-chain most input room) e) in
-        let a = asks-opened input most room 2 (omega arith) (omega arith) (omega arith) laid in
-        let c = goes_on 2 (cap-asked input) (later input most room) (never-given 2 (row 23 (has_cap told) 0) refl (omega arith)) a.1 in
-        let behind : Rows = row 3 (not (roomy told room)) 0 followed_by row 20 (wrong_total told input) 0 followed_by further_rows told input 1 (block_count told - 1) in
-        let d = ends_there 2 (none or_else over) rest (never-given 2 behind (further-lacks 2 (omega arith) (omega arith) told input 1 (block_count told - 1)) (omega arith)) c.1 in
+        let a = goes_on 2 short (zeroth or_else wide or_else check_counts most told.files told.recipes told.pins or_else rest) (never-given 2 (row 20 (under_one input) 0) refl (omega arith)) (rw (← layout-chain most input room) laid) in
+        let b = goes_on 2 zeroth _ (never-given 2 (block_rows told input 0) refl (omega arith)) a.1 in
+        let c = goes_on 2 wide _ (never-given 2 (row 22 (bad_k told.k) 0) refl (omega arith)) b.1 in
+        let later : Rows = row 3 (not (roomy told room)) 0 followed_by row 20 (wrong_total told input) 0 followed_by further_rows told input 1 (block_count told - 1) in
+        let d = ends_there 2 (none or_else over) rest (never-given 2 later (further-lacks 2 (omega arith) (omega arith) told input 1 (block_count told - 1)) (omega arith)) c.1 in
         let f = goes_on 2 none over (never-given 2 (row 1 (empty told.files told.recipes) 0) refl (omega arith)) d in
-        (before-two a.0 c.0 f.0, contra' (larger most input) (λ h. omega (arith, f.1, ap (λ (t : Bool). (refuse_if t 2 0).number) h)))
+        (before-two a.0 b.0 c.0 f.0, contra' (larger most input) (λ h. omega (arith, f.1, ap (λ (t : Bool). (refuse_if t 2 0).number) h)))
 
     -- a job that is read is past all of it
     read-before : (read_verdict most input room).number ≡ 0 → BeforeTwo input
     unfolding check_counts
     read-before z =
         let laid = passes-both (layout_verdict most input room) (check_contents (job_of input)) (rw (← read-chain most input room) z) in
-        let a = asks-opened input most room 0 (omega arith) (omega arith) (omega arith) laid.0 in
-        let c = passes-both (cap-asked input) (later input most room) a.1 in
+        let a = passes-both short (zeroth or_else wide or_else check_counts most told.files told.recipes told.pins or_else rest) (rw (← layout-chain most input room) laid.0) in
+        let b = passes-both zeroth _ a.1 in
+        let c = passes-both wide _ b.1 in
         let d = passes-both (none or_else over) rest c.1 in
-        before-two a.0 c.0 (passes-both none over d.0).0
+        before-two a.0 b.0 c.0 (passes-both none over d.0).0
 
     -- and no longer than the largest
     read_short : (read_verdict most input room).number ≡ 0 → length input ≤ most_bytes most

@@ -1,4 +1,4 @@
--- Of the split that a run returns no single legal move lessens the cut, where the choice takes a greatest gain. Assumes nothing.
+-- Of the split that a settled run returns no single legal move lessens the cut, where the choice takes a greatest gain. Assumes nothing.
 use mathlib.Core.Path.{◌≡◌, refl, sym, ap, subst, ◌∙◌}
 use Prim.Native.Nat.{ℕ, ◌+◌, ◌≤◌, ◌<◌}
 use mathlib.Core.Bool.{true, false}
@@ -22,7 +22,7 @@ use Rattle.rules.proofs.Signed.{up, down, diff-key, lt_z-false}
 use Rattle.rules.proofs.OneMove.{move-of}
 use Rattle.rules.proofs.GainKept.{cut_moved}
 use Rattle.rules.proofs.SoundJob.{recipes-distinct}
-use Rattle.rules.proofs.Runs.{keeps-least, settled-stays, Passes, passes-come, come-last, run-settles}
+use Rattle.rules.proofs.Runs.{keeps-least, settled-stays, Passes, passes-come, come-last}
 use Rattle.rules.proofs.Proved.{pass-holds-by, given-sides, pass-holds}
 
 -- a difference that is a count, crossed over
@@ -62,12 +62,12 @@ module _ (most : Limits) (job : Job) (s : Sound most job) where
 
   pub settled-least : (try : List ℕ → List ℕ) → LawfulTry job try → SettledLeast job try
   unfolding passes
-  settled-least try lawful greatest =
+  settled-least try lawful greatest e =
       let came : Passes job try (most_passes job) job.sides (passes job try) = passes-come job try (most_passes job) job.sides in
       let given : Sides job job.sides = given-sides most job s in
       let last = come-last job try (Sides job) (λ x w. (pass-holds-by most job s x (try x) w (lawful x w)).moves.next) came given (pass_by job try job.sides) (job.sides, given, refl) in
       let before : List ℕ = last.0 in
-      let there : settles (pass_by job try before) ≡ true = ap settles (sym last.2) ∙ run-settles job try in
+      let there : settles (pass_by job try before) ≡ true = ap settles (sym last.2) ∙ e in
       let same : (last_by job try).sides_after ≡ before = ap (λ (p : Pass). p.sides_after) last.2 ∙ settled-stays job try before there in
       subst (NoneLessens job) (sym same) (λ f h k. first-least before (try before) last.1 (lawful before last.1) there f h k (greatest before last.1 f h k))
 

@@ -2,9 +2,9 @@
 use mathlib.Core.Path.{◌≡◌, refl, sym, ap, ◌∙◌}
 use mathlib.Core.Logic.{◌≢◌}
 use Prim.Native.Nat.{ℕ, zero, suc, ◌*◌, ◌≤◌, ◌<◌}
-use mathlib.Core.Bool.{Bool, true, false, not, ◌&&◌}
+use mathlib.Core.Bool.{Bool, true, not, ◌&&◌}
 use mathlib.Core.List.{List, [], ◌∷◌, ◌++◌, map}
-use native.Mathlib.Decide.{dec_lt}
+use native.Mathlib.Decide.{dec_lt, ℕ_discrete}
 use native.Mathlib.Nat.{zero-add}
 use native.Mathlib.Omega.{arith}
 use lib.Dec.{eqb}
@@ -22,11 +22,11 @@ use Rattle.rules.specs.Pass.{cut_at, keeps, gains_after, start_gains, Pass, pass
 use Rattle.rules.specs.Run.{pass_by, most_passes, passes, last_of, first_pass, run_by, last_pass, figures_of, run_figures_of, left_by, pass_ends, run_ends}
 use Rattle.rules.specs.Writing.{check_written}
 use Rattle.rules.specs.Theorems.{Sound, Accepted, Sides, state_at, MovesHold, replayed_to, ScansHold, Left, scans_told, replayed_by, Replayed, Lawful, PassHoldsBy, LawfulTry, start_sides, RunHoldsBy, PassHolds, RunHolds, Answers}
-use Rattle.rules.proofs.Tests.{and_yes, not-no}
+use Rattle.rules.proofs.Tests.{clash, and_yes, not-no}
 use Rattle.rules.proofs.Verdicts.{zero_of, passes-both, both-pass, not-refused, Plain}
 use Rattle.rules.proofs.Refusals.{lacks, first-given, plain_rows, lent-chain}
 use Rattle.rules.proofs.Count.{total-map, length-tabled, count-some}
-use Rattle.rules.proofs.Entries.{beyond, listed_more, listed-holds, shown-few}
+use Rattle.rules.proofs.Entries.{beyond, listed_more, listed-holds}
 use Rattle.rules.proofs.GainKept.{frees-take, after-binary, kept_up, kept-length, kept_more, gain-kept-at, gains-kept, gains-pinned, gains-chosen, replay-within, replay-listed, told_more, cut-kept, start-fresh}
 use Rattle.rules.proofs.Changes.{scans-change}
 use Rattle.rules.proofs.FourScans.{recipe-scans, all-scans, all-visits}
@@ -36,7 +36,7 @@ use Rattle.rules.proofs.Choice.{chosen-one}
 use Rattle.rules.proofs.MovesEnd.{StateLong, after-long, frees_each, pass-each, pass-end, locked-stays, frees-once, frees-few}
 use Rattle.rules.proofs.Fits.{long-enough}
 use Rattle.rules.proofs.Steps.{after-snoc, kept-snoc, cuts-at, gains-take, gains-length, cuts-length, ends_last, ends-length}
-use Rattle.rules.proofs.Runs.{keeps-le, keeps-least, keeps-shortest, pass-falls, pass-to, pass-size, settled-none, settled-stays, Passes, passes-come, come-first, come-next, come-less, come-few, come-start, each_start, come-last, come-some, turns-some, run-settles}
+use Rattle.rules.proofs.Runs.{keeps-le, keeps-least, keeps-shortest, pass-falls, pass-to, pass-size, settled-none, settled-stays, Passes, passes-come, come-first, come-next, come-less, come-few, come-turns, come-settled, come-full, come-start, each_start, come-last, come-some, turns-none, turns-cap, turns-some}
 
 -- ---- an accepted job
 
@@ -133,17 +133,16 @@ module _ (most : Limits) (job : Job) (s : Sound most job) where
   -- ---- what the lent lists then hold
 
   -- beyond what the pass lists, the replay reads nothing of them
-  replay-left : (edition : ℕ) → eqb edition 3 ≡ false → (sides ms : List ℕ) (l : Lent) (k : ℕ) → k ≤ length ms
+  replay-left : (edition : ℕ) (sides ms : List ℕ) (l : Lent) (k : ℕ) → k ≤ length ms
       → replayed_by job sides (leaves edition job l (pass_of job sides ms)) k ≡ replayed_to job sides ms k
   unfolding leaves pass_of
-  replay-left edition e sides ms l k h =
+  replay-left edition sides ms l k h =
       let st : State = start job sides in
       let rs : List (List ℕ) = recipes job in
       let cs : List Scan = scans rs st ms in
       let c : ℕ = file_count job in
       let n : ℕ = 4 * recipe_count job in
       rw (
-        e,
         listed_more c 0 ms l.tried,
         take-append-le k ms (beyond c 0 ms l.tried) h,
         listed_more c 0 (ends_from rs 0 st ms) l.ends,
@@ -163,39 +162,38 @@ module _ (most : Limits) (job : Job) (s : Sound most job) where
         tried = listed-holds (file_count job) 0 ms l.tried m.few r.tried;
         gained = listed-holds (file_count job) (pos 0) _ l.gained (rw (gains-length (recipes job) (start job sides) ms) m.few) r.gained;
         cuts = listed-holds (file_count job) 0 _ l.cuts (rw (cuts-length (recipes job) (start job sides) ms) m.few) r.cuts;
-        ends = listed-holds (file_count job) 0 _ l.ends (shown-few (eqb edition 3) (ends_from (recipes job) 0 (start job sides) ms) (rw (ends-length (recipes job) 0 (start job sides) ms) m.few)) r.scans_so_far;
-        recipes = listed-holds (4 * recipe_count job) 0 _ l.recipes (rw length-map (shown-few (eqb edition 3) (scans (recipes job) (start job sides) ms) c.scans)) r.scanned_recipes;
-        kinds = listed-holds (4 * recipe_count job) 0 _ l.kinds (rw length-map (shown-few (eqb edition 3) (scans (recipes job) (start job sides) ms) c.scans)) r.scanned_kinds;
+        ends = listed-holds (file_count job) 0 _ l.ends (rw (ends-length (recipes job) 0 (start job sides) ms) m.few) r.scans_so_far;
+        recipes = listed-holds (4 * recipe_count job) 0 _ l.recipes (rw length-map c.scans) r.scanned_recipes;
+        kinds = listed-holds (4 * recipe_count job) 0 _ l.kinds (rw length-map c.scans) r.scanned_kinds;
         scratch = listed-holds (scratch_for edition job) 0 [] l.scratch (omega arith) r.scratch;
       }
 
   -- of as many recipes as there are scans the list left holds those of the scans
-  recipes-left : (edition : ℕ) → eqb edition 3 ≡ false → (sides ms : List ℕ) (l : Lent) → take (length (pass_of job sides ms).scanned) (leaves edition job l (pass_of job sides ms)).recipes ≡ map (λ c. c.recipe) (pass_of job sides ms).scanned
+  recipes-left : (edition : ℕ) (sides ms : List ℕ) (l : Lent) → take (length (pass_of job sides ms).scanned) (leaves edition job l (pass_of job sides ms)).recipes ≡ map (λ c. c.recipe) (pass_of job sides ms).scanned
   unfolding leaves
-  recipes-left edition e sides ms l =
+  recipes-left edition sides ms l =
       let cs : List Scan = (pass_of job sides ms).scanned in
       let n : ℕ = 4 * recipe_count job in
       let js : List ℕ = map (λ c. c.recipe) cs in
-      rw (e, listed_more n 0 js l.recipes) (ap (λ (k : ℕ). take k (js ++ beyond n 0 js l.recipes)) (sym (length-map cs (λ c. c.recipe))) ∙ take-append_seam js (beyond n 0 js l.recipes))
+      rw (listed_more n 0 js l.recipes) (ap (λ (k : ℕ). take k (js ++ beyond n 0 js l.recipes)) (sym (length-map cs (λ c. c.recipe))) ∙ take-append_seam js (beyond n 0 js l.recipes))
 
-  pub replayed : (edition : ℕ) → edition ≢ 3 → (sides ms : List ℕ) (l : Lent) → ScansHold job sides ms → Replayed edition job l sides ms
+  pub replayed : (edition : ℕ) (sides ms : List ℕ) (l : Lent) → ScansHold job sides ms → Replayed edition job l sides ms
   unfolding leaves pass_of visits times count
-  replayed edition other sides ms l c =
-      let e : eqb edition 3 ≡ false = ne_eqb edition 3 other in
+  replayed edition sides ms l c =
       let st : State = start job sides in
       let rs : List (List ℕ) = recipes job in
       let ends : List ℕ = ends_from rs 0 st ms in
       let cs : List Scan = scans rs st ms in
       let after : List ℕ = beyond (file_count job) 0 ends l.ends in
       let few : length ms < suc (length ends) = omega (arith, ends-length rs 0 st ms) in
-      let same : (k : ℕ) → k ≤ length ms → replayed_by job sides (leaves edition job l (pass_of job sides ms)) k ≡ replayed_to job sides ms k = replay-left edition e sides ms l in
+      let same : (k : ℕ) → k ≤ length ms → replayed_by job sides (leaves edition job l (pass_of job sides ms)) k ≡ replayed_to job sides ms k = replay-left edition sides ms l in
       record {
         same = same;
         fresh = λ k f h p e. ap (λ (x : List ℤ). get_or x f (pos 0)) (same k h) ∙ c.fresh k f p e;
         gains = same (length ms) (omega arith) ∙ c.gains;
-        last = rw (e, listed_more (file_count job) 0 ends l.ends) (get_or-append (0 ∷ ends) after 0 (length ms) few ∙ ends_last rs 0 st ms ∙ zero-add (length cs));
-        visits = rw (recipes-left edition e sides ms l) (sym (total-map (λ j. length (get_or (views job) j [])) (λ c. c.recipe) cs));
-        four = λ j. rw (recipes-left edition e sides ms l, total-map (λ x. bit (eqb x j)) (λ c. c.recipe) cs) (c.four j);
+        last = rw (listed_more (file_count job) 0 ends l.ends) (get_or-append (0 ∷ ends) after 0 (length ms) few ∙ ends_last rs 0 st ms ∙ zero-add (length cs));
+        visits = rw (recipes-left edition sides ms l) (sym (total-map (λ j. length (get_or (views job) j [])) (λ c. c.recipe) cs));
+        four = λ j. rw (recipes-left edition sides ms l, total-map (λ x. bit (eqb x j)) (λ c. c.recipe) cs) (c.four j);
       }
 
   -- ---- one pass, whoever chose its moves
@@ -279,7 +277,12 @@ module _ (most : Limits) (job : Job) (s : Sound most job) where
           held = λ i. holds_by (start_sides job try i) (there i).0;
           lessened = λ d i h. come-less job try came d i h;
           few = come-few job try came;
-          settled = run-settles job try;
+          settled = λ e. come-settled job try came one (omega (arith, turns-none job e));
+          capped = λ n. omega (arith, come-turns job try came, turns-cap job n);
+          full = λ h. elim (ℕ_discrete job.cap 0) [
+            | yes e ↦ clash (sym (come-settled job try came one (omega (arith, turns-none job e))) ∙ h)
+            | no n ↦ come-full job try came one h ∙ turns-cap job n
+          ];
           cut =
               ap (λ (p : Pass). p.cut_after) last.2 ∙ sym (pass-to job try last.0)
               ∙ sym (ap (λ (p : Pass). cut p.sides_after (recipes job)) last.2);
@@ -373,8 +376,8 @@ answers edition most job l =
       fitting = λ e. let b = lent-passes edition most job l e in (b.0, lent_fits most job (fits edition job l) b.1);
       pass_refused = λ n. rw (ne_eqb v.number 0 n, pass_ends) refl;
       run_refused = λ n. rw (ne_eqb v.number 0 n, run_ends) refl;
-      pass_done = λ e. rw (eq-eqb v.number 0 e, pass_ends) (ap (λ (x : Verdict). left_by edition job l (figures_of edition x (first_pass edition job) (first_pass edition job ∷ [])) (first_pass edition job)) (plain e));
-      run_done = λ e. rw (eq-eqb v.number 0 e, run_ends) (ap (λ (x : Verdict). left_by edition job l (run_figures_of edition x (first_pass edition job) (run_by edition job)) (last_pass edition job)) (plain e));
+      pass_done = λ e. rw (eq-eqb v.number 0 e, pass_ends) (ap (λ (x : Verdict). left_by edition job l (figures_of x (first_pass edition job) (first_pass edition job ∷ [])) (first_pass edition job)) (plain e));
+      run_done = λ e. rw (eq-eqb v.number 0 e, run_ends) (ap (λ (x : Verdict). left_by edition job l (run_figures_of x (first_pass edition job) (run_by edition job)) (last_pass edition job)) (plain e));
       measure_refused = λ n. rw (ne_eqb u.number 0 n, measure) refl;
       measure_done = λ e. rw (eq-eqb u.number 0 e, measure) (ap (λ (x : Verdict). record { verdict = x; cut = cut job.sides (recipes job); size = size_a job job.sides; unread = unread_files job; holding = unread_recipes job }) (plain-sound most job true e));
     }

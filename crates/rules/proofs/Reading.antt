@@ -9,12 +9,12 @@ use native.Mathlib.Nat.{div-le_self, mod-le}
 use lib.Dec.{eqb, ltb}
 use lib.ListN.{length, get_or, take, drop, length-take, get_or-eq_default}
 use lib.Seq.{get_or-take, get_or-drop}
-use borrow.Author.Tests.{eqb-true, eq-eqb, ne_eqb}
+use borrow.Author.Tests.{eq-eqb, ne_eqb}
 use Rattle.rules.specs.declared.Header.{Header}
 use Rattle.rules.specs.Lists.{up_to, AllBelow}
 use Rattle.rules.specs.Job.{Job, Limits, TwoByte, file_count, recipe_count, pin_count}
 use Rattle.rules.specs.Check.{refuse_if, ◌or_else◌, bad_k, check_counts, check_lists, check_lengths, check_contents, check_sound}
-use Rattle.rules.specs.Stored.{block_at, value, header_of, bounds_at, pins_at, block_verdict, job_of, Room, roomy, has_cap, layout_verdict, read_verdict, Reading, reading}
+use Rattle.rules.specs.Stored.{block_at, value, header_of, bounds_at, pins_at, block_verdict, job_of, Room, roomy, layout_verdict, read_verdict, Reading, reading}
 use Rattle.rules.specs.Writing.{check_written}
 use Rattle.rules.specs.Theorems.{ReadHolds, Written}
 use Rattle.rules.proofs.Verdicts.{passes-both, both-pass, not-refused, chain-go}
@@ -52,16 +52,11 @@ module _ (bytes : List ℕ) where
 
 -- ---- a job that is read passes 1 to 6
 
--- past 23 there is no cap
-pub no-cap : (h : Header) (n : ℕ) → (refuse_if (has_cap h) (suc n) 0).number ≡ 0 → h.cap ≡ 0
-no-cap h n z = eqb-true h.cap 0 (not-no (eqb h.cap 0) (not-refused (has_cap h) n 0 z))
-
 module _ (most : Limits) (bytes : List ℕ) (room : Room) (ok : (read_verdict most bytes room).number ≡ 0) where
   read-counts : ((check_counts most (header_of bytes).files (header_of bytes).recipes (header_of bytes).pins).number ≡ 0)
       × ((check_contents (job_of bytes)).number ≡ 0)
       × (roomy (header_of bytes) room ≡ true)
       × ((1 ≤ (header_of bytes).k) × ((header_of bytes).k ≤ 4))
-      × ((header_of bytes).cap ≡ 0)
   unfolding read_verdict layout_verdict block_verdict check_counts check_contents
   read-counts =
       let h : Header = header_of bytes in
@@ -69,10 +64,9 @@ module _ (most : Limits) (bytes : List ℕ) (room : Room) (ok : (read_verdict mo
       let b = passes-both (refuse_if (ltb (length bytes) 512) 20 0) _ a.0 in
       let c = passes-both (block_verdict h bytes 0) _ b.1 in
       let w = passes-both (refuse_if (bad_k h.k) 22 0) _ c.1 in
-      let x = passes-both (refuse_if (has_cap h) 23 0) _ w.1 in
-      let d = passes-both (check_counts most h.files h.recipes h.pins) _ x.1 in
+      let d = passes-both (check_counts most h.files h.recipes h.pins) _ w.1 in
       let f = passes-both (refuse_if (not (roomy h room)) 3 0) _ d.1 in
-      (d.0, a.1, not-no (roomy h room) (not-refused (not (roomy h room)) 2 0 f.0), good-k h.k 21 w.0, no-cap h 22 x.0)
+      (d.0, a.1, not-no (roomy h room) (not-refused (not (roomy h room)) 2 0 f.0), good-k h.k 21 w.0)
 
   pub read-passes : (check_sound most (job_of bytes) true).number ≡ 0
   unfolding check_sound check_lengths check_counts check_lists check_contents
@@ -88,9 +82,6 @@ module _ (most : Limits) (bytes : List ℕ) (room : Room) (ok : (read_verdict mo
   read_wide : (1 ≤ (job_of bytes).k) × ((job_of bytes).k ≤ 4)
   unfolding job_of
   read_wide = read-counts.3
-
-  pub read-capless : (header_of bytes).cap ≡ 0
-  read-capless = read-counts.4
 
   -- so it can be written
   pub read-writes : (check_written most (job_of bytes) true).number ≡ 0
@@ -127,6 +118,7 @@ module _ (bytes : List ℕ) (small : AllBelow 256 bytes) where
     pins = tabled-below _ _ 65536 (λ i. value-small (pins_at (header_of bytes) + i / 253) (i % 253));
     num = value-small 0 3;
     den = value-small 0 4;
+    cap = value-small 0 5;
     k = go (eqb (get_or (block_at bytes 0) 3 0) 7);
   }
     where

@@ -12,7 +12,7 @@ use Rattle.rules.specs.declared.Verdict.{Verdict}
 use Rattle.rules.specs.declared.Header.{Header}
 use Rattle.rules.specs.Job.{Job, Limits, Lent, fits}
 use Rattle.rules.specs.Check.{done, refuse_if, ◌or_else◌, Row, Rows, none, one, ◌followed_by◌, first_given, bad_k, sound_rows, all_rows, check_counts, check_ratio, check_free, check_window, check_start, check_contents, check_sound, check_goal, check_rest, check, check_edition, check_lent}
-use Rattle.rules.specs.Stored.{header_of, block_count, block_verdict, further_rows, blocks_verdict, job_of, Room, roomy, has_cap, under_one, wrong_total, layout_verdict, read_rows, read_verdict}
+use Rattle.rules.specs.Stored.{header_of, block_count, block_verdict, further_rows, blocks_verdict, job_of, Room, roomy, under_one, wrong_total, layout_verdict, read_rows, read_verdict}
 use Rattle.rules.specs.Theorems.{in_order, said_by, row_of, FirstRow, FirstGiven}
 use Rattle.rules.proofs.Tests.{clash, and_yes}
 use Rattle.rules.proofs.Verdicts.{or_assoc, never-chain, Plain, plain-chain}
@@ -229,7 +229,6 @@ module _ (most : Limits) (bytes : List ℕ) (room : Room) where
       (refuse_if (under_one bytes) 20 0
       or_else block_verdict (header_of bytes) bytes 0
       or_else refuse_if (bad_k (header_of bytes).k) 22 0
-      or_else refuse_if (has_cap (header_of bytes)) 23 0
       or_else check_counts most (header_of bytes).files (header_of bytes).recipes (header_of bytes).pins
       or_else refuse_if (not (roomy (header_of bytes) room)) 3 0
       or_else refuse_if (wrong_total (header_of bytes) bytes) 20 0
@@ -244,12 +243,12 @@ module _ (most : Limits) (bytes : List ℕ) (room : Room) where
   abbrev further : ℕ
   further = block_count (header_of bytes) - 1
 
-  -- reading gives 1 to 6 and 20 to 23, and no other number
-  pub never-read : (k : ℕ) → 6 < k → 20 ≢ k → 21 ≢ k → 22 ≢ k → 23 ≢ k → (read_verdict most bytes room).number ≢ k
+  -- reading gives 1 to 6 and 20 to 22, and no other number
+  pub never-read : (k : ℕ) → 6 < k → 20 ≢ k → 21 ≢ k → 22 ≢ k → (read_verdict most bytes room).number ≢ k
   unfolding lacks read_verdict
-  never-read k l p q r s =
+  never-read k l p q r =
       never-given k (read_rows most bytes room)
-      (rw (ne_eqb 1 k (λ e. omega arith), ne_eqb 2 k (λ e. omega arith), ne_eqb 3 k (λ e. omega arith), ne_eqb 4 k (λ e. omega arith), ne_eqb 5 k (λ e. omega arith), ne_eqb 6 k (λ e. omega arith), ne_eqb 20 k p, ne_eqb 21 k q, ne_eqb 22 k r, ne_eqb 23 k s, further-lacks k q r (header_of bytes) bytes 1 further) refl)
+      (rw (ne_eqb 1 k (λ e. omega arith), ne_eqb 2 k (λ e. omega arith), ne_eqb 3 k (λ e. omega arith), ne_eqb 4 k (λ e. omega arith), ne_eqb 5 k (λ e. omega arith), ne_eqb 6 k (λ e. omega arith), ne_eqb 20 k p, ne_eqb 21 k q, ne_eqb 22 k r, further-lacks k q r (header_of bytes) bytes 1 further) refl)
       (λ e. omega arith)
 
   pub read-rows : FirstGiven (in_order (read_rows most bytes room)) (read_verdict most bytes room)

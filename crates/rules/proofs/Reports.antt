@@ -19,7 +19,7 @@ use Rattle.rules.specs.Job.{Job, Limits, file_count, files, Lent, fits}
 use Rattle.rules.specs.Split.{size_on}
 use Rattle.rules.specs.Check.{done, refuse_if, ◌or_else◌, check_lent}
 use Rattle.rules.specs.Pass.{Pass, leaves}
-use Rattle.rules.specs.Editions.{tries_by}
+use Rattle.rules.specs.Fronts.{tries_by}
 use Rattle.rules.specs.Run.{no_figures, no_run_figures, first_pass, run_by, last_pass, pass_ends, run_ends, figures_of, run_figures_of}
 use Rattle.rules.specs.Report.{size_line, figure_lines, tells, report, refusal, of_files, split_verdict, print_verdict, Printing, printed, printing, into_room, telling, reporting, sides_line}
 use Rattle.rules.specs.Trace.{Listing, listing, pass_lines, trace, bad_end, holds_pass, tracing}
@@ -27,7 +27,7 @@ use Rattle.rules.specs.Theorems.{Binary, Sides, Sound}
 use Rattle.rules.proofs.Searches.{some-none}
 use Rattle.rules.proofs.Entries.{onto-least}
 use Rattle.rules.proofs.Proved.{accepted, lent-passes, answers, left}
-use Rattle.rules.proofs.Editions.{editions-hold}
+use Rattle.rules.proofs.FrontsProved.{editions-hold}
 use Rattle.rules.proofs.Told.{pass-made, pass-told}
 
 -- ---- the bytes in the room
@@ -136,14 +136,14 @@ pub run-told : (edition : ℕ) (most : Limits) (job : Job) (l : Lent) (room : Li
 run-told edition most job l room = elim (ℕ_discrete (check_lent edition most job l).number 0) [
   | yes z ↦
       let s : Sound most job = lent-sound edition most job l z in
-      rw ((answers edition most job l).run_done z) (made_told most job (run_figures_of edition done (first_pass edition job) (run_by edition job)) (last_pass edition job).sides_after room (told job) s.few_files s.marks_long (last-sides edition most job s))
+      rw ((answers edition most job l).run_done z) (made_told most job (run_figures_of done (first_pass edition job) (run_by edition job)) (last_pass edition job).sides_after room (told job) s.few_files s.marks_long (last-sides edition most job s))
   | no n ↦
       let none : RunFigures = no_run_figures (check_lent edition most job l) in
       rw ((answers edition most job l).run_refused n)
       (reporting-refusal most job.sizes job.marks none job.sides room n ∙ ap (λ (b : List ℕ). into_room b room) (sym (report-refused job none job.sides n)))
 ]
   where
-    told : (job : Job) → (run_figures_of edition done (first_pass edition job) (run_by edition job)).figures.verdict ≡ done
+    told : (job : Job) → (run_figures_of done (first_pass edition job) (run_by edition job)).figures.verdict ≡ done
     told job = unfold run_figures_of in unfold figures_of in refl
 
 -- ---- the trace of a pass
@@ -205,12 +205,12 @@ pass-traced edition most job l room = elim (ℕ_discrete (check_lent edition mos
       let s : Sound most job = lent-sound edition most job l z in
       let p : Pass = first_pass edition job in
       rw ((answers edition most job l).pass_done z)
-      (made-traced most job (figures_of edition done p (p ∷ [])) p.sides_after room (listing (leaves edition job l p)) (told p) s.few_files s.marks_long (pass-sides edition most job s) (pass-told edition most job s l ((answers edition most job l).fitting z).1))
+      (made-traced most job (figures_of done p (p ∷ [])) p.sides_after room (listing (leaves edition job l p)) (told p) s.few_files s.marks_long (pass-sides edition most job s) (pass-told edition most job s l ((answers edition most job l).fitting z).1))
   | no n ↦
       let none : Figures = no_figures (check_lent edition most job l) in
       rw ((answers edition most job l).pass_refused n)
       (tracing-refusal most job.sizes job.marks none job.sides (listing l) room n ∙ ap (λ (b : List ℕ). into_room b room) (sym (trace-refused job none job.sides (listing l) n)))
 ]
   where
-    told : (p : Pass) → (figures_of edition done p (p ∷ [])).verdict ≡ done
+    told : (p : Pass) → (figures_of done p (p ∷ [])).verdict ≡ done
     told p = unfold figures_of in refl

@@ -13,7 +13,7 @@ use Rattle.rules.specs.Job.{Job, Limits, TwoByte}
 use Rattle.rules.specs.Split.{cut, balanced}
 use Rattle.rules.specs.Check.{done, refuse_if, ◌or_else◌, check_sound, check_rest, check, check_job, is_edition, check_edition, check_lent}
 use Rattle.rules.specs.Pass.{Pass, pass_of}
-use Rattle.rules.specs.Editions.{tries_by}
+use Rattle.rules.specs.Fronts.{tries_by}
 use Rattle.rules.specs.Run.{settles, pass_by, most_passes, passes, last_of, last_by, first_pass, run_by, last_pass, figures_of, run_figures_of, Ended, left_by}
 use Rattle.rules.specs.Stored.{job_of, read_verdict}
 use Rattle.rules.specs.Report.{refusal, all_room, all_lent, all_run, prints}
@@ -24,12 +24,12 @@ use Rattle.rules.proofs.Verdicts.{zero_of, passes-both, both-pass, chain-go}
 use Rattle.rules.proofs.Refusals.{rest-chain, lent-chain}
 use Rattle.rules.proofs.SoundJob.{sound}
 use Rattle.rules.proofs.Proved.{accepted, run-holds-by, check-writes, answers}
-use Rattle.rules.proofs.Editions.{editions-hold}
+use Rattle.rules.proofs.FrontsProved.{editions-hold}
 use Rattle.rules.proofs.OtherSides.{same-recipes, same_size, same-pass_of, check-again}
 use Rattle.rules.proofs.Reports.{last-sides}
 use Rattle.rules.proofs.Lending.{run_text, room-enough, lent-enough, prints-run}
 use Rattle.rules.proofs.Reading.{read-holds}
-use Rattle.rules.proofs.Runs.{pass-from, settled-none, settled-stays, settled_only, Passes, passes-come, come-last, turns-some, run-settles}
+use Rattle.rules.proofs.Runs.{pass-from, settled-none, settled-stays, settled_only, Passes, passes-come, come-last, turns-some}
 use Rattle.rules.proofs.RoundTrip.{blocks-hold, read-few, read_length}
 use Rattle.rules.proofs.CutOff.{resettles-no}
 
@@ -43,35 +43,36 @@ module _ (try : Job → List ℕ → List ℕ) (job : Job) (same : Sideless try 
   abbrev again : Job
   again = resettled_by try job
 
-  -- the last pass is the pass from some sides
-  last-from : (before : List ℕ) × (last_one ≡ pass_by job (try job) before)
-  unfolding passes
-  last-from =
-      let came : Passes job (try job) (most_passes job) job.sides (passes job (try job)) = passes-come job (try job) (most_passes job) job.sides in
-      let last = come-last job (try job) (λ x. List ℕ) (λ x y. y) came [] (pass_by job (try job) job.sides) (job.sides, [], refl) in
-      (last.0, last.2)
+  module _ (settled : settles last_one ≡ true) where
+    -- the last pass is the pass from some sides
+    last-from : (before : List ℕ) × (last_one ≡ pass_by job (try job) before)
+    unfolding passes
+    last-from =
+        let came : Passes job (try job) (most_passes job) job.sides (passes job (try job)) = passes-come job (try job) (most_passes job) job.sides in
+        let last = come-last job (try job) (λ x. List ℕ) (λ x y. y) came [] (pass_by job (try job) job.sides) (job.sides, [], refl) in
+        (last.0, last.2)
 
-  settled-there : settles (pass_by job (try job) last-from.0) ≡ true
-  settled-there = ap settles (sym last-from.1) ∙ run-settles job (try job)
+    settled-there : settles (pass_by job (try job) last-from.0) ≡ true
+    settled-there = ap settles (sym last-from.1) ∙ settled
 
-  -- which it left as they were, so that the next is the same pass
-  next-same : pass_by again (try again) last_one.sides_after ≡ last_one
-  next-same =
-      let sides : List ℕ = last_one.sides_after in
-      let there : sides ≡ last-from.0 = ap (λ (p : Pass). p.sides_after) last-from.1 ∙ settled-stays job (try job) last-from.0 settled-there in
-      same-pass_of job sides sides (try again sides) ∙ ap (λ (t : List ℕ → List ℕ). pass_of job sides (t sides)) (same sides) ∙ ap (pass_by job (try job)) there ∙ sym last-from.1
+    -- which it left as they were, so that the next is the same pass
+    next-same : pass_by again (try again) last_one.sides_after ≡ last_one
+    next-same =
+        let sides : List ℕ = last_one.sides_after in
+        let there : sides ≡ last-from.0 = ap (λ (p : Pass). p.sides_after) last-from.1 ∙ settled-stays job (try job) last-from.0 settled-there in
+        same-pass_of job sides sides (try again sides) ∙ ap (λ (t : List ℕ → List ℕ). pass_of job sides (t sides)) (same sides) ∙ ap (pass_by job (try job)) there ∙ sym last-from.1
 
-  run-again : passes again (try again) ≡ last_one ∷ []
-  unfolding passes
-  run-again =
-      settled_only again (try again) (most_passes again) again.sides (turns-some again) (ap settles next-same ∙ run-settles job (try job)) ∙ ap (λ (p : Pass). p ∷ []) next-same
+    run-again : passes again (try again) ≡ last_one ∷ []
+    unfolding passes
+    run-again =
+        settled_only again (try again) (most_passes again) again.sides (turns-some again) (ap settles next-same ∙ settled) ∙ ap (λ (p : Pass). p ∷ []) next-same
 
-  none_kept : last_one.kept ≡ 0
-  none_kept = ap (λ (p : Pass). p.kept) last-from.1 ∙ settled-none job (try job) last-from.0 settled-there
+    none_kept : last_one.kept ≡ 0
+    none_kept = ap (λ (p : Pass). p.kept) last-from.1 ∙ settled-none job (try job) last-from.0 settled-there
 
-  resettled-still : resettled_by try again ≡ again
-  unfolding last_of
-  resettled-still = ap (λ (ps : List Pass). with_sides job (last_of (pass_by again (try again) again.sides) ps).sides_after) run-again
+    resettled-still : resettled_by try again ≡ again
+    unfolding last_of
+    resettled-still = ap (λ (ps : List Pass). with_sides job (last_of (pass_by again (try again) again.sides) ps).sides_after) run-again
 
   pub resettled-holds-by : (most : Limits) → LawfulTry job (try job) → (check_job most job).number ≡ 0 → ResettledHoldsBy try most job
   resettled-holds-by most lawful ok =
@@ -82,7 +83,7 @@ module _ (try : Job → List ℕ → List ℕ) (job : Job) (same : Sideless try 
         accepted = check-again job sides most true ok r.next (ap (balanced job) (sym r.size) ∙ r.returns a.balanced);
         cut = pass-from again (try again) sides ∙ ap (cut sides) (same-recipes job sides) ∙ sym r.cut;
         size = same_size job sides 0 sides ∙ sym r.size;
-        settled = (run-again, none_kept);
+        settled = λ e. (run-again e, none_kept e);
         still = resettled-still;
       }
 
@@ -106,7 +107,7 @@ module _ (edition : ℕ) (most : Limits) (job : Job) (s : Sound most job) where
   run-refused n =
       ap (λ (e : Ended RunFigures). e.answer.figures.verdict) ((answers edition most job (all_lent most job)).run_refused (λ z. n (sym (ap (λ (v : Verdict). v.number) run-check) ∙ z))) ∙ run-check
 
-  run-done : (check_run edition most job).number ≡ 0 → all_run edition most job ≡ left_by edition job (all_lent most job) (run_figures_of edition done (first_pass edition job) (run_by edition job)) (last_pass edition job)
+  run-done : (check_run edition most job).number ≡ 0 → all_run edition most job ≡ left_by edition job (all_lent most job) (run_figures_of done (first_pass edition job) (run_by edition job)) (last_pass edition job)
   run-done z = (answers edition most job (all_lent most job)).run_done (ap (λ (v : Verdict). v.number) run-check ∙ z)
 
 -- ---- the program
@@ -174,6 +175,7 @@ module _ (edition : ℕ) (most : Limits) (input : List ℕ) (read : (read_verdic
           pins = t.pins;
           num = t.num;
           den = t.den;
+          cap = t.cap;
           k = t.k;
         }
 

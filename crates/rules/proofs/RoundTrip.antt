@@ -16,7 +16,7 @@ use Rattle.rules.specs.Lists.{up_to, in_turn, AllBelow}
 use Rattle.rules.specs.Job.{Job, Limits, TwoByte, file_count, recipe_count, pin_count, bound, pin}
 use Rattle.rules.specs.Split.{size_of}
 use Rattle.rules.specs.Check.{done, refuse_if, ◌or_else◌, bad_k, check_counts, check_lists, check_lengths, check_contents, check_sound}
-use Rattle.rules.specs.Stored.{block_check, word, block_at, value_in, value, header_of, bounds_at, pins_at, block_count, kind_of, header_values, values_in, laid_out, block_verdict, blocks_verdict, job_of, Room, roomy, has_cap, layout_verdict, read_verdict, written, reading}
+use Rattle.rules.specs.Stored.{block_check, word, block_at, value_in, value, header_of, bounds_at, pins_at, block_count, kind_of, header_values, values_in, laid_out, block_verdict, blocks_verdict, job_of, Room, roomy, layout_verdict, read_verdict, written, reading}
 use Rattle.rules.specs.Writing.{block_of, header_for, header_figures, file_value, job_value, job_values, job_block, blocks_of, check_written}
 use Rattle.rules.specs.Theorems.{Sound}
 use Rattle.rules.specs.RoundTrip.{BlocksHold, BackHolds}
@@ -27,7 +27,7 @@ use Rattle.rules.proofs.Entries.{below-any}
 use Rattle.rules.proofs.SoundJob.{good-k, fine-k, sound}
 use Rattle.rules.proofs.Blocks.{blocks-pass, blocks-each}
 use Rattle.rules.proofs.Refusals.{layout-chain, read-chain}
-use Rattle.rules.proofs.Reading.{read-files, read-recipes, read-pins, part_small, value-small, read-capless, read-writes, read-holds}
+use Rattle.rules.proofs.Reading.{read-files, read-recipes, read-pins, part_small, value-small, read-writes, read-holds}
 use Rattle.rules.proofs.Proved.{plain-contents}
 use Rattle.rules.proofs.InTurn.{in_turn-length, in_turn-part, in_turn-is, in_turn-below}
 use Rattle.rules.proofs.Words.{block-length, block-check, block-value, block-below, block-laid, block-is, laid_out_lem}
@@ -231,6 +231,7 @@ module _ (most : Limits) (job : Job) (s : Sound most job) where
         pins = map (λ i. at (pins_at h + i / 253) (i % 253)) (up_to h.pins);
         num = h.num;
         den = h.den;
+        cap = h.cap;
         k = h.k;
       }
 
@@ -253,6 +254,7 @@ module _ (most : Limits) (job : Job) (s : Sound most job) where
     pins = tabled-is _ (pin_count job) job.pins refl (stored-pin job) t;
     num = job.num;
     den = job.den;
+    cap = job.cap;
     k = job.k;
   })
 
@@ -326,7 +328,7 @@ module _ (most : Limits) (job : Job) (ok : (check_written most job true).number 
   layout_is room =
       let enough : ltb (length (blocks_of job)) 512 ≡ false = le-ltb (length (blocks_of job)) 512 (omega (arith, blocks-length job)) in
       layout-chain most (blocks_of job) room ∙ rw (stored-header job)
-      (sym (refuse-go 20 0 enough (chain-go refl (block-passes most job fine 0 (omega arith)) (refuse-go 22 0 wide (refuse-go 23 0 refl (chain-go refl parts-pass.0 refl))))))
+      (sym (refuse-go 20 0 enough (chain-go refl (block-passes most job fine 0 (omega arith)) (refuse-go 22 0 wide (chain-go refl parts-pass.0 refl)))))
 
   blocks-verdict : (room : Room) → read_verdict most (blocks_of job) room ≡ refuse_if (not (roomy (header_for job) room)) 3 0
   blocks-verdict room =
@@ -363,7 +365,7 @@ module _ (most : Limits) (job : Job) (s : Sound most job) (small : TwoByte job) 
   figures-small (suc (suc zero)) h = pins-few
   figures-small (suc (suc (suc zero))) h = small.num
   figures-small (suc (suc (suc (suc zero)))) h = small.den
-  figures-small (suc (suc (suc (suc (suc zero))))) h = omega arith
+  figures-small (suc (suc (suc (suc (suc zero))))) h = small.cap
   figures-small (suc (suc (suc (suc (suc (suc zero)))))) h = small.k
   figures-small (suc (suc (suc (suc (suc (suc (suc v))))))) h = absurd (omega arith)
 
@@ -412,6 +414,22 @@ blocks-hold most job ok =
 
 -- ---- what is read is written back
 
+-- the header of the job that is read is the header read
+pub read-header : (bytes : List ℕ) → header_for (job_of bytes) ≡ header_of bytes
+read-header bytes =
+    λ t. record {
+      files = read-files bytes t;
+      recipes = read-recipes bytes t;
+      pins = read-pins bytes t;
+      num = own.0 t;
+      den = own.1 t;
+      cap = own.2 t;
+      k = own.3 t;
+    }
+  where
+    own : ((job_of bytes).num ≡ (header_of bytes).num) × ((job_of bytes).den ≡ (header_of bytes).den) × ((job_of bytes).cap ≡ (header_of bytes).cap) × ((job_of bytes).k ≡ (header_of bytes).k)
+    own = unfold job_of in (refl, refl, refl, refl)
+
 -- C is two bytes
 pub read-few : (bytes : List ℕ) → AllBelow 256 bytes → file_count (job_of bytes) < 65536
 unfolding header_of
@@ -419,22 +437,6 @@ read-few bytes small = rw (read-files bytes) (value-small bytes small 0 0)
 
 -- an accepted file: as long as its header makes it, and each block passes
 module _ (most : Limits) (bytes : List ℕ) (room : Room) (ok : (read_verdict most bytes room).number ≡ 0) where
-  -- the header of the job that is read is the header read
-  read-header : header_for (job_of bytes) ≡ header_of bytes
-  read-header =
-      λ t. record {
-        files = read-files bytes t;
-        recipes = read-recipes bytes t;
-        pins = read-pins bytes t;
-        num = own.0 t;
-        den = own.1 t;
-        cap = sym (read-capless most bytes room ok) t;
-        k = own.2 t;
-      }
-    where
-      own : ((job_of bytes).num ≡ (header_of bytes).num) × ((job_of bytes).den ≡ (header_of bytes).den) × ((job_of bytes).k ≡ (header_of bytes).k)
-      own = unfold job_of in (refl, refl, refl)
-
   read-blocks : (length bytes ≡ 512 * block_count (header_of bytes)) × ((b : ℕ) → b < block_count (header_of bytes) → (block_verdict (header_of bytes) bytes b).number ≡ 0)
   unfolding read_verdict layout_verdict block_verdict blocks_verdict check_counts check_contents
   read-blocks =
@@ -443,8 +445,7 @@ module _ (most : Limits) (bytes : List ℕ) (room : Room) (ok : (read_verdict mo
       let b = passes-both (refuse_if (ltb (length bytes) 512) 20 0) _ a.0 in
       let c = passes-both (block_verdict h bytes 0) _ b.1 in
       let w = passes-both (refuse_if (bad_k h.k) 22 0) _ c.1 in
-      let x = passes-both (refuse_if (has_cap h) 23 0) _ w.1 in
-      let d = passes-both (check_counts most h.files h.recipes h.pins) _ x.1 in
+      let d = passes-both (check_counts most h.files h.recipes h.pins) _ w.1 in
       let f = passes-both (refuse_if (not (roomy h room)) 3 0) _ d.1 in
       let g = passes-both (refuse_if (not (eqb (length bytes) (512 * block_count h))) 20 0) (blocks_verdict h bytes 1 (block_count h - 1)) f.1 in (
         eqb-true (length bytes) (512 * block_count h) (not-no _ (not-refused (not (eqb (length bytes) (512 * block_count h))) 19 0 g.0)),
@@ -455,7 +456,7 @@ module _ (most : Limits) (bytes : List ℕ) (room : Room) (ok : (read_verdict mo
       )
 
   pub read_length : length bytes ≡ 512 * block_count (header_for (job_of bytes))
-  read_length = read-blocks.0 ∙ ap (λ (h : Header). 512 * block_count h) (sym read-header)
+  read_length = read-blocks.0 ∙ ap (λ (h : Header). 512 * block_count h) (sym (read-header bytes))
 
   -- value by value
   module _ (i : ℕ) where
@@ -515,7 +516,7 @@ module _ (most : Limits) (bytes : List ℕ) (room : Room) (ok : (read_verdict mo
       let n : h.recipes ≡ (header_of bytes).recipes = read-recipes bytes in
       let p : h.pins ≡ (header_of bytes).pins = read-pins bytes in
       by-kinds h b
-      (λ e. rw (e, figure-at job v) (ap (λ (k : Header). get_or (header_figures k) v 0) read-header ∙ figures-read v (omega (arith, ap (λ (k : Header). header_values k.k) read-header, rw e at l))))
+      (λ e. rw (e, figure-at job v) (ap (λ (k : Header). get_or (header_figures k) v 0) (read-header bytes) ∙ figures-read v (omega (arith, ap (λ (k : Header). header_values k.k) (read-header bytes), rw e at l))))
       (λ some m.
       let held = files-held h b some m in
       file-at job b v some m ∙ file-read b v (126 * (b - 1) + v / 2) (omega arith) (omega arith) (omega arith))
@@ -548,17 +549,17 @@ module _ (most : Limits) (bytes : List ℕ) (room : Room) (ok : (read_verdict mo
         let n : length vs ≡ values_in h b = length-tabled (job_value (job_of bytes) b) (values_in h b) in
         let values : (v : ℕ) → v < 253 → value_in block v ≡ get_or vs v 0
         = λ v m. elim (dec_lt v (values_in h b)) [
-          | yes k ↦ sym (get_d-tabled (job_value (job_of bytes) b) (values_in h b) v 0 k ∙ value_read b v (omega (arith, ap (λ (k : Header). values_in k b) read-header)))
+          | yes k ↦ sym (get_d-tabled (job_value (job_of bytes) b) (values_in h b) v 0 k ∙ value_read b v (omega (arith, ap (λ (k : Header). values_in k b) (read-header bytes))))
           | no k ↦ laid.unused v (omega arith) m ∙ sym (get_or-eq_default vs 0 {n = v} (omega arith))
         ] in
-        ap (λ (k : Header). block_of b (kind_of k b) (map (job_value (job_of bytes) b) (up_to (values_in k b)))) read-header
+        ap (λ (k : Header). block_of b (kind_of k b) (map (job_value (job_of bytes) b) (up_to (values_in k b)))) (read-header bytes)
         ∙ block-is (λ i k. part_small bytes small 512 (512 * b) i)
         (record { long = long; number = laid.number; kind = laid.kind; count = laid.count ∙ sym n; few = omega (arith, few-values h b); values = values })
         right
 
     pub read_back : blocks_of (job_of bytes) ≡ bytes
     read_back =
-        ap (λ (k : Header). in_turn (job_block (job_of bytes)) (block_count k)) read-header
+        ap (λ (k : Header). in_turn (job_block (job_of bytes)) (block_count k)) (read-header bytes)
         ∙ in_turn-is 512 (job_block (job_of bytes)) (block_count (header_of bytes)) bytes read-blocks.0 block_read
 
 pub back-holds : (most : Limits) (bytes : List ℕ) (room : Room) → AllBelow 256 bytes → BackHolds most bytes room
@@ -570,7 +571,7 @@ back-holds most bytes room small = record {
     read-writes most bytes room ok,
     (read-holds most bytes room).small small,
     read-few bytes small,
-    ap (λ (h : Header). roomy h room) (read-header most bytes room ok) ∙ (read-holds most bytes room).enough ok,
+    ap (λ (h : Header). roomy h room) (read-header bytes) ∙ (read-holds most bytes room).enough ok,
     sym (read_back most bytes room ok small),
   );
   each = λ job ok enough e. rw e (blocks-verdict most job ok room ∙ ap (λ (b : Bool). refuse_if (not b) 3 0) enough);

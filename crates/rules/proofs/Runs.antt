@@ -1,5 +1,5 @@
 -- The prefix kept, and the passes of a run. Assumes nothing.
-use mathlib.Core.Path.{◌≡◌, refl, ap, ◌∙◌}
+use mathlib.Core.Path.{◌≡◌, refl, sym, ap, ◌∙◌}
 use mathlib.Core.Logic.{◌≢◌}
 use Prim.Native.Nat.{ℕ, zero, suc, ◌≤◌, ◌<◌}
 use mathlib.Core.Bool.{Bool, true, false}
@@ -8,13 +8,14 @@ use native.Mathlib.Decide.{ℕ_discrete}
 use native.Mathlib.Omega.{arith}
 use lib.ListN.{length, get_or, take}
 use lib.Seq.{take-suc}
-use borrow.Author.Tests.{eqb-true, eqb-false}
+use borrow.Author.Tests.{eqb-true, eqb-false, eq-eqb, ne_eqb}
 use Rattle.rules.specs.Job.{Job, recipes}
 use Rattle.rules.specs.Split.{cut, unread_files, unread_recipes, size_a}
 use Rattle.rules.specs.Move.{steps_by, State, start, after}
 use Rattle.rules.specs.Pass.{cut_at, keeps, Pass, pass_of}
-use Rattle.rules.specs.Run.{settles, pass_by, passes_by, most_passes, passes, last_of, last_by}
+use Rattle.rules.specs.Run.{settles, pass_by, passes_by, most_passes, last_of}
 use Rattle.rules.specs.Theorems.{start_sides}
+use Rattle.rules.proofs.Tests.{clash}
 use Rattle.rules.proofs.Searches.{best-le, best-least, best-shortest}
 
 -- ---- the prefix kept has the least cut of all prefixes, none included, and is the shortest such
@@ -121,11 +122,16 @@ module _ (job : Job) (try : List ℕ → List ℕ) where
   come-less (on {sides = s} e rest) d zero h = lessens s e
   come-less (on e rest) d (suc i) h = come-less rest d i (omega arith)
 
-  -- at most one pass more than the starting cut
+  -- at most one pass more than the starting cut, and no more than the turns
   pub come-few : {n : ℕ} {sides : List ℕ} {ps : List Pass} → Passes n sides ps → length ps ≤ suc (cut sides (recipes job))
   come-few out = omega arith
   come-few (ended e) = omega arith
   come-few (on {sides = s} e rest) = omega (arith, come-few rest, lessens s e, pass-from s, pass-to s)
+
+  pub come-turns : {n : ℕ} {sides : List ℕ} {ps : List Pass} → Passes n sides ps → length ps ≤ n
+  come-turns out = omega arith
+  come-turns (ended e) = omega arith
+  come-turns (on e rest) = omega (arith, come-turns rest)
 
   -- with more turns than the cut, the last pass settles
   pub come-settled : {n : ℕ} {sides : List ℕ} {ps : List Pass} → Passes n sides ps → (d : Pass) → cut sides (recipes job) < n → settles (last_of d ps) ≡ true
@@ -133,6 +139,13 @@ module _ (job : Job) (try : List ℕ → List ℕ) where
   come-settled out d h = absurd (omega arith)
   come-settled (ended e) d h = e
   come-settled (on {sides = s} e rest) d h = come-settled rest (pass_by job try s) (omega (arith, lessens s e, pass-from s, pass-to s))
+
+  -- if the last does not settle, every turn was taken
+  pub come-full : {n : ℕ} {sides : List ℕ} {ps : List Pass} → Passes n sides ps → (d : Pass) → settles (last_of d ps) ≡ false → length ps ≡ n
+  unfolding last_of
+  come-full out d h = refl
+  come-full (ended e) d h = clash (sym e ∙ h)
+  come-full (on {sides = s} e rest) d h = ap suc (come-full rest (pass_by job try s) h)
 
   -- each pass of a run is from the sides that it starts from
   pub come-start : {n : ℕ} {ps : List Pass} → Passes n job.sides ps → (d : Pass) (i : ℕ) → i < length ps → get_or ps i d ≡ pass_by job try (start_sides job try i)
@@ -154,15 +167,21 @@ module _ (job : Job) (try : List ℕ → List ℕ) where
     come-last (ended {sides = s} e) w d q = (s, w, refl)
     come-last (on {sides = s} e rest) w d q = come-last rest (keep s w) (pass_by job try s) (s, w, refl)
 
--- ---- the turns of a run: one more than the starting cut, so that there is a turn and the last pass settles
+-- ---- the turns of a run: the cap, or one more than the starting cut
+
+pub turns-none : (job : Job) → job.cap ≡ 0 → most_passes job ≡ suc (cut job.sides (recipes job))
+unfolding most_passes
+turns-none job e = rw (eq-eqb job.cap 0 e) refl
+
+pub turns-cap : (job : Job) → job.cap ≢ 0 → most_passes job ≡ job.cap
+unfolding most_passes
+turns-cap job n = rw (ne_eqb job.cap 0 n) refl
 
 pub turns-some : (job : Job) → 1 ≤ most_passes job
-unfolding most_passes
-turns-some job = omega arith
-
-pub run-settles : (job : Job) (try : List ℕ → List ℕ) → settles (last_by job try) ≡ true
-unfolding passes most_passes
-run-settles job try = come-settled job try (passes-come job try (most_passes job) job.sides) (pass_by job try job.sides) (omega arith)
+turns-some job = elim (ℕ_discrete job.cap 0) [
+  | yes e ↦ omega (arith, turns-none job e)
+  | no n ↦ omega (arith, turns-cap job n)
+]
 
 -- a run with a turn makes a pass
 pub come-some : (job : Job) (try : List ℕ → List ℕ) {n : ℕ} {sides : List ℕ} {ps : List Pass} → Passes job try n sides ps → 1 ≤ n → 1 ≤ length ps

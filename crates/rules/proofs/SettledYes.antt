@@ -1,15 +1,14 @@
--- What the calls and the programs do on the result of a run: the theorems of specs/SettledYes.antt. Assumes nothing.
+-- What the calls and the programs do on the result of a settled run: the theorems of specs/SettledYes.antt. Assumes nothing.
 use mathlib.Core.Path.{◌≡◌, refl, sym, ap, subst, ◌∙◌}
 use Prim.Native.Nat.{ℕ, ◌+◌, ◌*◌}
-use mathlib.Core.Logic.{◌≢◌}
-use mathlib.Core.Bool.{Bool, true, false, cond, ◌&&◌}
+use mathlib.Core.Bool.{Bool, true, ◌&&◌}
 use mathlib.Core.List.{List, [], ◌∷◌}
 use native.Mathlib.Decide.{ℕ_discrete}
 use native.Mathlib.Nat.{add-zero}
 use native.Mathlib.Omega.{arith}
 use lib.Dec.{leb, eqb}
 use lib.ListN.{length, get_or}
-use borrow.Author.Tests.{eqb-true, eq-eqb, ne_eqb}
+use borrow.Author.Tests.{eqb-true, eq-eqb}
 use Rattle.rules.specs.declared.Verdict.{Verdict}
 use Rattle.rules.specs.declared.RunFigures.{RunFigures}
 use Rattle.rules.specs.Lists.{total, count, those, largest, up_to, best_up_to, diff}
@@ -17,10 +16,8 @@ use Rattle.rules.specs.Job.{Job, Limits, limits_of, file_count, recipe_count, vi
 use Rattle.rules.specs.Split.{count_on, is_cut, cut, times, alone, together, gain, unread_files, unread_recipes, weight, smax, size_on, size_a, balanced}
 use Rattle.rules.specs.Check.{done, check, check_job, is_edition, check_edition, check_lent}
 use Rattle.rules.specs.Move.{moved, steps_by, size_after, legal, moves_by}
-use Rattle.rules.specs.Pass.{keeps, Pass, pass_of, tries, shown_visits, leaves}
-use Rattle.rules.specs.Fronts.{entered_first, front_below, front_of, choose_front, front_tries}
-use Rattle.rules.specs.Levels.{vector_tries}
-use Rattle.rules.specs.Editions.{tries_by}
+use Rattle.rules.specs.Pass.{keeps, Pass, pass_of, tries, leaves}
+use Rattle.rules.specs.Fronts.{entered_first, front_below, front_of, choose_front, front_tries, tries_by}
 use Rattle.rules.specs.Run.{settles, passes_by, most_passes, passes, last_of, first_pass, run_by, last_pass, figures_of, run_figures_of, Ended, left_by, run_ends}
 use Rattle.rules.specs.Stored.{job_of, read_verdict}
 use Rattle.rules.specs.Report.{size_line, sides_line, figure_lines, report, all_room, all_lent, all_run, prints}
@@ -28,18 +25,18 @@ use Rattle.rules.specs.Writing.{blocks_of, with_sides, resettles}
 use Rattle.rules.specs.RoundTrip.{resettled, ResettledHolds, HandsBack}
 use Rattle.rules.specs.Theorems.{Sound, Left, RunHoldsBy, Answers}
 use Rattle.rules.specs.FrontsWorked.{early}
-use Rattle.rules.specs.SettledYes.{NoneLessens, TakesGreatest, SecondRun, SettledYes, early_run, NotByFronts, settled_report, SecondNight}
+use Rattle.rules.specs.SettledYes.{NoneLessens, SecondRun, SettledYes, early_run, NotByFronts, settled_report, SecondNight}
+use Rattle.rules.proofs.Tests.{clash}
 use Rattle.rules.proofs.Fits.{long-enough}
-use Rattle.rules.proofs.Runs.{pass-from, pass-unread, run-settles}
+use Rattle.rules.proofs.Runs.{pass-from, pass-unread}
 use Rattle.rules.proofs.Refusals.{lent-chain}
-use Rattle.rules.proofs.Proved.{accepted, left, plain-check, lent-passes, answers}
+use Rattle.rules.proofs.Proved.{accepted, left, tries-lawful, plain-check, lent-passes, answers}
 use Rattle.rules.proofs.OtherSides.{same-leaves}
-use Rattle.rules.proofs.Editions.{editions-hold}
+use Rattle.rules.proofs.FrontsProved.{editions-hold}
 use Rattle.rules.proofs.FrontsWorked.{worked}
 use Rattle.rules.proofs.Told.{pass-made}
 use Rattle.rules.proofs.Resettling.{resettled-holds, hands-back}
 use Rattle.rules.proofs.NoneLessens.{settled-least, tries-greatest}
-use Rattle.rules.proofs.LevelsProved.{takes-greatest}
 
 -- ---- a second run on the result
 
@@ -53,10 +50,10 @@ left-fits edition job l p v g = λ i.
     && leb (scratch_for edition job) (v.scratch.long i)
 
 -- the run of one pass
-abbrev one_figures : ℕ → Pass → RunFigures
-one_figures edition p = run_figures_of edition done p (p ∷ [])
+abbrev one_figures : Pass → RunFigures
+one_figures p = run_figures_of done p (p ∷ [])
 
-module _ (edition : ℕ) (most : Limits) (job : Job) (ok : (check_job most job).number ≡ 0) where
+module _ (edition : ℕ) (most : Limits) (job : Job) (ok : (check_job most job).number ≡ 0) (e : settles (last_pass edition job) ≡ true) where
   abbrev last : Pass
   last = last_pass edition job
 
@@ -74,51 +71,52 @@ module _ (edition : ℕ) (most : Limits) (job : Job) (ok : (check_job most job).
 
   -- it is the last pass again, and that one alone
   new-first : first_pass edition new ≡ last
-  new-first = sym (new-run.first last) ∙ ap (λ (ps : List Pass). get_or ps 0 last) held.settled.0
+  new-first = sym (new-run.first last) ∙ ap (λ (ps : List Pass). get_or ps 0 last) (held.settled e).0
 
   new-last : last_pass edition new ≡ last
   unfolding last_of
-  new-last = ap (last_of (first_pass edition new)) held.settled.0
+  new-last = ap (last_of (first_pass edition new)) (held.settled e).0
 
-  new-figures : run_figures_of edition done (first_pass edition new) (run_by edition new) ≡ one_figures edition last
-  new-figures = ap (λ (p : Pass). run_figures_of edition done p (run_by edition new)) new-first ∙ ap (run_figures_of edition done last) held.settled.0
+  new-figures : run_figures_of done (first_pass edition new) (run_by edition new) ≡ one_figures last
+  new-figures = ap (λ (p : Pass). run_figures_of done p (run_by edition new)) new-first ∙ ap (run_figures_of done last) (held.settled e).0
 
-  new-ends : (lent : Lent) → is_edition edition ≡ true → fits edition job lent ≡ true → run_ends edition most new lent ≡ left_by edition new lent (one_figures edition last) last
+  new-ends : (lent : Lent) → is_edition edition ≡ true → fits edition job lent ≡ true → run_ends edition most new lent ≡ left_by edition new lent (one_figures last) last
   unfolding check_edition
   new-ends lent known fit =
       let through : check_lent edition most new lent ≡ done = lent-chain edition most new lent ∙ rw (known, fit) held.accepted in
       (answers edition most new lent).run_done (ap (λ (v : Verdict). v.number) through)
       ∙ ap (λ (r : RunFigures). left_by edition new lent r (last_pass edition new)) new-figures
-      ∙ ap (left_by edition new lent (one_figures edition last)) new-last
+      ∙ ap (left_by edition new lent (one_figures last)) new-last
 
   -- whose cut is equal and which kept nothing
   last-equal : last.cut_after ≡ last.cut_before
-  last-equal = eqb-true last.cut_after last.cut_before (run-settles job (tries_by edition job))
+  last-equal = eqb-true last.cut_after last.cut_before e
 
   last_none : last.kept ≡ 0
-  last_none = held.settled.1
+  last_none = (held.settled e).1
 
 -- ---- the calls
 
-module _ (edition : ℕ) (most : Limits) (job : Job) (l : Lent) (first : Ended RunFigures) (ran : first ≡ run_ends edition most job l) (made : first.answer.figures.verdict.number ≡ 0) where
+module _ (edition : ℕ) (most : Limits) (job : Job) (l : Lent) (first : Ended RunFigures) (ran : first ≡ run_ends edition most job l) (said : first.answer.settled ≡ true) where
   answered : Answers edition most job l
   answered = answers edition most job l
 
-  -- a refused run has the check's number
+  -- a refused run does not say so
   let_through : (check_lent edition most job l).number ≡ 0
   let_through = elim (ℕ_discrete (check_lent edition most job l).number 0) [
     | yes z ↦ z
-    | no n ↦ absurd (n (sym (ap (λ (x : Ended RunFigures). x.answer.figures.verdict.number) (ran ∙ answered.run_refused n)) ∙ made))
+    | no n ↦ clash (sym said ∙ ap (λ (x : Ended RunFigures). x.answer.settled) (ran ∙ answered.run_refused n))
   ]
 
   fitted : (is_edition edition ≡ true) × (fits edition job l ≡ true)
   fitted = answered.fitting let_through
 
-  ended : first ≡ left_by edition job l (run_figures_of edition done (first_pass edition job) (run_by edition job)) (last_pass edition job)
+  ended : first ≡ left_by edition job l (run_figures_of done (first_pass edition job) (run_by edition job)) (last_pass edition job)
   ended = ran ∙ answered.run_done let_through
 
+  -- settled is yes exactly if the last pass left the cut equal
   last-settled : settles (last_pass edition job) ≡ true
-  last-settled = run-settles job (tries_by edition job)
+  last-settled = sym (ap (λ (x : Ended RunFigures). x.answer.settled) ended ∙ (unfold run_figures_of in refl)) ∙ said
 
   job-passes : (check_job most job).number ≡ 0
   job-passes = ap (λ (b : Bool). (check most job b).number) (sym fitted.1) ∙ (lent-passes edition most job l let_through).1
@@ -133,15 +131,15 @@ module _ (edition : ℕ) (most : Limits) (job : Job) (l : Lent) (first : Ended R
   unfolding run_figures_of figures_of last_of total
   second_run lent second fit q =
       let last : Pass = last_pass edition job in
-      let same : second ≡ left_by edition (resettled edition job) lent (one_figures edition last) last
-      = q ∙ ap (λ (x : Ended RunFigures). run_ends edition most (with_sides job x.sides) lent) ended ∙ new-ends edition most job job-passes lent fitted.0 fit in
+      let same : second ≡ left_by edition (resettled edition job) lent (one_figures last) last
+      = q ∙ ap (λ (x : Ended RunFigures). run_ends edition most (with_sides job x.sides) lent) ended ∙ new-ends edition most job job-passes last-settled lent fitted.0 fit in
       rw (ended, same) (record {
         one = refl;
-        none = add-zero last.kept ∙ last_none edition most job job-passes;
+        none = add-zero last.kept ∙ last_none edition most job job-passes last-settled;
         same = refl;
         passed = refl;
         settled = last-settled;
-        before = sym (last-equal edition most job job-passes);
+        before = sym (last-equal edition most job job-passes last-settled);
         after = refl;
         size = refl;
       })
@@ -149,31 +147,23 @@ module _ (edition : ℕ) (most : Limits) (job : Job) (l : Lent) (first : Ended R
   -- the lists left are those of the first pass of the second run
   lists-fit : fits edition job first.lent ≡ true
   lists-fit =
-      let next : Job = new edition most job job-passes in
-      let s : Sound most next = new-sound edition most job job-passes in
+      let next : Job = new edition most job job-passes last-settled in
+      let s : Sound most next = new-sound edition most job job-passes last-settled in
       let h = pass-made edition most next s in
       rw ended
-      (ap (λ (p : Pass). fits edition job (leaves edition job l p)) (sym (new-first edition most job job-passes))
+      (ap (λ (p : Pass). fits edition job (leaves edition job l p)) (sym (new-first edition most job job-passes last-settled))
       ∙ ap (fits edition job) (sym (same-leaves job next.sides edition l (first_pass edition next)))
       ∙ left-fits edition next l (first_pass edition next) (left most next s edition next.sides (tries_by edition next next.sides) l fitted.1 h.0 h.1) (h.0.all ∙ sym (long-enough edition job l fitted.1).gains)
       ∙ fitted.1)
-
-  -- editions 1 and 3 take a greatest gain
-  greatest-but-second : edition ≢ 2 → TakesGreatest job (tries_by edition job)
-  greatest-but-second other = rw (ne_eqb edition 2 other) (go (eqb edition 3))
-    where
-      go : (third : Bool) → TakesGreatest job (λ sides. cond third (vector_tries job sides) (tries job sides))
-      go true = takes-greatest most job job-sound
-      go false = tries-greatest most job job-sound
 
   pub settled-yes : SettledYes edition most job first
   unfolding run_figures_of figures_of
   settled-yes = record {
     passed = plain-check most job true job-passes;
-    settled = rw ended last-settled;
-    least = λ other.
+    least = λ one.
         rw ended
-        (settled-least most job job-sound (tries_by edition job) ((editions-hold most job job-sound).lawful edition) (greatest-but-second other));
+        (subst (λ (n : ℕ). settles (last_pass n job) ≡ true → NoneLessens job (last_pass n job).sides_after) (sym one)
+        (settled-least most job job-sound (tries job) (tries-lawful most job job-sound) (tries-greatest most job job-sound)) last-settled);
     again = second_run;
     lists = lists-fit;
     few = rw ended (omega (arith, run-held.few, pass-from job (tries_by edition job) job.sides));
@@ -213,7 +203,7 @@ report-same : (job : Job) (x sides : List ℕ) (before after passes kept visits 
 unfolding settled_report unread_files unread_recipes size_line size_on sides_line files views
 report-same job x sides before after passes kept visits = refl
 
-module _ (edition : ℕ) (most : Limits) (input : List ℕ) (read : (read_verdict most input (all_room most)).number ≡ 0) (made : (all_run edition most (job_of input)).answer.figures.verdict.number ≡ 0) where
+module _ (edition : ℕ) (most : Limits) (input : List ℕ) (read : (read_verdict most input (all_room most)).number ≡ 0) (said : (all_run edition most (job_of input)).answer.settled ≡ true) where
   abbrev job : Job
   job = job_of input
 
@@ -222,16 +212,16 @@ module _ (edition : ℕ) (most : Limits) (input : List ℕ) (read : (read_verdic
   night = all_run edition most job
 
   ok : (check_job most job).number ≡ 0
-  ok = job-passes edition most job (all_lent most job) night refl made
+  ok = job-passes edition most job (all_lent most job) night refl said
 
   known : is_edition edition ≡ true
-  known = (fitted edition most job (all_lent most job) night refl made).0
+  known = (fitted edition most job (all_lent most job) night refl said).0
 
   equal-last : settles (last_pass edition job) ≡ true
-  equal-last = run-settles job (tries_by edition job)
+  equal-last = last-settled edition most job (all_lent most job) night refl said
 
-  left-run : night ≡ left_by edition job (all_lent most job) (run_figures_of edition done (first_pass edition job) (run_by edition job)) (last_pass edition job)
-  left-run = ended edition most job (all_lent most job) night refl made
+  left-run : night ≡ left_by edition job (all_lent most job) (run_figures_of done (first_pass edition job) (run_by edition job)) (last_pass edition job)
+  left-run = ended edition most job (all_lent most job) night refl said
 
   back : HandsBack edition most input
   back = hands-back edition most input read known ok
@@ -242,23 +232,23 @@ module _ (edition : ℕ) (most : Limits) (input : List ℕ) (read : (read_verdic
   first-night =
       let u = pass-unread job (tries_by edition job) job.sides in
       rw (eq-eqb (read_verdict most input (all_room most)).number 0 read, prints, left-run)
-      (report-settled job (run_figures_of edition done (first_pass edition job) (run_by edition job)) (last_pass edition job).sides_after refl equal-last (run-held edition most job (all_lent most job) night refl made).size u.0 u.1)
+      (report-settled job (run_figures_of done (first_pass edition job) (run_by edition job)) (last_pass edition job).sides_after refl equal-last (run-held edition most job (all_lent most job) night refl said).size u.0 u.1)
 
   next-night : prints edition most (resettles edition most input).output
-      ≡ settled_report job night.sides night.answer.figures.cut night.answer.figures.cut 1 0 (shown_visits edition (last_pass edition job))
+      ≡ settled_report job night.sides night.answer.figures.cut night.answer.figures.cut 1 0 (last_pass edition job).visited
   unfolding run_figures_of figures_of last_of total
   next-night =
       let next : Job = resettled edition job in
       let last : Pass = last_pass edition job in
-      let begun : first_pass edition next ≡ last = new-first edition most job ok in
+      let begun : first_pass edition next ≡ last = new-first edition most job ok equal-last in
       let u = pass-unread next (tries_by edition next) next.sides in
       back.night
-      ∙ ap (λ (r : RunFigures). report next r (last_pass edition next).sides_after) (new-figures edition most job ok)
-      ∙ ap (λ (p : Pass). report next (one_figures edition last) p.sides_after) (new-last edition most job ok)
-      ∙ report-settled next (one_figures edition last) last.sides_after refl equal-last (sym (resettled-holds edition most job ok).size)
+      ∙ ap (λ (r : RunFigures). report next r (last_pass edition next).sides_after) (new-figures edition most job ok equal-last)
+      ∙ ap (λ (p : Pass). report next (one_figures last) p.sides_after) (new-last edition most job ok equal-last)
+      ∙ report-settled next (one_figures last) last.sides_after refl equal-last (sym (resettled-holds edition most job ok).size)
       (ap (λ (p : Pass). p.unread) (sym begun) ∙ u.0) (ap (λ (p : Pass). p.holding) (sym begun) ∙ u.1)
-      ∙ report-same job last.sides_after last.sides_after last.cut_before last.cut_after 1 (last.kept + 0) (shown_visits edition last + 0)
-      ∙ rw (left-run, ← last-equal edition most job ok, last_none edition most job ok, add-zero (shown_visits edition last)) refl
+      ∙ report-same job last.sides_after last.sides_after last.cut_before last.cut_after 1 (last.kept + 0) (last.visited + 0)
+      ∙ rw (left-run, ← last-equal edition most job ok equal-last, last_none edition most job ok equal-last, add-zero last.visited) refl
 
   handed-again : resettles edition most (resettles edition most input).output ≡ resettles edition most input
   handed-again =
@@ -267,7 +257,7 @@ module _ (edition : ℕ) (most : Limits) (input : List ℕ) (read : (read_verdic
       let passes-again : (check_job most (job_of out)).number ≡ 0 = rw back.same (ap (λ (v : Verdict). v.number) h.accepted) in
       (hands-back edition most out (ap (λ (v : Verdict). v.number) back.read) known passes-again).hands
       ∙ ap (λ (j : Job). record { output = blocks_of (resettled edition j); errors = [] }) back.same
-      ∙ ap (λ (j : Job). record { output = blocks_of j; errors = [] }) h.still
+      ∙ ap (λ (j : Job). record { output = blocks_of j; errors = [] }) (h.still equal-last)
       ∙ sym back.hands
 
   pub second-night : SecondNight edition most input

@@ -1,24 +1,24 @@
 -- A pass that was made is told whole: the lists that it leaves hold all that a trace shows. Assumes nothing.
 use mathlib.Core.Path.{◌≡◌, refl, ap, ◌∙◌}
 use Prim.Native.Nat.{ℕ, zero, suc, ◌+◌, ◌*◌, ◌≤◌, ◌<◌}
-use mathlib.Core.Bool.{Bool, true, false, cond}
+use mathlib.Core.Bool.{true, false}
 use mathlib.Core.List.{List, [], ◌∷◌}
 use native.Mathlib.Omega.{arith}
 use native.Mathlib.Nat.{add-zero}
 use lib.ListN.{length, get_or, length-append}
-use lib.Dec.{ltb, eqb}
+use lib.Dec.{ltb}
 use borrow.Author.Tests.{le-ltb, le-leb, eq-eqb}
 use Rattle.rules.specs.Lists.{some_below, total}
 use Rattle.rules.specs.Job.{Job, Limits, file_count, recipe_count, recipes, Lent, fits}
 use Rattle.rules.specs.Check.{done}
 use Rattle.rules.specs.Move.{State, moved, scans_of, scans, ends_from, start}
 use Rattle.rules.specs.Pass.{Pass, pass_of, leaves}
-use Rattle.rules.specs.Editions.{tries_by}
+use Rattle.rules.specs.Fronts.{tries_by}
 use Rattle.rules.specs.Run.{first_pass, figures_of}
 use Rattle.rules.specs.Trace.{Listing, listing, scans_before, bad_end, holds_pass}
-use Rattle.rules.specs.Theorems.{Sound, MovesHold, ScansHold, Listed, Left}
+use Rattle.rules.specs.Theorems.{Sound, MovesHold, ScansHold, Left}
 use Rattle.rules.proofs.Proved.{pass-holds-by, scans-hold, lawful-frees, left, given-sides}
-use Rattle.rules.proofs.Editions.{editions-hold}
+use Rattle.rules.proofs.FrontsProved.{editions-hold}
 use Rattle.rules.proofs.Searches.{some-none}
 use Rattle.rules.proofs.Steps.{ends-length}
 use Rattle.rules.proofs.Fits.{long-enough}
@@ -65,30 +65,14 @@ module _ (edition : ℕ) (most : Limits) (job : Job) (s : Sound most job) (l : L
   abbrev told : Listing
   told = listing (leaves edition job l one)
 
-  -- where the scans of its moves end
-  abbrev ends : List ℕ
-  ends = ends_from (recipes job) 0 (start job job.sides) (tries_by edition job job.sides)
-
-  -- the ends that are told are those of the pass, or none
-  end-told : (i : ℕ) → i < length (tries_by edition job job.sides) → get_or told.ends i 0 ≡ get_or (cond (eqb edition 3) [] ends) i 0
+  -- the ends that are told are those of the pass
+  end-told : (i : ℕ) → i < length (tries_by edition job job.sides) → get_or told.ends i 0 ≡ get_or (ends_from (recipes job) 0 (start job job.sides) (tries_by edition job job.sides)) i 0
   unfolding pass_of
-  end-told i h = go (eqb edition 3) there.ends
-    where
-      go : (third : Bool) → Listed (file_count job) 0 (cond third [] ends) l.ends told.ends → get_or told.ends i 0 ≡ get_or (cond third [] ends) i 0
-      go true q = q.then 0 i (omega arith) (omega (arith, h, these-hold.few))
-      go false q = q.holds 0 i (rw (ends-length (recipes job) 0 (start job job.sides) (tries_by edition job job.sides)) h)
+  end-told i h = there.ends.holds 0 i (rw (ends-length (recipes job) 0 (start job job.sides) (tries_by edition job job.sides)) h)
 
-  begin-told : (i : ℕ) → i < length (tries_by edition job job.sides) → scans_before told i ≡ begins_at (cond (eqb edition 3) [] ends) 0 i
+  begin-told : (i : ℕ) → i < length (tries_by edition job job.sides) → scans_before told i ≡ begins_at (ends_from (recipes job) 0 (start job job.sides) (tries_by edition job job.sides)) 0 i
   begin-told zero h = refl
   begin-told (suc i) h = end-told i (omega arith)
-
-  -- they rise, and do not pass the scans
-  shown-rise : (third : Bool) (i : ℕ) → i < length (tries_by edition job job.sides)
-      → (begins_at (cond third [] ends) 0 i ≤ get_or (cond third [] ends) i 0)
-      × (get_or (cond third [] ends) i 0 ≤ 0 + length (scans (recipes job) (start job job.sides) (tries_by edition job job.sides)))
-  shown-rise true zero h = (omega arith, omega arith)
-  shown-rise true (suc i) h = (omega arith, omega arith)
-  shown-rise false i h = ends-rise (recipes job) 0 (start job job.sides) (tries_by edition job job.sides) i h
 
   few-scans : length (scans (recipes job) (start job job.sides) (tries_by edition job job.sides)) ≤ 4 * recipe_count job
   unfolding pass_of
@@ -96,7 +80,7 @@ module _ (edition : ℕ) (most : Limits) (job : Job) (s : Sound most job) (l : L
 
   no-bad-end : (i : ℕ) → i < length (tries_by edition job job.sides) → bad_end told i ≡ false
   no-bad-end i h =
-      let r = shown-rise (eqb edition 3) i h in
+      let r = ends-rise (recipes job) 0 (start job job.sides) (tries_by edition job job.sides) i h in
       let e = end-told i h in
       let f = long-enough edition job l ok in
       let rise : ltb (get_or told.ends i 0) (scans_before told i) ≡ false = le-ltb (get_or told.ends i 0) (scans_before told i) (omega (arith, e, begin-told i h, r.0)) in
@@ -104,11 +88,11 @@ module _ (edition : ℕ) (most : Limits) (job : Job) (s : Sound most job) (l : L
       let kinds : ltb (length told.kinds) (get_or told.ends i 0) ≡ false = le-ltb (length told.kinds) (get_or told.ends i 0) (omega (arith, e, r.1, few-scans, there.kinds.long, f.scanned_kinds)) in
       rw (rise, within, kinds) refl
 
-  tried-told : (figures_of edition done one (one ∷ [])).tried ≡ length (tries_by edition job job.sides)
+  tried-told : (figures_of done one (one ∷ [])).tried ≡ length (tries_by edition job job.sides)
   unfolding figures_of total pass_of
   tried-told = add-zero (length (tries_by edition job job.sides))
 
-  pub pass-told : holds_pass job.sizes (figures_of edition done one (one ∷ [])) told ≡ true
+  pub pass-told : holds_pass job.sizes (figures_of done one (one ∷ [])) told ≡ true
   pass-told =
       let f = long-enough edition job l ok in
       let n = length (tries_by edition job job.sides) in

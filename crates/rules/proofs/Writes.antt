@@ -48,7 +48,7 @@ write-holds most job out =
       exact = λ z. eqb-true (length out) n (lent_written most job _ z);
       passes = λ z. ap (λ (b : Bool). (check_written most job b).number) (sym (lent_written most job _ z)) ∙ z;
       all = λ e. ap (check_written most job) (eq-eqb (length out) n e);
-      carried = λ num den. unfold check_written bad_pin in refl;
+      carried = λ num den cap. unfold check_written bad_pin in refl;
       long = elim (ℕ_discrete v.number 0) [
         | yes z ↦ rw (eq-eqb v.number 0 z, writing) (blocks-length job ∙ sym (eqb-true (length out) n (lent_written most job _ z)))
         | no z ↦ rw (ne_eqb v.number 0 z, writing) refl

@@ -226,10 +226,10 @@ check most job lent = first_given (all_rows most job lent)
 abbrev pub check_job : Limits → Job → Verdict
 check_job most job = check most job true
 
--- ---- 32: an edition of the choice that there is not (document 02, orders 9 and 12)
+-- ---- 32: an edition of the choice that there is not (document 02, order 9)
 
 abbrev pub is_edition : ℕ → Bool
-is_edition edition = eqb edition 1 || eqb edition 2 || eqb edition 3
+is_edition edition = eqb edition 1 || eqb edition 2
 
 abbrev pub edition_rows : ℕ → Rows
 edition_rows edition = row 32 (not (is_edition edition)) 0

@@ -22,7 +22,7 @@ difference what number old new = record { what = what; number = number; old = ol
 abbrev pub figure : ℕ → ℕ → ℕ → ℕ → List Difference
 figure what number old new = cond (eqb old new) [] (difference what number old new ∷ [])
 
--- 1 to 5 for C, N, P, num, den and 7 for k, with number 0; 6 was the cap, which no longer differs (order 13)
+-- 1 to 7 for C, N, P, num, den, cap, k, with number 0
 unfoldable pub head_differences : Header → Header → List Difference
 head_differences old new =
     figure 1 0 old.files new.files
@@ -30,6 +30,7 @@ head_differences old new =
     ++ figure 3 0 old.pins new.pins
     ++ figure 4 0 old.num new.num
     ++ figure 5 0 old.den new.den
+    ++ figure 6 0 old.cap new.cap
     ++ figure 7 0 old.k new.k
 
 -- 8 to 10 for size, side and mark of file f, which reads as zeros where a job lacks it
@@ -57,9 +58,9 @@ differences old new =
     ++ in_turn (file_differences old new) (max (file_count old) (file_count new))
     ++ in_turn (recipe_differences old new) (max (recipe_count old) (recipe_count new))
 
--- no two jobs have more: six of the header, three of each file, one of each recipe
+-- no two jobs have more: seven of the header, three of each file, one of each recipe
 abbrev pub most_differences : Limits → ℕ
-most_differences most = 6 + 3 * most.files + most.recipes
+most_differences most = 7 + 3 * most.files + most.recipes
 
 -- ---- the call: it is lent two stored jobs and a list of records
 

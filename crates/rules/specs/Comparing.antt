@@ -13,7 +13,7 @@ use Rattle.rules.specs.Compare.{difference, differences, most_differences, read_
 
 -- ---- the differences (Comparing `differences-hold`, of two sound jobs)
 
--- what a record of this kind and number shows of a job: 1 to 7 the figures of its header, of which 6 is 0 in every job, 8 to 10 size, side and mark of a file, 11 the length of a recipe
+-- what a record of this kind and number shows of a job: 1 to 7 the figures of its header, 8 to 10 size, side and mark of a file, 11 the length of a recipe
 abbrev pub shown : Job → ℕ → ℕ → ℕ
 shown job what n =
     cond (eqb what 1) (file_count job)
@@ -21,7 +21,7 @@ shown job what n =
     (cond (eqb what 3) (pin_count job)
     (cond (eqb what 4) job.num
     (cond (eqb what 5) job.den
-    (cond (eqb what 6) 0
+    (cond (eqb what 6) job.cap
     (cond (eqb what 7) job.k
     (cond (eqb what 8) (size_of job n)
     (cond (eqb what 9) (side_of job.sides n)
@@ -32,9 +32,9 @@ shown job what n =
 abbrev pub record_at : List Difference → ℕ → Difference
 record_at ds i = get_or ds i (difference 0 0 0 0)
 
--- what a record says is true of the two jobs; none is of kind 6 (order 13)
+-- what a record says is true of the two jobs
 pub record Told (old new : Job) (d : Difference) : Type 0 where
-  pub kind : (1 ≤ d.what) × (d.what ≤ 11) × (d.what ≢ 6)
+  pub kind : (1 ≤ d.what) × (d.what ≤ 11)
   pub before : d.old ≡ shown old d.what d.number
   pub after : d.new ≡ shown new d.what d.number
   pub figures : d.what ≢ 11 → d.old ≢ d.new

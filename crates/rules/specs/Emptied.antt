@@ -78,7 +78,7 @@ pair_bytes =
 
 -- two free files of size 1 and a pinned one of size p: smax is 1, k·smax is k and W is p + 2; den is 3
 abbrev pub edge : ℕ → List ℕ → ℕ → ℕ → Job
-edge num sides p k = as_job (1 ∷ 1 ∷ p ∷ []) sides (0 ∷ 0 ∷ 1 ∷ []) (0 ∷ 3 ∷ []) (0 ∷ 1 ∷ 2 ∷ []) num 3 k
+edge num sides p k = as_job (1 ∷ 1 ∷ p ∷ []) sides (0 ∷ 0 ∷ 1 ∷ []) (0 ∷ 3 ∷ []) (0 ∷ 1 ∷ 2 ∷ []) num 3 0 k
 
 -- at 1/3 A may be empty if W is at most 3·k: file 0 in A, the others in B
 abbrev pub edge_a : ℕ → ℕ → Job
@@ -111,4 +111,4 @@ pub record EmptiedWorked : Type 0 where
   -- before 9: all three in A, which is too large for 1/3; and after 8: with no file free and none that could be read W is 0
   pub before_start : check_job (limits_of 3 1 3 3) (edge 1 (0 ∷ 0 ∷ 0 ∷ []) 1 1) ≡ record { number = 10; place = 0 }
   pub unbalanced : balanced (edge 1 (0 ∷ 0 ∷ 0 ∷ []) 1 1) 3 ≡ false
-  pub after_free : check_job (limits_of 2 1 2 2) (as_job (1 ∷ 1 ∷ []) (0 ∷ 1 ∷ []) (2 ∷ 2 ∷ []) (0 ∷ 2 ∷ []) (0 ∷ 1 ∷ []) 1 2 1) ≡ record { number = 8; place = 0 }
+  pub after_free : check_job (limits_of 2 1 2 2) (as_job (1 ∷ 1 ∷ []) (0 ∷ 1 ∷ []) (2 ∷ 2 ∷ []) (0 ∷ 2 ∷ []) (0 ∷ 1 ∷ []) 1 2 0 1) ≡ record { number = 8; place = 0 }

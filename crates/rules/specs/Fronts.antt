@@ -1,4 +1,4 @@
--- Document 02, order 9: edition 2 of the choice, by buckets. Gains are worked out afresh from the sides. Assumes nothing.
+-- Document 02, order 9: edition 2 of the choice, by buckets, and which choice goes by which edition. Gains are worked out afresh from the sides. Assumes nothing.
 use Rattle.std.specs.Prelude.{ℕ, zero, suc, ◌*◌, Bool, not, cond, ◌&&◌, ◌||◌, List, [], ◌∷◌, eqb, ℤ}
 use Rattle.std.proofs.Math.Option.{Option, none, some}
 use Rattle.std.specs.Int.Signed.{lt_z}
@@ -6,6 +6,7 @@ use Rattle.rules.specs.Lists.{those, diff}
 use Rattle.rules.specs.Job.{Job, file_count, recipe_count, files, recipes}
 use Rattle.rules.specs.Split.{on_side, gain, is_free}
 use Rattle.rules.specs.Move.{State, start, moved, steps_by, legal, dist_after, better, moves_by, Change, changes_of}
+use Rattle.rules.specs.Pass.{tries}
 
 -- ---- the buckets
 
@@ -93,3 +94,9 @@ choose_front job b = of_two (better (gain_in job b) (dist_after job b.state)) (o
 -- the moves of a pass: it stops if neither qualifies. A file moves once, so C turns are enough
 unfoldable pub front_tries : Job → List ℕ → List ℕ
 front_tries job sides = moves_by (choose_front job) (moved_on job) (file_count job) (start_buckets job sides)
+
+-- ---- the moves by edition
+
+-- those that a pass from these sides tries: document 01's, but for edition 2
+abbrev pub tries_by : ℕ → Job → List ℕ → List ℕ
+tries_by edition job sides = cond (eqb edition 2) (front_tries job sides) (tries job sides)

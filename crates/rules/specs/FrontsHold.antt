@@ -1,4 +1,4 @@
--- What holds of edition 2's choice (document 02, order 9), a fact to a field: its buckets, the front of a vault, and its pass. Assumes nothing.
+-- What holds of edition 2's choice (document 02, order 9), a fact to a field: its buckets, the front of a vault, its pass and its run. Assumes nothing.
 use Rattle.std.specs.Prelude.{◌≡◌, ℕ, suc, ◌≤◌, ◌<◌, Bool, true, false, not, cond, ◌&&◌, List, [], ◌∷◌, ◌++◌, map, length, get_or, take, ltb, eqb, ℤ, pos, negsuc}
 use Rattle.std.proofs.Math.Option.{Option, none, some}
 use Rattle.std.specs.Int.Signed.{lt_z}
@@ -6,7 +6,7 @@ use Rattle.rules.specs.Lists.{bit, those}
 use Rattle.rules.specs.Job.{Job, Limits, file_count, files, recipes}
 use Rattle.rules.specs.Split.{other, side_of, on_side, times, is_free}
 use Rattle.rules.specs.Move.{State, start, free, moved, steps_by, legal, dist_after, Change, changes_of}
-use Rattle.rules.specs.Fronts.{Buckets, start_buckets, moved_on, gain_in, in_vault, front_of, front_tries}
+use Rattle.rules.specs.Fronts.{Buckets, start_buckets, moved_on, gain_in, in_vault, front_of, front_tries, tries_by}
 use Rattle.rules.specs.RoundTrip.{Sideless, ResettledHoldsBy}
 use Rattle.rules.specs.Theorems.{state_at, ScansHold, Lawful, PassHoldsBy, LawfulTry, RunHoldsBy}
 
@@ -117,3 +117,12 @@ pub record PassHoldsFronts (job : Job) (sides : List ℕ) : Type 0 where
   pub only : (i f : ℕ) → i < length (front_tries job sides) → ChosenFront job (fronts_at job sides i) f → f ≡ get_or (front_tries job sides) i 0
   pub ended : (u f : ℕ) → u ≤ 1 → Front job (fronts_at job sides (length (front_tries job sides))) u f
       → legal job (state_at job sides (front_tries job sides) (length (front_tries job sides))) f ≡ false
+
+-- ---- by edition (FrontsProved `editions-hold`, of a sound job)
+
+pub record EditionsHold (job : Job) : Type 0 where
+  -- whatever the edition its moves are lawful, so all that holds of a run whoever chose holds of it
+  pub lawful : (edition : ℕ) → LawfulTry job (tries_by edition job)
+  pub run : (edition : ℕ) → RunHoldsBy job (tries_by edition job)
+  -- and they do not go by the job's own sides
+  pub sideless : (edition : ℕ) → Sideless (tries_by edition) job

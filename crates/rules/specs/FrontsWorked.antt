@@ -38,7 +38,7 @@ told job b = (buckets_of job b 0, buckets_of job b 1, offer job b 0, offer job b
 abbrev pub eight : Job
 eight =
     as_job (3 ∷ 2 ∷ 2 ∷ 1 ∷ 2 ∷ 1 ∷ 2 ∷ 1 ∷ []) (0 ∷ 1 ∷ 1 ∷ 1 ∷ 0 ∷ 1 ∷ 1 ∷ 0 ∷ []) (1 ∷ 0 ∷ 0 ∷ 0 ∷ 0 ∷ 0 ∷ 0 ∷ 0 ∷ [])
-    (0 ∷ 2 ∷ 4 ∷ 7 ∷ 9 ∷ 12 ∷ 15 ∷ []) (2 ∷ 0 ∷ 5 ∷ 3 ∷ 7 ∷ 1 ∷ 5 ∷ 0 ∷ 5 ∷ 4 ∷ 7 ∷ 3 ∷ 0 ∷ 7 ∷ 6 ∷ []) 1 2 1
+    (0 ∷ 2 ∷ 4 ∷ 7 ∷ 9 ∷ 12 ∷ 15 ∷ []) (2 ∷ 0 ∷ 5 ∷ 3 ∷ 7 ∷ 1 ∷ 5 ∷ 0 ∷ 5 ∷ 4 ∷ 7 ∷ 3 ∷ 0 ∷ 7 ∷ 6 ∷ []) 1 2 0 1
 
 abbrev pub eight_moves : List ℕ
 eight_moves = 6 ∷ 7 ∷ 4 ∷ 2 ∷ 5 ∷ []
@@ -50,7 +50,7 @@ eight_at k = buckets_at eight eight.sides eight_moves k
 -- ---- order 10's job: sizes 2, 3, 3, 1, files 1 and 2 pinned, ratio 3/7; W is 9 and smax 2, so A may be 2 to 5, and starts at 3
 -- recipes {0,1}, {0,2}, {1,3}
 abbrev pub early : Job
-early = as_job (2 ∷ 3 ∷ 3 ∷ 1 ∷ []) (0 ∷ 1 ∷ 1 ∷ 0 ∷ []) (0 ∷ 1 ∷ 1 ∷ 0 ∷ []) (0 ∷ 2 ∷ 4 ∷ 6 ∷ []) (0 ∷ 1 ∷ 0 ∷ 2 ∷ 1 ∷ 3 ∷ []) 3 7 1
+early = as_job (2 ∷ 3 ∷ 3 ∷ 1 ∷ []) (0 ∷ 1 ∷ 1 ∷ 0 ∷ []) (0 ∷ 1 ∷ 1 ∷ 0 ∷ []) (0 ∷ 2 ∷ 4 ∷ 6 ∷ []) (0 ∷ 1 ∷ 0 ∷ 2 ∷ 1 ∷ 3 ∷ []) 3 7 0 1
 
 pub record FrontsWorked : Type 0 where
   pub checked : check_job (limits_of 8 6 15 2) eight ≡ done

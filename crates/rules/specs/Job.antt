@@ -2,7 +2,7 @@
 use Rattle.std.specs.Prelude.{ℕ, suc, ◌+◌, ◌-◌, ◌*◌, ◌<◌, Bool, not, cond, ◌&&◌, List, [], map, length, get_or, take, drop, leb, ltb, eqb, ℤ}
 use Rattle.rules.specs.Lists.{those, up_to, AllBelow}
 
--- a side is 0 (A) or 1 (B), a mark 0 (free), 1 (pinned) or 2 (unread: document 02, order 5); the ratio is num/den for A; the
+-- a side is 0 (A) or 1 (B), a mark 0 (free), 1 (pinned) or 2 (unread: document 02, order 5); the ratio is num/den for A; cap 0 is none; the
 -- tolerance is k times smax (order 6)
 pub record Job : Type 0 where
   pub sizes : List ℕ
@@ -12,11 +12,12 @@ pub record Job : Type 0 where
   pub pins : List ℕ
   pub num : ℕ
   pub den : ℕ
+  pub cap : ℕ
   pub k : ℕ
 
 -- a job of the lists and numbers of a call, for contracts
-abbrev pub as_job : List ℕ → List ℕ → List ℕ → List ℕ → List ℕ → ℕ → ℕ → ℕ → Job
-as_job sizes sides marks bounds pins num den k = record {
+abbrev pub as_job : List ℕ → List ℕ → List ℕ → List ℕ → List ℕ → ℕ → ℕ → ℕ → ℕ → Job
+as_job sizes sides marks bounds pins num den cap k = record {
   sizes = sizes;
   sides = sides;
   marks = marks;
@@ -24,6 +25,7 @@ as_job sizes sides marks bounds pins num den k = record {
   pins = pins;
   num = num;
   den = den;
+  cap = cap;
   k = k;
 }
 
@@ -64,6 +66,7 @@ pub record TwoByte (job : Job) : Type 0 where
   pub pins : AllBelow 65536 job.pins
   pub num : job.num < 65536
   pub den : job.den < 65536
+  pub cap : job.cap < 65536
   pub k : job.k < 65536
 
 -- ---- the view

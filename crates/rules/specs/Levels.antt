@@ -1,11 +1,13 @@
--- Document 02, order 12: edition 3 of the choice, by binding numbers, levels and gain vectors (source document 004). Assumes nothing.
+-- Document 02, order 12: edition 3 of the choice, by binding numbers, levels and gain vectors (source document 004), and what is told of its pass. Assumes nothing.
 use Rattle.std.specs.Prelude.{ℕ, ◌-◌, Bool, false, true, not, cond, ◌&&◌, ◌||◌, List, [], ◌∷◌, ltb, eqb, ℤ}
 use Rattle.std.proofs.Math.Option.{Option}
 use Rattle.std.specs.Int.Signed.{lt_z}
+use Rattle.rules.specs.declared.Figures.{Figures}
 use Rattle.rules.specs.Lists.{count, diff}
 use Rattle.rules.specs.Job.{Job, file_count, recipes}
 use Rattle.rules.specs.Split.{other, side_of, on_side, holds}
 use Rattle.rules.specs.Move.{State, start, free, locked_on, moved, legal, dist_after, first_below, moves_by}
+use Rattle.rules.specs.Pass.{Pass}
 
 -- ---- the binding number
 
@@ -81,3 +83,39 @@ choose_vector job st = first_below (legal job st) (better_by (above job st) (dis
 -- the moves of a pass: stop when no legal move exists. A file moves once, so C turns are enough
 unfoldable pub vector_tries : Job → List ℕ → List ℕ
 vector_tries job sides = moves_by (choose_vector job) moved (file_count job) (start job sides)
+
+-- ---- what is told of its pass
+
+-- no scans: the scan lists, the fourth move list and visits are zeros. The gains listed stay document 01's, which level 1 is
+abbrev pub unscanned : Pass → Pass
+unscanned p = record {
+  tried = p.tried;
+  gained = p.gained;
+  cuts = p.cuts;
+  ends = [];
+  scanned = [];
+  gains = p.gains;
+  kept = p.kept;
+  visited = 0;
+  cut_before = p.cut_before;
+  cut_after = p.cut_after;
+  sides_after = p.sides_after;
+  size_after = p.size_after;
+  unread = p.unread;
+  holding = p.holding;
+}
+
+-- and in the answer scan and visit counts are zeros
+abbrev pub without_scans : Figures → Figures
+without_scans a = record {
+  verdict = a.verdict;
+  before = a.before;
+  cut = a.cut;
+  size = a.size;
+  tried = a.tried;
+  kept = a.kept;
+  scans = 0;
+  visits = 0;
+  unread = a.unread;
+  holding = a.holding;
+}

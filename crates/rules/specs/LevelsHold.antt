@@ -4,16 +4,16 @@ use Rattle.std.proofs.Math.Option.{none, some}
 use Rattle.std.specs.Int.Signed.{lt_z}
 use Rattle.rules.specs.declared.Verdict.{Verdict}
 use Rattle.rules.specs.Lists.{count, those, diff}
-use Rattle.rules.specs.Job.{Job, file_count, recipe_count, is_read, enough, views, recipes, Lent, scratch_for}
+use Rattle.rules.specs.Job.{Job, Limits, file_count, recipe_count, is_read, enough, views, recipes, Lent, scratch_for}
 use Rattle.rules.specs.Split.{on_side, count_on, holds, recipes_with, gain}
 use Rattle.rules.specs.Move.{State, lock_of, legal, dist_after}
 use Rattle.rules.specs.Pass.{Pass, pass_of, leaves}
-use Rattle.rules.specs.Run.{figures_of}
-use Rattle.rules.specs.Levels.{counted, unlimited, binding, adds, takes, binds_by, level, above, choose_vector, vector_tries}
-use Rattle.rules.specs.Editions.{tries_by}
-use Rattle.rules.specs.Theorems.{state_at, Lawful, PassHoldsBy, LawfulTry, RunHoldsBy}
-use Rattle.rules.specs.RoundTrip.{Sideless}
-use Rattle.rules.specs.SettledYes.{TakesGreatest}
+use Rattle.rules.specs.Run.{settles, pass_by, passes, last_of, last_by, figures_of}
+use Rattle.rules.specs.Levels.{counted, unlimited, binding, adds, takes, binds_by, level, above, choose_vector, vector_tries, unscanned, without_scans}
+use Rattle.rules.specs.Theorems.{state_at, Left, Lawful, PassHoldsBy, LawfulTry, state_in, RunHoldsBy}
+use Rattle.rules.specs.RoundTrip.{Sideless, ResettledHoldsBy}
+use Rattle.rules.specs.Emptied.{BothHold}
+use Rattle.rules.specs.SettledYes.{NoneLessens, TakesGreatest}
 
 -- ---- binding numbers and levels
 
@@ -94,32 +94,35 @@ pub record PassHoldsVectors (job : Job) (sides : List ℕ) : Type 0 where
 pub record VectorsHold (job : Job) : Type 0 where
   -- all that holds of a run whoever chose holds of it: that its passes are at most the starting cut plus one, say
   pub lawful : LawfulTry job (vector_tries job)
+  pub run : RunHoldsBy job (vector_tries job)
   -- it does not go by the job's own sides
   pub sideless : Sideless vector_tries job
-  -- it takes a greatest gain, so that order 10's first statement holds of it too (specs/SettledYes.antt)
+  -- order 10's first statement: it takes a greatest gain, so that where it settled no single legal move lessens the cut
   pub greatest : TakesGreatest job (vector_tries job)
+  pub least : settles (last_by job (vector_tries job)) ≡ true → NoneLessens job (last_by job (vector_tries job)).sides_after
 
--- ---- what is told of it: no scans
+-- (LevelsProved `vectors-accepted`, of a job that passes 1 to 10)
+pub record VectorsAccepted (most : Limits) (job : Job) : Type 0 where
+  -- no vault is emptied: in every pass after every move, and in the split returned
+  pub within : (i k : ℕ) → i < length (passes job (vector_tries job)) → BothHold job (state_in job (vector_tries job) i k).sides
+  pub ran : BothHold job (last_by job (vector_tries job)).sides_after
+  -- order 10's second statement: settled, a run on the result makes one pass, keeps no move and returns the same sides
+  pub again : ResettledHoldsBy vector_tries most job
 
--- the lent lists after any pass (LevelsProved `left-unscanned`, of lists that fit)
-pub record LeftUnscanned (job : Job) (l : Lent) (p : Pass) : Type 0 where
+-- ---- what is told of them
+
+-- the lent lists after its pass (LevelsProved `left-unscanned`, of a sound job, sides that a pass may start from and lists that fit)
+pub record LeftUnscanned (job : Job) (l : Lent) (sides : List ℕ) : Type 0 where
+  -- the lists of the moves and the gain list as ever; further entries stay
+  pub left : Left 3 job l (unscanned (pass_by job (vector_tries job) sides))
   -- the fourth move list and the scan lists are zeros
-  pub ends : (i : ℕ) → i < file_count job → get_or (leaves 3 job l p).ends i 0 ≡ 0
-  pub recipes : (i : ℕ) → i < 4 * recipe_count job → get_or (leaves 3 job l p).recipes i 0 ≡ 0
-  pub kinds : (i : ℕ) → i < 4 * recipe_count job → get_or (leaves 3 job l p).kinds i 0 ≡ 0
+  pub ends : (i : ℕ) → i < file_count job → get_or (leaves 3 job l (unscanned (pass_by job (vector_tries job) sides))).ends i 0 ≡ 0
+  pub recipes : (i : ℕ) → i < 4 * recipe_count job → get_or (leaves 3 job l (unscanned (pass_by job (vector_tries job) sides))).recipes i 0 ≡ 0
+  pub kinds : (i : ℕ) → i < 4 * recipe_count job → get_or (leaves 3 job l (unscanned (pass_by job (vector_tries job) sides))).kinds i 0 ≡ 0
   -- scratch is as in edition 1
   pub scratch : scratch_for 3 job ≡ scratch_for 1 job
 
--- the answer (LevelsProved `told-unscanned`, of any passes): scan and visit counts are zeros
+-- the answer (LevelsProved `told-unscanned`, of any passes): the last pass and the figures are those that there would be, but for scans and visits
 pub record ToldUnscanned (v : Verdict) (first : Pass) (ps : List Pass) : Type 0 where
-  pub scans : (figures_of 3 v first ps).scans ≡ 0
-  pub visits : (figures_of 3 v first ps).visits ≡ 0
-
--- ---- by edition (Editions `editions-hold`, of a sound job)
-
-pub record EditionsHold (job : Job) : Type 0 where
-  -- whatever the edition its moves are lawful, so all that holds of a run whoever chose holds of it
-  pub lawful : (edition : ℕ) → LawfulTry job (tries_by edition job)
-  pub run : (edition : ℕ) → RunHoldsBy job (tries_by edition job)
-  -- and they do not go by the job's own sides
-  pub sideless : (edition : ℕ) → Sideless (tries_by edition) job
+  pub last : last_of (unscanned first) (map unscanned ps) ≡ unscanned (last_of first ps)
+  pub figures : figures_of v (unscanned first) (map unscanned ps) ≡ without_scans (figures_of v first ps)

@@ -2,21 +2,21 @@
 --
 -- The text of the source has its words and not its drawings. Cells A and B, both to be moved to the other side, are files 0 and 1, in vault A; files 2 and 3 lie beside them. What a net has on the other side
 -- is file 4, which is pinned: its numbers there are unlimited and take nothing, as the source's own vectors of figure 2 ask. File 5 is on no recipe
-use Rattle.std.specs.Prelude.{◌≡◌, ℕ, true, false, List, [], ◌∷◌, map, length, take, ℤ, pos, negsuc}
+use Rattle.std.specs.Prelude.{◌≡◌, ℕ, true, false, List, [], ◌∷◌, map, take, ℤ, pos, negsuc}
 use Rattle.std.proofs.Math.Option.{some}
 use Rattle.rules.specs.Job.{Job, as_job, limits_of, files, recipes}
 use Rattle.rules.specs.Split.{is_cut, gain}
 use Rattle.rules.specs.Check.{done, check_job}
 use Rattle.rules.specs.Move.{moved, after, choose}
-use Rattle.rules.specs.Pass.{Pass, tries, shown_scans, shown_visits}
-use Rattle.rules.specs.Run.{run, run_by}
-use Rattle.rules.specs.Levels.{vector, greater_vector, choose_vector, vector_tries}
-use Rattle.rules.specs.Marked.{small, chain, begin}
+use Rattle.rules.specs.Pass.{Pass, tries}
+use Rattle.rules.specs.Run.{passes, run}
+use Rattle.rules.specs.Levels.{vector, greater_vector, choose_vector, vector_tries, unscanned}
+use Rattle.rules.specs.Marked.{small, chain, begin, said}
 use Rattle.rules.specs.Unread.{torn}
 
 -- files 0 to 3 in A, 4 (pinned) and 5 in B, all of size 1, ratio 1/2: A may be 2 to 4
 abbrev pub pinned_beside : List ℕ → List ℕ → Job
-pinned_beside bounds pins = as_job (1 ∷ 1 ∷ 1 ∷ 1 ∷ 1 ∷ 1 ∷ []) (0 ∷ 0 ∷ 0 ∷ 0 ∷ 1 ∷ 1 ∷ []) (0 ∷ 0 ∷ 0 ∷ 0 ∷ 1 ∷ 0 ∷ []) bounds pins 1 2 1
+pinned_beside bounds pins = as_job (1 ∷ 1 ∷ 1 ∷ 1 ∷ 1 ∷ 1 ∷ []) (0 ∷ 0 ∷ 0 ∷ 0 ∷ 1 ∷ 1 ∷ []) (0 ∷ 0 ∷ 0 ∷ 0 ∷ 1 ∷ 0 ∷ []) bounds pins 1 2 0 1
 
 -- figure 1: N1 {0,4} and N2 {1,4}, which the move of A or of B takes out of the cut; N3 {0,2,3,4} of A and N4 {1,2,4} of B, which stay cut
 abbrev pub figure1 : Job
@@ -42,10 +42,6 @@ vectors_of job fs = map (vector job (begin job)) fs
 abbrev pub gains_of : Job → List ℕ → List ℕ → List ℤ
 gains_of job ms fs = map (gain (after (begin job) ms).sides (recipes job)) fs
 
--- what is told of a pass: moves, cuts after, no scans and no visits, moves kept
-abbrev pub told : Pass → List ℕ × List ℕ × ℕ × ℕ × ℕ
-told p = (p.tried, p.cuts, length (shown_scans 3 p), shown_visits 3 p, p.kept)
-
 -- the cut before and after a pass
 abbrev pub cuts_of : Pass → ℕ × ℕ
 cuts_of p = (p.cut_before, p.cut_after)
@@ -65,9 +61,9 @@ pub record LevelsWorked : Type 0 where
   -- "it would then permit the deletion of yet another net (N4) through a subsequent move", that of file 2; after A no such move is there
   pub figure1·afterB : gains_of figure1 (1 ∷ []) (2 ∷ 3 ∷ []) ≡ pos 1 ∷ pos 0 ∷ []
   pub figure1·afterA : gains_of figure1 (0 ∷ []) (2 ∷ 3 ∷ []) ≡ pos 0 ∷ pos 0 ∷ []
-  -- its passes
+  -- its passes: moves, cuts after, and then no scans and no visits; moves kept
   pub figure1·passes :
-      map told (run_by 3 figure1)
+      map (λ p. said (unscanned p)) (passes figure1 (vector_tries figure1))
       ≡ (1 ∷ 0 ∷ 5 ∷ 2 ∷ [], 3 ∷ 2 ∷ 2 ∷ 1 ∷ [], 0, 0, 4) ∷ (0 ∷ 3 ∷ 2 ∷ 5 ∷ 1 ∷ [], 2 ∷ 2 ∷ 3 ∷ 3 ∷ 4 ∷ [], 0, 0, 0) ∷ []
   -- figure 2: "moving A would eliminate one net; moving B, however, would not eliminate any net, but would then allow for two nets to be eliminated"
   pub figure2·checked : check_job (limits_of 6 3 8 2) figure2 ≡ done
@@ -85,7 +81,7 @@ pub record LevelsWorked : Type 0 where
   -- document 01's chain: a recipe with one free file on either side adds 1 at level 1 and takes 1 at level 2. Files 1 and 2 are alike in vector and distance, and the lower moves
   pub chain·vectors : vectors_of chain (files chain) ≡ (pos 1 ∷ negsuc 0 ∷ pos 0 ∷ []) ∷ (pos 2 ∷ negsuc 1 ∷ pos 0 ∷ []) ∷ (pos 2 ∷ negsuc 1 ∷ pos 0 ∷ []) ∷ (pos 1 ∷ negsuc 0 ∷ pos 0 ∷ []) ∷ []
   pub chain·passes :
-      map told (run_by 3 chain)
+      map (λ p. said (unscanned p)) (passes chain (vector_tries chain))
       ≡ (1 ∷ 2 ∷ 0 ∷ 3 ∷ [], 1 ∷ 1 ∷ 2 ∷ 3 ∷ [], 0, 0, 1) ∷ (2 ∷ 1 ∷ 3 ∷ 0 ∷ [], 1 ∷ 1 ∷ 2 ∷ 1 ∷ [], 0, 0, 0) ∷ []
   -- after its first move file 1 is locked: {0,1} is unlimited on the own side of 0, {1,2} on that of 2
   pub chain·locked : map (vector chain (after (begin chain) (1 ∷ []))) (0 ∷ 2 ∷ 3 ∷ []) ≡ (negsuc 0 ∷ pos 0 ∷ pos 0 ∷ []) ∷ (pos 0 ∷ negsuc 0 ∷ pos 0 ∷ []) ∷ (pos 1 ∷ negsuc 0 ∷ pos 0 ∷ []) ∷ []
@@ -96,5 +92,5 @@ pub record LevelsWorked : Type 0 where
   pub ring·checked : check_job (limits_of 5 3 6 2) ring ≡ done
   pub ring·vectors : vectors_of ring (2 ∷ 3 ∷ 4 ∷ []) ≡ (pos 0 ∷ negsuc 0 ∷ pos 0 ∷ []) ∷ (pos 0 ∷ pos 0 ∷ pos 0 ∷ []) ∷ (pos 0 ∷ negsuc 0 ∷ pos 0 ∷ []) ∷ []
   pub ring·first : map cuts_of (run ring) ≡ (2, 2) ∷ []
-  pub ring·third : map cuts_of (run_by 3 ring) ≡ (2, 0) ∷ (0, 0) ∷ []
+  pub ring·third : map cuts_of (passes ring (vector_tries ring)) ≡ (2, 0) ∷ (0, 0) ∷ []
   pub ring·moves : (tries ring ring.sides ≡ 2 ∷ 0 ∷ 3 ∷ 1 ∷ 4 ∷ []) × (vector_tries ring ring.sides ≡ 3 ∷ 0 ∷ 2 ∷ 1 ∷ 4 ∷ [])

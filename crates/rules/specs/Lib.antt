@@ -5,16 +5,12 @@ pub mod Split
 pub mod Move
 pub mod Pass
 pub mod Fronts
-pub mod Levels
-pub mod Editions
 pub mod Run
 pub mod Stored
 pub mod Report
 pub mod Trace
 pub mod Writing
 pub mod Balance
-pub mod Half
-pub mod Plan
 pub mod Unread
 pub mod Marked
 pub mod Theorems
@@ -27,7 +23,7 @@ pub mod Comparing
 pub mod FrontsHold
 pub mod FrontsWorked
 pub mod SettledYes
-pub mod Uncapped
 pub mod MoreFiles
+pub mod Levels
 pub mod LevelsHold
 pub mod LevelsWorked

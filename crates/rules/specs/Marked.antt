@@ -12,7 +12,7 @@ use Rattle.rules.specs.Stored.{block_check, job_of, Room, read_verdict}
 use Rattle.rules.specs.Report.{text, prints}
 use Rattle.rules.specs.Trace.{traces}
 
--- files of size 1, ratio 1/2, none pinned, k 1
+-- files of size 1, ratio 1/2, none pinned, cap 0, k 1
 abbrev pub small : List ℕ → List ℕ → List ℕ → Job
 small sides bounds pins = record {
   sizes = replicate (length sides) 1;
@@ -22,6 +22,7 @@ small sides bounds pins = record {
   pins = pins;
   num = 1;
   den = 2;
+  cap = 0;
   k = 1;
 }
 
@@ -47,7 +48,7 @@ triple = small (0 ∷ 0 ∷ 1 ∷ []) (0 ∷ 3 ∷ []) (0 ∷ 1 ∷ 2 ∷ [])
 
 -- document 02, order 2: sizes 10 (pinned in A), 1, 1, 1, ratio 1/2 and the others in B; recipes {0,1}, {2,3}
 abbrev pub archive : Job
-archive = as_job (10 ∷ 1 ∷ 1 ∷ 1 ∷ []) (0 ∷ 1 ∷ 1 ∷ 1 ∷ []) (1 ∷ 0 ∷ 0 ∷ 0 ∷ []) (0 ∷ 2 ∷ 4 ∷ []) (0 ∷ 1 ∷ 2 ∷ 3 ∷ []) 1 2 1
+archive = as_job (10 ∷ 1 ∷ 1 ∷ 1 ∷ []) (0 ∷ 1 ∷ 1 ∷ 1 ∷ []) (1 ∷ 0 ∷ 0 ∷ 0 ∷ []) (0 ∷ 2 ∷ 4 ∷ []) (0 ∷ 1 ∷ 2 ∷ 3 ∷ []) 1 2 0 1
 
 abbrev pub begin : Job → State
 begin job = start job job.sides

@@ -4,8 +4,8 @@ use Rattle.std.specs.Prelude.{◌≡◌, ◌≢◌, ℕ, ◌*◌, ◌≤◌, Boo
 use Rattle.rules.specs.declared.Verdict.{Verdict}
 use Rattle.rules.specs.declared.Difference.{Difference}
 use Rattle.rules.specs.Job.{Job, Limits, limits_of, file_count, recipe_count, pin_count, Lent}
-use Rattle.rules.specs.Check.{empty, over_most, check_sound, check, check_lent, measure}
-use Rattle.rules.specs.Stored.{header_of, has_cap, Room, read_verdict, reading}
+use Rattle.rules.specs.Check.{done, empty, over_most, bad_k, check_sound, check, check_lent, measure}
+use Rattle.rules.specs.Stored.{header_of, under_one, block_verdict, Room, read_verdict, reading}
 use Rattle.rules.specs.Run.{pass_ends, run_ends}
 use Rattle.rules.specs.Report.{refusal, prints}
 use Rattle.rules.specs.Trace.{traces}
@@ -13,7 +13,6 @@ use Rattle.rules.specs.Writing.{blocks_of, write_verdict, writing, resettles}
 use Rattle.rules.specs.Balance.{balance_verdict, balancing, balances}
 use Rattle.rules.specs.Compare.{read_for, comparing, compares}
 use Rattle.rules.specs.Theorems.{most_bytes}
-use Rattle.rules.specs.Uncapped.{Opened}
 
 -- ---- two limits of which one is wider
 
@@ -58,10 +57,11 @@ pub record PlannedSame (old new : Limits) (input : List ℕ) : Type 0 where
 abbrev pub larger : Limits → List ℕ → Bool
 larger most input = over_most most (header_of input).files (header_of input).recipes (header_of input).pins
 
--- nothing that stands before 2 refuses it: not 20 for less than a block, not 21 or 22 of block 0, not 23, not 1
+-- nothing that stands before 2 refuses it: not 20 for less than a block, not 21 or 22 of block 0, not 1
 pub record BeforeTwo (input : List ℕ) : Type 0 where
-  pub opened : Opened input
-  pub capless : has_cap (header_of input) ≡ false
+  pub long : under_one input ≡ false
+  pub opened : block_verdict (header_of input) input 0 ≡ done
+  pub wide : bad_k (header_of input).k ≡ false
   pub some : empty (header_of input).files (header_of input).recipes ≡ false
 
 abbrev pub two : Verdict

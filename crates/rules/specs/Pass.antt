@@ -94,18 +94,6 @@ tries job sides = moves job (start job sides)
 abbrev pub pass : Job → List ℕ → Pass
 pass job sides = pass_of job sides (tries job sides)
 
--- ---- what is told of a pass
-
--- its scans, where each move's end, and its visits; by edition 3 there are none (document 02, order 12)
-abbrev pub shown_scans : ℕ → Pass → List Scan
-shown_scans edition p = cond (eqb edition 3) [] p.scanned
-
-abbrev pub shown_ends : ℕ → Pass → List ℕ
-shown_ends edition p = cond (eqb edition 3) [] p.ends
-
-abbrev pub shown_visits : ℕ → Pass → ℕ
-shown_visits edition p = cond (eqb edition 3) 0 p.visited
-
 -- the lent lists after a pass: the first C move entries and first 4N scan entries hold the lists, then zeros; further entries stay.
 -- The scratch numbers named are 0, any beyond stay
 unfoldable pub leaves : ℕ → Job → Lent → Pass → Lent
@@ -117,8 +105,8 @@ leaves edition job l p =
       tried = listed c 0 p.tried l.tried;
       gained = listed c (pos 0) p.gained l.gained;
       cuts = listed c 0 p.cuts l.cuts;
-      ends = listed c 0 (shown_ends edition p) l.ends;
-      recipes = listed n 0 (map (λ s. s.recipe) (shown_scans edition p)) l.recipes;
-      kinds = listed n 0 (map (λ s. s.kind) (shown_scans edition p)) l.kinds;
+      ends = listed c 0 p.ends l.ends;
+      recipes = listed n 0 (map (λ s. s.recipe) p.scanned) l.recipes;
+      kinds = listed n 0 (map (λ s. s.kind) p.scanned) l.kinds;
       scratch = listed (scratch_for edition job) 0 [] l.scratch;
     }

@@ -80,7 +80,7 @@ report job r sides = tells r.figures.verdict (figure_lines job r sides)
 -- ---- the call that makes a report's bytes: it knows no more of the job than its sizes and marks, and is lent room for the bytes
 
 abbrev pub of_files : List ℕ → List ℕ → Job
-of_files sizes marks = as_job sizes [] marks [] [] 0 0 0
+of_files sizes marks = as_job sizes [] marks [] [] 0 0 0 0
 
 -- the numbers are a job's: C over its most; sides or marks not C long, or the lent room too short for the text; a side over 1
 abbrev pub split_verdict : Limits → List ℕ → List ℕ → List ℕ → Bool → Verdict

@@ -6,8 +6,8 @@ use Rattle.rules.specs.Job.{Job, as_job, Limits, TwoByte, file_count}
 use Rattle.rules.specs.Check.{done, refuse_if, ◌or_else◌, check_job, check_edition}
 use Rattle.rules.specs.Stored.{header_of, block_count, job_of, Room, roomy, read_verdict, written, reading}
 use Rattle.rules.specs.Split.{size_a}
-use Rattle.rules.specs.Editions.{tries_by}
-use Rattle.rules.specs.Run.{pass_by, passes, last_by, first_pass, run_by, last_pass, run_figures_of}
+use Rattle.rules.specs.Fronts.{tries_by}
+use Rattle.rules.specs.Run.{settles, pass_by, passes, last_by, first_pass, run_by, last_pass, run_figures_of}
 use Rattle.rules.specs.Report.{refusal, report, all_room, prints}
 use Rattle.rules.specs.Writing.{header_for, blocks_of, writing_of, check_written, write_verdict, writing, with_sides, resettles}
 
@@ -49,10 +49,10 @@ pub record WriteHolds (most : Limits) (job : Job) (out : List ℕ) : Type 0 wher
   -- which it is long enough for, of a job that passes 1 to 6 and has a good k
   pub exact : (write_verdict most job out).number ≡ 0 → length out ≡ 512 * block_count (header_for job)
   pub passes : (write_verdict most job out).number ≡ 0 → (check_written most job true).number ≡ 0
-  -- and every such job is written to such a list, whatever its ratio
+  -- and every such job is written to such a list, whatever its ratio and its cap
   pub all : length out ≡ 512 * block_count (header_for job) → write_verdict most job out ≡ check_written most job true
-  pub carried : (num den : ℕ)
-      → write_verdict most (as_job job.sizes job.sides job.marks job.bounds job.pins num den job.k) out ≡ write_verdict most job out
+  pub carried : (num den cap : ℕ)
+      → write_verdict most (as_job job.sizes job.sides job.marks job.bounds job.pins num den cap job.k) out ≡ write_verdict most job out
   -- the list's length never changes
   pub long : length (writing most job out).out ≡ length out
 
@@ -73,9 +73,10 @@ pub record ResettledHoldsBy (try : Job → List ℕ → List ℕ) (most : Limits
   -- it starts from the split that the run left: its cut before is the cut after, and so with |A|
   pub cut : let new = resettled_by try job in (pass_by new (try new) new.sides).cut_before ≡ (last_by job (try job)).cut_after
   pub size : let new = resettled_by try job in size_a new new.sides ≡ (last_by job (try job)).size_after
-  -- its own run is one pass, the last one of the run, which keeps no move and so leaves the sides as they are
-  pub settled : (let new = resettled_by try job in passes new (try new) ≡ last_by job (try job) ∷ []) × ((last_by job (try job)).kept ≡ 0)
-  pub still : resettled_by try (resettled_by try job) ≡ resettled_by try job
+  -- where the run settled, its own run is one pass, that one, which keeps no move and so leaves the sides as they are
+  pub settled : settles (last_by job (try job)) ≡ true
+      → (let new = resettled_by try job in passes new (try new) ≡ last_by job (try job) ∷ []) × ((last_by job (try job)).kept ≡ 0)
+  pub still : settles (last_by job (try job)) ≡ true → resettled_by try (resettled_by try job) ≡ resettled_by try job
 
 -- by an edition of the choice
 abbrev pub resettled : ℕ → Job → Job
@@ -104,4 +105,4 @@ pub record HandsBack (edition : ℕ) (most : Limits) (input : List ℕ) : Type 0
   pub read : read_verdict most (resettles edition most input).output (all_room most) ≡ done
   pub same : job_of (resettles edition most input).output ≡ resettled edition (job_of input)
   pub night : prints edition most (resettles edition most input).output
-      ≡ (let new = resettled edition (job_of input) in report new (run_figures_of edition done (first_pass edition new) (run_by edition new)) (last_pass edition new).sides_after)
+      ≡ (let new = resettled edition (job_of input) in report new (run_figures_of done (first_pass edition new) (run_by edition new)) (last_pass edition new).sides_after)

@@ -1,5 +1,5 @@
 -- Document 01, "A run", and what a pass and a run answer and leave behind, refused or not. Assumes nothing.
-use Rattle.std.specs.Prelude.{ℕ, zero, suc, Bool, true, false, List, [], ◌∷◌, length, eqb}
+use Rattle.std.specs.Prelude.{ℕ, zero, suc, Bool, true, false, cond, List, [], ◌∷◌, length, eqb}
 use Rattle.rules.specs.declared.Verdict.{Verdict}
 use Rattle.rules.specs.declared.Figures.{Figures}
 use Rattle.rules.specs.declared.RunFigures.{RunFigures}
@@ -7,8 +7,8 @@ use Rattle.rules.specs.Lists.{total}
 use Rattle.rules.specs.Job.{Job, Limits, recipes, Lent}
 use Rattle.rules.specs.Split.{cut}
 use Rattle.rules.specs.Check.{is_done, check_lent}
-use Rattle.rules.specs.Pass.{Pass, pass_of, tries, shown_scans, shown_visits, leaves}
-use Rattle.rules.specs.Editions.{tries_by}
+use Rattle.rules.specs.Pass.{Pass, pass_of, tries, leaves}
+use Rattle.rules.specs.Fronts.{tries_by}
 
 -- ---- the passes
 
@@ -27,9 +27,9 @@ passes_by job try (suc n) sides =
     let p = pass_by job try sides in
     p ∷ elim (settles p) [ true ↦ [] | false ↦ passes_by job try n p.sides_after ]
 
--- each pass that goes on lessens the cut, so one more than the starting cut is enough
+-- the cap; with none, each pass that goes on lessens the cut, so one more than the starting cut is enough
 unfoldable pub most_passes : Job → ℕ
-most_passes job = suc (cut job.sides (recipes job))
+most_passes job = cond (eqb job.cap 0) (suc (cut job.sides (recipes job))) job.cap
 
 unfoldable pub passes : Job → (List ℕ → List ℕ) → List Pass
 passes job try = passes_by job try (most_passes job) job.sides
@@ -60,8 +60,8 @@ last_pass edition job = last_by job (tries_by edition job)
 -- ---- the answers
 
 -- counts are sums over the passes, but for what could not be read; the cut before is the first pass's; the cut and |A| after are the last pass's
-unfoldable pub figures_of : ℕ → Verdict → Pass → List Pass → Figures
-figures_of edition v first ps =
+unfoldable pub figures_of : Verdict → Pass → List Pass → Figures
+figures_of v first ps =
     let l = last_of first ps in
     record {
       verdict = v;
@@ -70,15 +70,15 @@ figures_of edition v first ps =
       size = l.size_after;
       tried = total (λ p. length p.tried) ps;
       kept = total (λ p. p.kept) ps;
-      scans = total (λ p. length (shown_scans edition p)) ps;
-      visits = total (shown_visits edition) ps;
+      scans = total (λ p. length p.scanned) ps;
+      visits = total (λ p. p.visited) ps;
       unread = first.unread;
       holding = first.holding;
     }
 
 -- the number of passes; settled is yes exactly if the last pass left the cut equal
-unfoldable pub run_figures_of : ℕ → Verdict → Pass → List Pass → RunFigures
-run_figures_of edition v first ps = record { figures = figures_of edition v first ps; passes = length ps; settled = settles (last_of first ps) }
+unfoldable pub run_figures_of : Verdict → Pass → List Pass → RunFigures
+run_figures_of v first ps = record { figures = figures_of v first ps; passes = length ps; settled = settles (last_of first ps) }
 
 -- all other numbers of a refused answer are 0
 abbrev pub no_figures : Verdict → Figures
@@ -122,12 +122,12 @@ unfoldable pub pass_ends : ℕ → Limits → Job → Lent → Ended Figures
 pass_ends edition most job l =
     let v = check_lent edition most job l in
     let p = first_pass edition job in
-    elim (is_done v) [ true ↦ left_by edition job l (figures_of edition v p (p ∷ [])) p | false ↦ unchanged job l (no_figures v) ]
+    elim (is_done v) [ true ↦ left_by edition job l (figures_of v p (p ∷ [])) p | false ↦ unchanged job l (no_figures v) ]
 
 unfoldable pub run_ends : ℕ → Limits → Job → Lent → Ended RunFigures
 run_ends edition most job l =
     let v = check_lent edition most job l in
     elim (is_done v) [
-      | true ↦ left_by edition job l (run_figures_of edition v (first_pass edition job) (run_by edition job)) (last_pass edition job)
+      | true ↦ left_by edition job l (run_figures_of v (first_pass edition job) (run_by edition job)) (last_pass edition job)
       | false ↦ unchanged job l (no_run_figures v)
     ]

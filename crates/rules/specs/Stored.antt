@@ -35,7 +35,7 @@ value_in block v = word block (4 + 2 * v)
 abbrev pub value : List ℕ → ℕ → ℕ → ℕ
 value bytes b v = value_in (block_at bytes b) v
 
--- six values: C, N, P, num, den and the place of the cap, which must be 0 (document 02, order 13); a seventh is k, and six values mean k = 1 (order 6)
+-- six values: C, N, P, num, den, cap; a seventh is k, and six values mean k = 1 (document 02, order 6)
 unfoldable pub header_of : List ℕ → Header
 header_of bytes = record {
   files = value bytes 0 0;
@@ -134,6 +134,7 @@ job_of bytes =
       pins = map (λ i. value bytes (pins_at h + i / 253) (i % 253)) (up_to h.pins);
       num = h.num;
       den = h.den;
+      cap = h.cap;
       k = h.k;
     }
 
@@ -153,11 +154,6 @@ roomy h r =
     leb h.files (length r.sizes) && leb h.files (length r.sides) && leb h.files (length r.marks)
     && leb (h.recipes + 1) (length r.bounds) && leb h.pins (length r.pins)
 
--- ---- 23: the place of the cap holds any other figure than 0 (document 02, order 13)
-
-abbrev pub has_cap : Header → Bool
-has_cap h = not (eqb h.cap 0)
-
 -- ---- 20: stored job shorter or longer than it must be; and the order of reading
 
 abbrev pub under_one : List ℕ → Bool
@@ -167,7 +163,7 @@ under_one bytes = ltb (length bytes) 512
 abbrev pub wrong_total : Header → List ℕ → Bool
 wrong_total h bytes = not (eqb (length bytes) (512 * block_count h))
 
--- under 512 bytes 20; block 0 check 21, layout 22, a seventh value that is no k 22; a cap 23; 1 and 2 from the header; 3 for a lent list too short;
+-- under 512 bytes 20; block 0 check 21, layout 22, a seventh value that is no k 22; 1 and 2 from the header; 3 for a lent list too short;
 -- total length not as the header makes it 20; each further block, 21 then 22
 abbrev pub layout_rows : Limits → List ℕ → Room → Rows
 layout_rows most bytes room =
@@ -175,7 +171,6 @@ layout_rows most bytes room =
     row 20 (under_one bytes) 0
     followed_by block_rows h bytes 0
     followed_by row 22 (bad_k h.k) 0
-    followed_by row 23 (has_cap h) 0
     followed_by count_rows most h.files h.recipes h.pins
     followed_by row 3 (not (roomy h room)) 0
     followed_by row 20 (wrong_total h bytes) 0

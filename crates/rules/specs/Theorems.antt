@@ -8,7 +8,7 @@ use Rattle.rules.specs.Job.{Job, Limits, TwoByte, file_count, recipe_count, pin_
 use Rattle.rules.specs.Split.{side_of, cut, times, holds, recipes_with, gain, size_of, unread_files, unread_recipes, size_on, weight, size_a, balanced}
 use Rattle.rules.specs.Check.{done, refuse_at, Row, Rows, none, one, ◌followed_by◌, over_most, may_empty, sound_rows, all_rows, check_sound, check_rest, check, is_edition, lent_rows, check_lent, measure}
 use Rattle.rules.specs.Move.{State, start, lock_of, free, steps_by, after, legal, dist_after, Scan, scan_pins, scan_all, Change, changes_in, changes_by, changes_of, changed, replay}
-use Rattle.rules.specs.Pass.{cut_at, start_gains, Pass, pass_of, tries, shown_scans, shown_ends, leaves}
+use Rattle.rules.specs.Pass.{cut_at, start_gains, Pass, pass_of, tries, leaves}
 use Rattle.rules.specs.Run.{settles, pass_by, passes, last_by, first_pass, run_by, last_pass, no_figures, no_run_figures, left_by, unchanged, figures_of, run_figures_of, pass_ends, run_ends}
 use Rattle.rules.specs.Report.{all_room, all_lent, prints}
 use Rattle.rules.specs.Trace.{traces}
@@ -143,12 +143,12 @@ pub record Left (edition : ℕ) (job : Job) (l : Lent) (p : Pass) : Type 0 where
   pub tried : Listed (file_count job) 0 p.tried l.tried (leaves edition job l p).tried
   pub gained : Listed (file_count job) (pos 0) p.gained l.gained (leaves edition job l p).gained
   pub cuts : Listed (file_count job) 0 p.cuts l.cuts (leaves edition job l p).cuts
-  pub ends : Listed (file_count job) 0 (shown_ends edition p) l.ends (leaves edition job l p).ends
-  pub recipes : Listed (4 * recipe_count job) 0 (map (λ s. s.recipe) (shown_scans edition p)) l.recipes (leaves edition job l p).recipes
-  pub kinds : Listed (4 * recipe_count job) 0 (map (λ s. s.kind) (shown_scans edition p)) l.kinds (leaves edition job l p).kinds
+  pub ends : Listed (file_count job) 0 p.ends l.ends (leaves edition job l p).ends
+  pub recipes : Listed (4 * recipe_count job) 0 (map (λ s. s.recipe) p.scanned) l.recipes (leaves edition job l p).recipes
+  pub kinds : Listed (4 * recipe_count job) 0 (map (λ s. s.kind) p.scanned) l.kinds (leaves edition job l p).kinds
   pub scratch : Listed (scratch_for edition job) 0 [] l.scratch (leaves edition job l p).scratch
 
--- ---- the replay of the lists that the caller is left with, zeros and all (Proved `replayed`, of every edition but 3, a sound job and moves whose scans hold)
+-- ---- the replay of the lists that the caller is left with, zeros and all (Proved `replayed`, of a sound job and moves whose scans hold)
 
 -- the scans that the two scan lists tell of
 unfoldable pub scans_told : List ℕ → List ℕ → List Scan
@@ -218,8 +218,10 @@ pub record RunHoldsBy (job : Job) (try : List ℕ → List ℕ) : Type 0 where
   -- every pass but the last lessened the cut, so passes are at most the starting cut plus one
   pub lessened : (d : Pass) (i : ℕ) → suc i < length (passes job try) → (get_or (passes job try) i d).cut_after < (get_or (passes job try) i d).cut_before
   pub few : length (passes job try) ≤ suc (cut job.sides (recipes job))
-  -- a run ends settled: its turns never end it (document 02, order 13)
-  pub settled : settles (last_by job try) ≡ true
+  -- without a cap a run ends settled: its turns never end it; with one, passes are at most the cap, and as many where it is not settled
+  pub settled : job.cap ≡ 0 → settles (last_by job try) ≡ true
+  pub capped : job.cap ≢ 0 → length (passes job try) ≤ job.cap
+  pub full : settles (last_by job try) ≡ false → length (passes job try) ≡ job.cap
   -- what is reported is true of the split returned; another run may start from it, and it is balanced
   pub cut : (last_by job try).cut_after ≡ cut (last_by job try).sides_after (recipes job)
   pub size : (last_by job try).size_after ≡ size_a job (last_by job try).sides_after
@@ -321,9 +323,9 @@ pub record Answers (edition : ℕ) (most : Limits) (job : Job) (l : Lent) : Type
   pub run_refused : (check_lent edition most job l).number ≢ 0 → run_ends edition most job l ≡ unchanged job l (no_run_figures (check_lent edition most job l))
   -- else the figures and lists are those of the pass, and of the run's passes
   pub pass_done : (check_lent edition most job l).number ≡ 0
-      → pass_ends edition most job l ≡ left_by edition job l (figures_of edition done (first_pass edition job) (first_pass edition job ∷ [])) (first_pass edition job)
+      → pass_ends edition most job l ≡ left_by edition job l (figures_of done (first_pass edition job) (first_pass edition job ∷ [])) (first_pass edition job)
   pub run_done : (check_lent edition most job l).number ≡ 0
-      → run_ends edition most job l ≡ left_by edition job l (run_figures_of edition done (first_pass edition job) (run_by edition job)) (last_pass edition job)
+      → run_ends edition most job l ≡ left_by edition job l (run_figures_of done (first_pass edition job) (run_by edition job)) (last_pass edition job)
   -- the measure
   pub measure_refused : (check_sound most job true).number ≢ 0 → measure most job ≡ record { verdict = check_sound most job true; cut = 0; size = 0; unread = 0; holding = 0 }
   pub measure_done : (check_sound most job true).number ≡ 0

@@ -36,7 +36,7 @@ pub record AsBefore (most : Limits) (job : Job) : Type 0 where
 abbrev pub torn : Job
 torn =
     as_job (1 ∷ 1 ∷ 9 ∷ 1 ∷ []) (0 ∷ 0 ∷ 0 ∷ 1 ∷ []) (0 ∷ 0 ∷ 2 ∷ 0 ∷ []) (0 ∷ 3 ∷ 5 ∷ 8 ∷ []) (0 ∷ 1 ∷ 2 ∷ 2 ∷ 3 ∷ 0 ∷ 1 ∷ 3 ∷ [])
-    1 2 1
+    1 2 0 1
 
 pub record UnreadWorked : Type 0 where
   -- each recipe's readable files, in place; none where they are fewer than two

@@ -35,7 +35,7 @@ pub record OneAsBefore (job : Job) : Type 0 where
 
 -- sizes 1, 1, 2, 2, 4, ratio 1/2, all but the last in A; file 4 is pinned, so that smax is 2 and W is 10
 abbrev pub room5 : ℕ → Job
-room5 k = as_job (1 ∷ 1 ∷ 2 ∷ 2 ∷ 4 ∷ []) (0 ∷ 0 ∷ 0 ∷ 0 ∷ 1 ∷ []) (0 ∷ 0 ∷ 0 ∷ 0 ∷ 1 ∷ []) (0 ∷ 2 ∷ 5 ∷ []) (0 ∷ 1 ∷ 2 ∷ 3 ∷ 4 ∷ []) 1 2 k
+room5 k = as_job (1 ∷ 1 ∷ 2 ∷ 2 ∷ 4 ∷ []) (0 ∷ 0 ∷ 0 ∷ 0 ∷ 1 ∷ []) (0 ∷ 0 ∷ 0 ∷ 0 ∷ 1 ∷ []) (0 ∷ 2 ∷ 5 ∷ []) (0 ∷ 1 ∷ 2 ∷ 3 ∷ 4 ∷ []) 1 2 0 k
 
 pub record WiderWorked : Type 0 where
   -- A may be 3 to 7 at k = 1 and 1 to 9 at k = 2; from k = 3 on the window holds anything

@@ -32,7 +32,7 @@ block_of b kind vs = contents b kind vs ++ two_bytes (block_check (contents b ki
 
 -- ---- the blocks of a job
 
--- the ratio as it is, good or bad; 0 in the place of the cap (order 13); k, which must be good
+-- the ratio and the cap as they are, good or bad; k, which must be good
 abbrev pub header_for : Job → Header
 header_for job = record {
   files = file_count job;
@@ -40,11 +40,11 @@ header_for job = record {
   pins = pin_count job;
   num = job.num;
   den = job.den;
-  cap = 0;
+  cap = job.cap;
   k = job.k;
 }
 
--- C, N, P, num, den, the place of the cap, and k, which is left out where it is 1
+-- C, N, P, num, den, cap, and k, which is left out where it is 1
 abbrev pub header_figures : Header → List ℕ
 header_figures h = h.files ∷ h.recipes ∷ h.pins ∷ h.num ∷ h.den ∷ h.cap ∷ h.k ∷ []
 
@@ -112,6 +112,7 @@ with_sides job sides = record {
   pins = job.pins;
   num = job.num;
   den = job.den;
+  cap = job.cap;
   k = job.k;
 }
 

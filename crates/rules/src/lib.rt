@@ -41,7 +41,7 @@ pub struct RunFigures {
     pub settled: bool,
 }
 
-// The seven figures of a stored job's header: C, N, P, num, den, cap, which is 0 of every job (document 02, order 13), and k.
+// The seven figures of a stored job's header: C, N, P, num, den, cap, k.
 #[derive(Drop)]
 pub struct Header {
     pub files: u16,

@@ -1,7 +1,7 @@
 -- What one pass leaves in the lent lists the next writes over, and every list stays as long. Assumes nothing.
 use mathlib.Core.Path.{◌≡◌, sym, ap, ◌∙◌}
 use Prim.Native.Nat.{ℕ, ◌*◌, ◌≤◌}
-use mathlib.Core.Bool.{Bool, true, ◌&&◌}
+use mathlib.Core.Bool.{true, ◌&&◌}
 use mathlib.Core.List.{List, [], map}
 use native.Mathlib.Omega.{arith}
 use lib.Dec.{leb, eqb}
@@ -9,12 +9,12 @@ use lib.IntN.{pos}
 use lib.ListN.{length, length-map}
 use Rattle.rules.specs.Job.{Job, Limits, file_count, recipe_count, recipes, Lent, lent_of, scratch_for, fits}
 use Rattle.rules.specs.Move.{start, scans, ends_from}
-use Rattle.rules.specs.Pass.{gains_when, cuts_after, pass_of, shown_scans, shown_ends, leaves}
-use Rattle.rules.specs.Editions.{tries_by}
+use Rattle.rules.specs.Pass.{gains_when, cuts_after, pass_of, leaves}
+use Rattle.rules.specs.Fronts.{tries_by}
 use Rattle.rules.specs.Run.{pass_by}
 use Rattle.rules.specs.Theorems.{Sound, Sides, MovesHold, ScansHold, Left, Lawful, PassHoldsBy}
-use Rattle.rules.proofs.Entries.{listed-again, shown-few}
-use Rattle.rules.proofs.Editions.{editions-hold}
+use Rattle.rules.proofs.Entries.{listed-again}
+use Rattle.rules.proofs.FrontsProved.{editions-hold}
 use Rattle.rules.proofs.Proved.{left, lawful-frees, pass-holds-by, scans-hold}
 use Rattle.rules.proofs.Steps.{gains-length, cuts-length, ends-length}
 use Rattle.rules.proofs.Fits.{long-enough}
@@ -39,15 +39,12 @@ module _ (edition : ℕ) (job : Job) (l : Lent) (x y ms ns : List ℕ) (a : Move
       let n : ℕ = 4 * recipe_count job in
       let few : length ms ≤ m = a.few in
       let few' : length ns ≤ m = b.few in
-      let third : Bool = eqb edition 3 in
-      let before = shown-few third (scans rs (start job x) ms) c.scans in
-      let now = shown-few third (scans rs (start job y) ns) d.scans in
       let tried = listed-again m 0 ms ns l.tried few few' in
       let gained = listed-again m (pos 0) (gains_when rs (start job x) ms) (gains_when rs (start job y) ns) l.gained (rw gains-length few) (rw gains-length few') in
       let cuts = listed-again m 0 (cuts_after rs (start job x) ms) (cuts_after rs (start job y) ns) l.cuts (rw cuts-length few) (rw cuts-length few') in
-      let ends = listed-again m 0 (shown_ends edition (pass_of job x ms)) (shown_ends edition (pass_of job y ns)) l.ends (shown-few third (ends_from rs 0 (start job x) ms) (rw ends-length few)) (shown-few third (ends_from rs 0 (start job y) ns) (rw ends-length few')) in
-      let recipes = listed-again n 0 (map (λ s. s.recipe) (shown_scans edition (pass_of job x ms))) (map (λ s. s.recipe) (shown_scans edition (pass_of job y ns))) l.recipes (rw length-map before) (rw length-map now) in
-      let kinds = listed-again n 0 (map (λ s. s.kind) (shown_scans edition (pass_of job x ms))) (map (λ s. s.kind) (shown_scans edition (pass_of job y ns))) l.kinds (rw length-map before) (rw length-map now) in
+      let ends = listed-again m 0 (ends_from rs 0 (start job x) ms) (ends_from rs 0 (start job y) ns) l.ends (rw ends-length few) (rw ends-length few') in
+      let recipes = listed-again n 0 (map (λ s. s.recipe) (scans rs (start job x) ms)) (map (λ s. s.recipe) (scans rs (start job y) ns)) l.recipes (rw length-map c.scans) (rw length-map d.scans) in
+      let kinds = listed-again n 0 (map (λ s. s.kind) (scans rs (start job x) ms)) (map (λ s. s.kind) (scans rs (start job y) ns)) l.kinds (rw length-map c.scans) (rw length-map d.scans) in
       let scratch = listed-again (scratch_for edition job) 0 [] [] l.scratch (omega arith) (omega arith) in
       λ i. lent_of (pass_of job y ns).gains (tried i) (gained i) (cuts i) (ends i) (recipes i) (kinds i) (scratch i)
 

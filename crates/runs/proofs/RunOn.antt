@@ -9,7 +9,7 @@ use native.Mathlib.Numerals.{add-one}
 use native.Mathlib.Omega.{arith}
 use lib.Dec.{eqb}
 use lib.ListN.{length}
-use borrow.Author.Tests.{eq-eqb, ne_eqb, not-true}
+use borrow.Author.Tests.{eq-eqb, ne_eqb}
 use Rattle.rules.specs.declared.Verdict.{Verdict}
 use Rattle.rules.specs.declared.Figures.{Figures}
 use Rattle.rules.specs.declared.RunFigures.{RunFigures}
@@ -19,19 +19,19 @@ use Rattle.rules.specs.Check.{done, is_done, check, check_edition, check_lent}
 use Rattle.rules.specs.Pass.{Pass}
 use Rattle.rules.specs.Run.{Ended, ended_of, run_by, figures_of, no_figures, no_run_figures, unchanged, pass_ends, run_ends}
 use Rattle.rules.specs.Theorems.{Accepted}
-use Rattle.rules.proofs.Editions.{editions-hold}
+use Rattle.rules.proofs.FrontsProved.{editions-hold}
 use Rattle.rules.proofs.Proved.{accepted, lent-passes, answers}
 use Rattle.rules.proofs.Refusals.{lent-chain}
-use Rattle.rules.proofs.Tests.{clash, not-no}
+use Rattle.rules.proofs.Tests.{clash}
 use Rattle.rules.proofs.Verdicts.{zero_of, passes-both, both-pass}
 use Rattle.split.specs.Playing.{pass_left}
 use Rattle.tables.proofs.Accepted.{Narrow}
 use Rattle.rules.specs.Writing.{with_sides}
-use Rattle.runs.specs.Running.{plus_of, with_pass, goes_on, SumsFit, Running}
-use Rattle.runs.proofs.AnswerSoFar.{with_none, with_first, with-more, stops-refused, goes-where}
+use Rattle.runs.specs.Running.{plus_of, with_pass, follows, goes_on, SumsFit, Running}
+use Rattle.runs.proofs.AnswerSoFar.{with_none, with_first, with-more, stops-refused, goes-where, first_goes}
 use Rattle.rules.proofs.OtherSides.{check-again}
 use Rattle.runs.proofs.PassAfterPass.{Alike, fits-alike}
-use Rattle.runs.proofs.RunNow.{starts-there, alike-there, more-there, runs-first, runs-more, runs_last, sums-fit}
+use Rattle.runs.proofs.RunNow.{starts-there, alike-there, follows-there, runs-first, runs-more, runs_last, sums-fit}
 
 -- no pass is made yet, or the first is refused, or some are made
 pub data Onward (edition : ℕ) (most : Limits) (job : Job) (l : Lent) (sum : RunFigures) (sides : List ℕ) (lent : Lent) : Type 0 where
@@ -66,13 +66,13 @@ zero-plus r = record { tried = omega (arith, r.tried); kept = omega (arith, r.ke
 none-fit : (v : Verdict) → SumsFit (no_figures v)
 none-fit v = record { tried = omega arith; kept = omega arith; scans = omega arith; visits = omega arith }
 
-figures-done : (edition : ℕ) (first : Pass) (ps : List Pass) → (figures_of edition done first ps).verdict.number ≡ 0
+figures-done : (first : Pass) (ps : List Pass) → (figures_of done first ps).verdict.number ≡ 0
 unfolding figures_of
-figures-done edition first ps = refl
+figures-done first ps = refl
 
 running-done : {edition : ℕ} {job : Job} {l : Lent} {k : ℕ} {sum : Figures} {settled : Bool} {sides : List ℕ} {lent : Lent} → Running edition job l k sum settled sides lent
     → sum.verdict.number ≡ 0
-running-done r = ap (λ (x : Figures). x.verdict.number) r.sums ∙ figures-done _ _ _
+running-done r = ap (λ (x : Figures). x.verdict.number) r.sums ∙ figures-done _ _
 
 plus-verdict : (sum f : Figures) → (plus_of sum f).verdict.number ≡ sum.verdict.number
 unfolding plus_of
@@ -132,10 +132,10 @@ module _ (edition : ℕ) (most : Limits) (job : Job) (l : Lent) where
       pass-first = elim (ℕ_discrete verdict.number 0) [ yes z ↦ first_made z | no n ↦ first-refused n ]
 
     -- a later one
-    module _ (z : verdict.number ≡ 0) (r : Running edition job l sum.passes sum.figures sum.settled sides lent) (go : goes_on sum ≡ true)
+    module _ (z : verdict.number ≡ 0) (r : Running edition job l sum.passes sum.figures sum.settled sides lent) (go : goes_on job.cap sum ≡ true)
         (p : ended_of f sides' lent' ≡ pass_ends edition most (with_sides job sides) lent) where
-      unsettled : sum.settled ≡ false
-      unsettled = not-true sum.settled (goes-where sum (running-done r) ∙ go)
+      follow : follows job.cap sum.passes sum.settled ≡ true
+      follow = sym (goes-where job.cap sum (running-done r)) ∙ go
 
       -- the job from the sides as they stand passes its check again
       passes-again : (check_lent edition most (with_sides job sides) lent).number ≡ 0
@@ -153,16 +153,16 @@ module _ (edition : ℕ) (most : Limits) (job : Job) (l : Lent) where
       pass-left = p ∙ (answers edition most (with_sides job sides) lent).pass_done passes-again
 
       next : Running edition job l (suc sum.passes) (plus_of sum.figures f) (eqb f.cut f.before) sides' lent'
-      next = runs-more edition (job_is z) l r unsettled f sides' lent' pass-left
+      next = runs-more edition (job_is z) l r follow f sides' lent' pass-left
 
       early : sum.passes < suc (cut job.sides (recipes job))
       early =
-          let h : sum.passes < length (run_by edition job) = more-there edition (job_is z) l sum.passes r.few (sym r.equal ∙ unsettled) in
+          let h : sum.passes < length (run_by edition job) = follows-there edition (job_is z) l sum.passes r.some r.few (rw (← r.equal) follow) in
           omega (arith, ((editions-hold most job (job_is z).sound).run edition).few)
 
       pass-later : Turned edition most job l sum f sides' lent'
       pass-later =
-          let v : f.verdict.number ≡ 0 = ap (λ (x : Ended Figures). x.answer.verdict.number) pass-left ∙ figures-done _ _ _ in
+          let v : f.verdict.number ≡ 0 = ap (λ (x : Ended Figures). x.answer.verdict.number) pass-left ∙ figures-done _ _ in
           let m : RunFigures = record { figures = plus_of sum.figures f; passes = sum.passes + 1; settled = eqb f.cut f.before } in
           let w : with_pass sum f ≡ m = with-more sum f v (λ e. omega (arith, r.some)) in
           let u = sums-fit edition (job_is z) l narrow next in
@@ -174,11 +174,11 @@ module _ (edition : ℕ) (most : Limits) (job : Job) (l : Lent) where
           }
 
   -- any turn
-  pub turn-made : Narrow most → {sum : RunFigures} {sides : List ℕ} {lent : Lent} → Onward edition most job l sum sides lent → goes_on sum ≡ true
+  pub turn-made : Narrow most → {sum : RunFigures} {sides : List ℕ} {lent : Lent} → Onward edition most job l sum sides lent → goes_on job.cap sum ≡ true
       → (f : Figures) (sides' : List ℕ) (lent' : Lent) → ended_of f sides' lent' ≡ pass_ends edition most (with_sides job sides) lent → Turned edition most job l sum f sides' lent'
   turn-made narrow (begun e) go f sides' lent' p = pass-first narrow f sides' lent' e p
   turn-made narrow {sum} (refused n e) go f sides' lent' p =
-      clash (sym go ∙ sym (stops-refused sum (λ z. n (sym (ap (λ (x : Ended RunFigures). x.answer.figures.verdict.number) e) ∙ z))))
+      clash (sym go ∙ sym (stops-refused job.cap sum (λ z. n (sym (ap (λ (x : Ended RunFigures). x.answer.figures.verdict.number) e) ∙ z))))
   turn-made narrow (going z r) go f sides' lent' p = pass-later narrow f sides' lent' z r go p
 
   -- ---- at the end
@@ -203,9 +203,9 @@ module _ (edition : ℕ) (most : Limits) (job : Job) (l : Lent) where
   alike (refused n e) = still verdict e
   alike (going z r) = alike-there edition (job_is z) l ((answers edition most job l).fitting z).1 r
 
-  pub run-ended : {sum : RunFigures} {sides : List ℕ} {lent : Lent} → Onward edition most job l sum sides lent → goes_on sum ≡ false
+  pub run-ended : {sum : RunFigures} {sides : List ℕ} {lent : Lent} → Onward edition most job l sum sides lent → goes_on job.cap sum ≡ false
       → ended_of sum sides lent ≡ run_ends edition most job l
-  run-ended (begun e) go = clash (sym (ap (λ (x : Ended RunFigures). goes_on x.answer) e) ∙ go)
+  run-ended (begun e) go = clash (sym (first_goes job.cap) ∙ sym (ap (λ (x : Ended RunFigures). goes_on job.cap x.answer) e) ∙ go)
   run-ended (refused n e) go = e ∙ sym ((answers edition most job l).run_refused n)
   run-ended {sum} (going z r) go =
-      runs_last edition (job_is z) l r (not-no sum.settled (goes-where sum (running-done r) ∙ go)) ∙ sym ((answers edition most job l).run_done z)
+      runs_last edition (job_is z) l r (sym (goes-where job.cap sum (running-done r)) ∙ go) ∙ sym ((answers edition most job l).run_done z)

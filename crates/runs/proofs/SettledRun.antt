@@ -1,4 +1,4 @@
--- Document 02, orders 10 and 13, of the call `run`: what an answer that is no refusal is worth, and a second call with the sides that were left. Any answer and lists that meet the promise will do; the promise
+-- Document 02, order 10, of the call `run`: what an answer of settled yes is worth, and a second call with the sides that were left. Any answer and lists that meet the promise will do; the promise
 -- cited is that which the check reads from the contract in src/. Assumes nothing.
 use mathlib.Core.Path.{◌≡◌, ap, ◌∙◌}
 use Prim.Native.Nat.{ℕ}
@@ -33,10 +33,10 @@ lent_in κs a =
     let l = a.1.1.1.1.1.1.1 in
     lent_of l.0.now l.1.0.now l.1.1.0.now l.1.1.1.0.now l.1.1.1.1.0.now l.1.1.1.1.1.0.now l.1.1.1.1.1.1.0.now l.1.1.1.1.1.1.1.0.now
 
-module _ (κs : Lfts 13) (a : Dens κs kinds.ps) (x : (res_t kinds.r κs).Denot) (e : AtExit (ended_of 13 kinds.ps kinds.r) κs) (met : run.Post κs a x e) (made : x.figures.verdict.number ≡ 0) where
-  -- it says settled yes; no single legal move lessens the cut, by edition 1; and the passes were at most the starting cut plus one
+module _ (κs : Lfts 13) (a : Dens κs kinds.ps) (x : (res_t kinds.r κs).Denot) (e : AtExit (ended_of 13 kinds.ps kinds.r) κs) (met : run.Post κs a x e) (said : x.settled ≡ true) where
+  -- no single legal move lessens the cut, by edition 1; and the passes were at most the starting cut plus one
   pub run-settled-yes : SettledYes a.0 most (job_in κs a) (leaves κs x e)
-  run-settled-yes = settled-yes a.0 most (job_in κs a) (lent_in κs a) (leaves κs x e) met made
+  run-settled-yes = settled-yes a.0 most (job_in κs a) (lent_in κs a) (leaves κs x e) met said
 
   -- a second call by the same edition, of the same job but with the sides left, and lent lists that fit: it makes one pass, keeps no move and leaves the same sides
   pub run-twice : (ks : Lfts 13) (b : Dens ks kinds.ps) (y : (res_t kinds.r ks).Denot) (f : AtExit (ended_of 13 kinds.ps kinds.r) ks) → run.Post ks b y f

@@ -1,5 +1,5 @@
 -- A run by an edition of the choice after its first k passes: the sums so far, and what the lists then hold. Assumes nothing.
-use Rattle.std.specs.Prelude.{◌≡◌, ℕ, ◌+◌, ◌≤◌, ◌<◌, ◌^◌, Bool, true, false, not, cond, ◌&&◌, List, length, take, eqb}
+use Rattle.std.specs.Prelude.{◌≡◌, ℕ, ◌+◌, ◌≤◌, ◌<◌, ◌^◌, Bool, true, false, not, cond, ◌&&◌, ◌||◌, List, length, take, ltb, eqb}
 use Rattle.rules.specs.declared.Figures.{Figures}
 use Rattle.rules.specs.declared.RunFigures.{RunFigures}
 use Rattle.rules.specs.Job.{Job, Lent}
@@ -35,9 +35,13 @@ with_pass sum f = elim (is_done f.verdict) [
   | false ↦ record { figures = f; passes = 0; settled = false }
 ]
 
--- another pass follows: none was refused, and the last did not leave the cut equal
-abbrev pub goes_on : RunFigures → Bool
-goes_on sum = is_done sum.figures.verdict && not sum.settled
+-- another pass follows: the last did not leave the cut equal, and the cap is not reached
+abbrev pub follows : ℕ → ℕ → Bool → Bool
+follows cap passes settled = not settled && (eqb cap 0 || ltb passes cap)
+
+-- and none was refused
+abbrev pub goes_on : ℕ → RunFigures → Bool
+goes_on cap sum = is_done sum.figures.verdict && follows cap sum.passes sum.settled
 
 -- the sums can be added up
 pub record SumsFit (sum : Figures) : Type 0 where
@@ -56,11 +60,11 @@ last_at edition job k = last_of (first_pass edition job) (take k (run_by edition
 pub record Running (edition : ℕ) (job : Job) (l : Lent) (k : ℕ) (sum : Figures) (settled : Bool) (sides : List ℕ) (lent : Lent) : Type 0 where
   pub some : 1 ≤ k
   pub few : k ≤ length (run_by edition job)
-  pub sums : sum ≡ figures_of edition done (first_pass edition job) (take k (run_by edition job))
+  pub sums : sum ≡ figures_of done (first_pass edition job) (take k (run_by edition job))
   pub equal : settled ≡ settles (last_at edition job k)
   pub standing : sides ≡ (last_at edition job k).sides_after
   pub lists : lent ≡ leaves edition job l (last_at edition job k)
 
 -- the run of a job that is not refused: its figures, and what it leaves
 abbrev pub run_left : ℕ → Job → Lent → Ended RunFigures
-run_left edition job l = left_by edition job l (run_figures_of edition done (first_pass edition job) (run_by edition job)) (last_pass edition job)
+run_left edition job l = left_by edition job l (run_figures_of done (first_pass edition job) (run_by edition job)) (last_pass edition job)

@@ -11,7 +11,7 @@ use rules::RunFigures;
 pub use sums::refused;
 use sums::{goes_on, no_pass, with_pass};
 
-// Passes by an edition of the choice follow one another until one leaves the cut equal, lent what one pass is.
+// Passes by an edition of the choice follow one another until one leaves the cut equal or the cap is reached, lent what one pass is.
 pub fn run(
     edition: u16,
     job: Job,
@@ -32,7 +32,7 @@ pub fn run(
     ensures* { do ⌜ ended_of result sides.new (lent_of gains.new tried.new gained.new cuts.new ends.new recipes.new kinds.new scratch.new) ≡ run_ends edition (limits_of (← (⟦Job::MOST_FILES⟧).entry) (← (⟦Job::MOST_RECIPES⟧).entry) (← (⟦Job::MOST_PINS⟧).entry) (← (⟦Job::MOST_DEN⟧).entry)) (whole_job job sizes.now sides.old marks.now bounds.now pins.now) (lent_of gains.old tried.old gained.old cuts.old ends.old recipes.old kinds.old scratch.old) ⌝ }
 {
     let mut sum = no_pass();
-    while goes_on(sum) {
+    while goes_on(job.cap, sum) {
         let last = split::pass_once(
             edition, job, sizes, sides, marks, bounds, pins, gains, tried, gained, cuts, ends,
             recipes, kinds, scratch,

@@ -78,14 +78,20 @@ pub(crate) fn with_pass(sum: RunFigures, last: Figures) -> RunFigures
     }
 }
 
-// None was refused, and the last did not leave the cut equal.
-pub(crate) fn goes_on(sum: RunFigures) -> bool
-    ensures { result ≡ goes_on sum }
+// None was refused, the last did not leave the cut equal, and the cap is not reached.
+pub(crate) fn goes_on(cap: u16, sum: RunFigures) -> bool
+    ensures { result ≡ goes_on cap sum }
 {
     let figures = sum.figures;
     let verdict = figures.verdict;
     if verdict.number != 0 {
         return false;
     }
-    !sum.settled
+    if sum.settled {
+        return false;
+    }
+    if cap == 0 {
+        return true;
+    }
+    sum.passes < cap as u64
 }

@@ -13,22 +13,18 @@ use borrow.Author.Tests.{eq-eqb, ne_eqb, eqb-true}
 use Rattle.rules.specs.Job.{Job, Limits, file_count, recipe_count, pin_count, recipes, Lent, scratch_for}
 use Rattle.rules.specs.Split.{side_of, gain, weight, tolerance, size_a, balanced}
 use Rattle.rules.specs.Move.{State, lock_of, free, legal, size_after, dist_after, better, choose}
-use Rattle.rules.specs.Fronts.{Buckets, gain_in, front_of, offer, choose_front}
-use Rattle.rules.specs.Levels.{choose_vector}
+use Rattle.rules.specs.Fronts.{Buckets, gain_in, front_of, offer, choose_front, tries_by}
 use Rattle.rules.specs.FrontsHold.{buckets_at}
 use Rattle.rules.specs.Theorems.{Sound}
 use Rattle.rules.proofs.Tests.{and_yes}
 use Rattle.rules.proofs.Signed.{abs}
-use Rattle.rules.proofs.SoundJob.{recipes-length}
 use Rattle.rules.proofs.Proved.{given-sides}
 use Rattle.rules.proofs.FrontsProved.{Good, good-at, gain-within, standing-free, buckets-hold}
 use Rattle.choice.specs.declared.window.Window.{Window}
 use Rattle.choice.specs.declared.edition1.Best.{Best}
-use Rattle.choice.specs.Choosing.{file_or, dist_in, legal_in, chosen_in}
+use Rattle.choice.specs.Choosing.{file_or, dist_in, chosen_in}
 use Rattle.choice.specs.Best.{best_of, choice_in}
 use Rattle.choice.proofs.FilesPassed.{choice-fit}
-use Rattle.levels.specs.Vectors.{vector_choice}
-use Rattle.levels.proofs.Shown.{choice-shown}
 use Rattle.buckets.specs.Offers.{Chosen as Picks, chosen_front}
 use Rattle.buckets.specs.StandFor.{◌∈◌, StandFor}
 use Rattle.buckets.proofs.Calls.{in-times, stands-chosen, answers-chosen}
@@ -93,33 +89,6 @@ module _ {edition : ℕ} {job : Job} {l : Lent} {w : Window} {b : Board} (u : Pa
       choice-fit w size job.sizes b.sides b.rest.scratch gains o.sides o.gains o.locks
       ∙ ap best_from (choice-now v k w y.measured.den y.measured.aim y.measured.span g)
 
-  -- ---- edition 3's vectors
-
-  abbrev st : State
-  st = stands job ms k
-
-  -- the gains listed, the distances and the legal moves are those of the state
-  listed-now : (f : ℕ) → f < c → lock_of st f ≡ 0 → get_or gains f (pos 0) ≡ gain st.sides (recipes job) f
-  listed-now f h e = ap (λ (x : List ℤ). get_or x f (pos 0)) g.gains ∙ gains-fresh v k f (omega (arith, gains-long v k)) e
-
-  dist-now : (f : ℕ) → f < c → lock_of st f ≡ 0 → dist_in w size job.sizes st.sides f ≡ dist_after job st f
-  dist-now f h e =
-      ap (λ (a : ℕ). dist_in w a job.sizes st.sides f) g.progress.size
-      ∙ dist_same v k w y.measured.den y.measured.aim y.measured.span f h e
-
-  lawful-now : (f : ℕ) → f < c → legal_in w size job.sizes st.sides st.locks f ≡ legal job st f
-  lawful-now f h =
-      ap (λ (a : ℕ). legal_in w a job.sizes st.sides st.locks f) g.progress.size
-      ∙ legal-same v k w y.measured.den y.measured.aim y.measured.span f h
-
-  vectors-best : vector_choice c (recipe_count job) (pin_count job) w size job.sizes b.sides gains b.rest.scratch ≡ best_from (choose_vector job st)
-  vectors-best =
-      let o : Choosable job b = choosable u.under in
-      let long : links_at c (recipe_count job) (pin_count job) ≤ length b.rest.scratch = omega (arith, u.under.counts, u.under.enough, g.long) in
-      subst (λ (x : List ℕ). vector_choice c (recipe_count job) (pin_count job) w size job.sizes x gains b.rest.scratch ≡ best_of (λ f. get_or gains f (pos 0)) (dist_in w size job.sizes x) c (choose_vector job st)) (sym g.sides)
-      (choice-shown job st c (recipe_count job) (pin_count job) b.rest.scratch gains (stands-binary v k) g.cells g.counts (recipes-length y.most job y.sound) long
-      w size g.locks refl listed-now lawful-now dist-now refl (sym (ap length g.sides) ∙ o.sides) o.gains)
-
   -- ---- edition 2's fronts
 
   abbrev pub now : Buckets
@@ -143,22 +112,29 @@ module _ {edition : ℕ} {job : Job} {l : Lent} {w : Window} {b : Board} (u : Pa
   pub known : Known (shape_of c (recipe_count job)) now.state.sides gains now.entered (gain_in job now)
   known = record {
     sided = λ f m. good.binary f;
-    listed = λ f m. let h = held-free f m in listed-now f h.0 h.1 ∙ ap (λ (x : State). gain x.sides (recipes job) f) (sym seen);
+    listed = λ f m.
+        let h = held-free f m in
+        ap (λ (x : List ℤ). get_or x f (pos 0)) g.gains
+        ∙ gains-fresh v k f (omega (arith, h.0, gains-long v k)) h.1
+        ∙ ap (λ (st : State). gain st.sides (recipes job) f) (sym seen);
     within = λ f m. gain-within y.most job y.sound now f;
   }
 
   near-now : (f : ℕ) → f ∈ now.entered → dist_in w size job.sizes now.state.sides f ≡ dist_after job now.state f
   near-now f m =
       let h = held-free f m in
-      ap (λ (x : State). dist_in w size job.sizes x.sides f) seen ∙ dist-now f h.0 h.1 ∙ ap (λ (x : State). dist_after job x f) (sym seen)
+      ap₂ (λ (a : ℕ) (st : State). dist_in w a job.sizes st.sides f) g.progress.size seen
+      ∙ dist_same v k w y.measured.den y.measured.aim y.measured.span f h.0 h.1
+      ∙ ap (λ (st : State). dist_after job st f) (sym seen)
 
   legal-now : (f : ℕ) → f ∈ now.entered → legal job now.state f ≡ leb (dist_after job now.state f) w.span
   legal-now f m =
       let h = held-free f m in
+      let st : State = stands job ms k in
       ap (λ (x : State). legal job x f) seen
-      ∙ sym (lawful-now f h.0)
-      ∙ ap (λ (t : Bool). t && leb (dist_in w size job.sizes st.sides f) w.span) (eq-eqb (lock_of st f) 0 h.1)
-      ∙ ap (λ (d : ℕ). leb d w.span) (dist-now f h.0 h.1)
+      ∙ sym (legal-same v k w y.measured.den y.measured.aim y.measured.span f h.0)
+      ∙ ap (λ (t : Bool). t && leb (dist_in w (size_a job st.sides) job.sizes st.sides f) w.span) (eq-eqb (lock_of st f) 0 h.1)
+      ∙ ap (λ (d : ℕ). leb d w.span) (dist_same v k w y.measured.den y.measured.aim y.measured.span f h.0 h.1)
       ∙ ap (λ (x : State). leb (dist_after job x f) w.span) (sym seen)
 
   abbrev links : List ℕ
@@ -178,26 +154,18 @@ module _ {edition : ℕ} {job : Job} {l : Lent} {w : Window} {b : Board} (u : Pa
 
   -- ---- by edition
 
-  abbrev by_fronts : Picked
-  by_fronts = picked_is fronted.best (with_links c (recipe_count job) (pin_count job) b.rest.scratch fronted.links)
-
-  abbrev by_vectors : Picked
-  by_vectors = picked_is (vector_choice c (recipe_count job) (pin_count job) w size job.sizes b.sides gains b.rest.scratch) b.rest.scratch
-
-  abbrev by_gains : Picked
-  by_gains = picked_is (choice_in w size job.sizes b.sides b.rest.scratch gains) b.rest.scratch
-
   module _ {best : Best} {z : List ℕ}
       (answered : picked_is best z ≡ picked_by edition c (recipe_count job) (pin_count job) w size job.sizes b.sides gains b.rest.scratch) where
     best-is : best ≡ best_from (pick_at edition job k)
     unfolding picked_by
-    best-is = ap (λ (x : Picked). x.best) answered ∙ go (eqb edition 2) (eqb edition 3) (eqb-true edition 2)
+    best-is = ap (λ (x : Picked). x.best) answered ∙ go (eqb edition 2) (eqb-true edition 2)
       where
-        go : (second third : Bool) → (second ≡ true → edition ≡ 2)
-            → (cond second by_fronts (cond third by_vectors by_gains)).best ≡ best_from (cond second (choose_front job now) (cond third (choose_vector job st) (choose job st)))
-        go true third h = fronts-best (h refl)
-        go false true h = vectors-best
-        go false false h = first-best
+        go : (t : Bool) → (t ≡ true → edition ≡ 2)
+            → (cond t (picked_is fronted.best (with_links c (recipe_count job) (pin_count job) b.rest.scratch fronted.links))
+            (picked_is (choice_in w size job.sizes b.sides b.rest.scratch gains) b.rest.scratch)).best
+            ≡ best_from (cond t (choose_front job now) (choose job (stands job ms k)))
+        go true h = fronts-best (h refl)
+        go false h = first-best
 
     pub pass-chose : Chose job ms b best.file
     pass-chose = record {
@@ -212,9 +180,11 @@ module _ {edition : ℕ} {job : Job} {l : Lent} {w : Window} {b : Board} (u : Pa
     -- the scratch that is left: by edition 2 the tops came down
     pub picked-scratch : z ≡ cond (eqb edition 2) (with_links c (recipe_count job) (pin_count job) b.rest.scratch fronted.links) b.rest.scratch
     unfolding picked_by
-    picked-scratch = ap (λ (x : Picked). x.scratch) answered ∙ go (eqb edition 2) (eqb edition 3)
+    picked-scratch = ap (λ (x : Picked). x.scratch) answered ∙ go (eqb edition 2)
       where
-        go : (second third : Bool) → (cond second by_fronts (cond third by_vectors by_gains)).scratch ≡ cond second by_fronts.scratch b.rest.scratch
-        go true third = refl
-        go false true = refl
-        go false false = refl
+        go : (t : Bool)
+            → (cond t (picked_is fronted.best (with_links c (recipe_count job) (pin_count job) b.rest.scratch fronted.links))
+            (picked_is (choice_in w size job.sizes b.sides b.rest.scratch gains) b.rest.scratch)).scratch
+            ≡ cond t (with_links c (recipe_count job) (pin_count job) b.rest.scratch fronted.links) b.rest.scratch
+        go true = refl
+        go false = refl

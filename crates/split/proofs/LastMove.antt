@@ -1,30 +1,27 @@
 -- After the last move: the figures are those of a pass with these moves, the sides of the best prefix come back, and with zeros filled in the lists are those it leaves. Assumes nothing.
 use mathlib.Core.Path.{◌≡◌, refl, sym, ap, ap₂, ◌∙◌}
 use Prim.Native.Nat.{ℕ, zero, suc, ◌+◌, ◌-◌, ◌*◌, ◌≤◌, ◌<◌}
-use mathlib.Core.Bool.{Bool, true, false, cond}
-use mathlib.Core.List.{List, [], ◌++◌, map}
+use mathlib.Core.List.{List, ◌++◌, map}
 use native.Mathlib.Nat.{add-zero, add-suc}
 use native.Mathlib.Omega.{arith}
 use lib.IntN.{pos}
 use lib.ListN.{length, get_or, take, drop, replicate, length-map}
 use lib.Seq.{take-length}
-use lib.Dec.{eqb}
 use Rattle.rules.specs.Lists.{onto, listed}
 use Rattle.rules.specs.Job.{Job, file_count, recipe_count, views, recipes, Lent, scratch_for}
 use Rattle.rules.specs.Split.{size_a}
 use Rattle.rules.specs.Move.{State, Scan, scans, ends_from, visits}
-use Rattle.rules.specs.Pass.{gains_when, cuts_after, cut_at, keeps, gains_after, pass_of, shown_scans, shown_visits, leaves}
-use Rattle.rules.proofs.Entries.{onto-in, onto-drop, shown-less}
+use Rattle.rules.specs.Pass.{gains_when, cuts_after, cut_at, keeps, gains_after, pass_of, leaves}
+use Rattle.rules.proofs.Entries.{onto-in}
 use Rattle.rules.proofs.MovesEnd.{StateLong}
 use Rattle.rules.proofs.GainKept.{gains-kept}
 use Rattle.rules.proofs.Steps.{move-back, gains-length, cuts-length, ends-length}
 use Rattle.rules.proofs.Runs.{keeps-le}
 use Rattle.rules.proofs.SoundJob.{recipes-distinct}
-use Rattle.tables.specs.Ending.{turned, back_to, shown_of}
+use Rattle.tables.specs.Ending.{turned, back_to}
 use Rattle.split.specs.Moving.{Board}
 use Rattle.split.proofs.Going.{begins, made, stands, Line, Going}
 use Rattle.tables.specs.Clearing.{cleared}
-use Rattle.tables.proofs.Filled.{cleared-front}
 use Rattle.split.proofs.NextMove.{Next, next-at, stands-long, stands-binary, made-free, few-moves}
 use Rattle.split.proofs.Bounds.{scans-few}
 use Rattle.split.proofs.LentLists.{listed_of, listed-none}
@@ -50,27 +47,11 @@ fill-in {ℓ} : {A : Type ℓ} (n : ℕ) (z : A) (xs ys old now : List A) (k : �
     → cleared k n z now ≡ listed n z ys old
 fill-in n z xs ys old now k e i m h = rw (e, i, m) (listed_of n z ys old h)
 
--- the same of a list of which nothing is told by edition 3: then z alone
-fill-shown : (third : Bool) (n z : ℕ) (xs ys old now : List ℕ) (k : ℕ) → now ≡ onto xs old → k ≡ length xs → xs ≡ ys → length ys ≤ n
-    → cleared (cond third 0 k) n z now ≡ listed n z (cond third [] ys) old
-fill-shown true n z xs ys old now k e i m h =
-    cleared-front z n now ∙ ap (λ (x : List ℕ). replicate n z ++ x) (ap (drop n) e ∙ onto-drop xs old n (rw m h)) ∙ listed-none n z old
-fill-shown false n z xs ys old now k e i m h = fill-in n z xs ys old now k e i m h
-
-told-map {ℓ κ} : {A : Type ℓ} {B : Type κ} (third : Bool) (f : A → B) (xs : List A) → cond third [] (map f xs) ≡ map f (cond third [] xs)
-told-map true f xs = refl
-told-map false f xs = refl
-
-told-length {ℓ} : {A : Type ℓ} (third : Bool) (n : ℕ) (xs : List A) → n ≡ length xs → cond third 0 n ≡ length (cond third [] xs)
-told-length true n xs e = refl
-told-length false n xs e = e
-
 -- what the end of a pass finds
 pub record Finished (edition : ℕ) (job : Job) (ms : List ℕ) (l : Lent) (b : Board) : Type 0 where
   -- there is room for the zeros, and the moves beyond the best prefix are taken back
   pub early : b.rest.scanned.progress.moves ≤ file_count job
-  pub ends : shown_of edition b.rest.scanned.progress.moves ≤ file_count job
-  pub few : shown_of edition b.rest.scanned.progress.scans ≤ 4 * recipe_count job
+  pub few : b.rest.scanned.progress.scans ≤ 4 * recipe_count job
   pub back : back_to b.tried b.rest.scanned.progress.best (b.rest.scanned.progress.moves - b.rest.scanned.progress.best) b.sides
       ≡ (pass_of job job.sides ms).sides_after
   -- the figures are those of the pass
@@ -78,16 +59,16 @@ pub record Finished (edition : ℕ) (job : Job) (ms : List ℕ) (l : Lent) (b : 
   pub least : b.rest.scanned.progress.least ≡ (pass_of job job.sides ms).cut_after
   pub size : b.rest.scanned.progress.atbest ≡ (pass_of job job.sides ms).size_after
   pub moves : b.rest.scanned.progress.moves ≡ length (pass_of job job.sides ms).tried
-  pub scanned : shown_of edition b.rest.scanned.progress.scans ≡ length (shown_scans edition (pass_of job job.sides ms))
-  pub visited : shown_of edition b.rest.scanned.progress.visits ≡ shown_visits edition (pass_of job job.sides ms)
+  pub scanned : b.rest.scanned.progress.scans ≡ length (pass_of job job.sides ms).scanned
+  pub visited : b.rest.scanned.progress.visits ≡ (pass_of job job.sides ms).visited
   -- the lists end in zeros
   pub gains : b.rest.scanned.gains ≡ (leaves edition job l (pass_of job job.sides ms)).gains
   pub tried : cleared b.rest.scanned.progress.moves (file_count job) 0 b.tried ≡ (leaves edition job l (pass_of job job.sides ms)).tried
   pub gained : cleared b.rest.scanned.progress.moves (file_count job) (pos 0) b.gained ≡ (leaves edition job l (pass_of job job.sides ms)).gained
   pub cuts : cleared b.rest.scanned.progress.moves (file_count job) 0 b.cuts ≡ (leaves edition job l (pass_of job job.sides ms)).cuts
-  pub scans_so_far : cleared (shown_of edition b.rest.scanned.progress.moves) (file_count job) 0 b.ends ≡ (leaves edition job l (pass_of job job.sides ms)).ends
-  pub scanned_recipes : cleared (shown_of edition b.rest.scanned.progress.scans) (4 * recipe_count job) 0 b.rest.scanned.recipes ≡ (leaves edition job l (pass_of job job.sides ms)).recipes
-  pub scanned_kinds : cleared (shown_of edition b.rest.scanned.progress.scans) (4 * recipe_count job) 0 b.rest.scanned.kinds ≡ (leaves edition job l (pass_of job job.sides ms)).kinds
+  pub scans_so_far : cleared b.rest.scanned.progress.moves (file_count job) 0 b.ends ≡ (leaves edition job l (pass_of job job.sides ms)).ends
+  pub scanned_recipes : cleared b.rest.scanned.progress.scans (4 * recipe_count job) 0 b.rest.scanned.recipes ≡ (leaves edition job l (pass_of job job.sides ms)).recipes
+  pub scanned_kinds : cleared b.rest.scanned.progress.scans (4 * recipe_count job) 0 b.rest.scanned.kinds ≡ (leaves edition job l (pass_of job job.sides ms)).kinds
 
 module _ {job : Job} {ms : List ℕ} (v : Line job ms) {l : Lent} {k : ℕ} {b : Board} (g : Going job ms l k b) (end : k ≡ length ms) where
   all_made : made ms k ≡ ms
@@ -123,8 +104,7 @@ module _ {job : Job} {ms : List ℕ} (v : Line job ms) {l : Lent} {k : ℕ} {b :
       let some : length (scans rs (begins job) ms) ≤ 4 * recipe_count job = rw all_made at (scans-few v k) in
       record {
         early = omega (arith, g.progress.moves);
-        ends = shown-less (eqb edition 3) _ (omega (arith, g.progress.moves));
-        few = shown-less (eqb edition 3) _ (rw g.progress.scanned (scans-few v k));
+        few = rw g.progress.scanned (scans-few v k);
         back = goes_back;
         best = kept;
         least =
@@ -133,8 +113,8 @@ module _ {job : Job} {ms : List ℕ} (v : Line job ms) {l : Lent} {k : ℕ} {b :
             ∙ (unfold cut_at in refl);
         size = g.progress.atbest ∙ ap (λ (i : ℕ). size_a job (stands job ms i).sides) kept;
         moves = g.progress.moves ∙ end;
-        scanned = told-length (eqb edition 3) _ _ (g.progress.scanned ∙ ap length scanned);
-        visited = ap (shown_of edition) (g.progress.visited ∙ ap (λ (x : List Scan). visits (views job) x) scanned);
+        scanned = g.progress.scanned ∙ ap length scanned;
+        visited = g.progress.visited ∙ ap (λ (x : List Scan). visits (views job) x) scanned;
         gains =
             g.gains
             ∙ gains-kept rs (recipes-distinct v.most job v.sound) (file_count job) (begins job) (made ms k) (made-free v k) v.sound.binary
@@ -144,12 +124,10 @@ module _ {job : Job} {ms : List ℕ} (v : Line job ms) {l : Lent} {k : ℕ} {b :
             (moves-made ∙ sym (gains-length rs (begins job) (made ms k))) (ap (λ (x : List ℕ). gains_when rs (begins job) x) all_made) (rw (gains-length rs (begins job) ms) few);
         cuts = fill-in (file_count job) 0 (cuts_after rs (begins job) (made ms k)) (cuts_after rs (begins job) ms) l.cuts b.cuts _ g.cuts
             (moves-made ∙ sym (cuts-length rs (begins job) (made ms k))) (ap (λ (x : List ℕ). cuts_after rs (begins job) x) all_made) (rw (cuts-length rs (begins job) ms) few);
-        scans_so_far = fill-shown (eqb edition 3) (file_count job) 0 (ends_from rs 0 (begins job) (made ms k)) (ends_from rs 0 (begins job) ms) l.ends b.ends _ g.scans_so_far
+        scans_so_far = fill-in (file_count job) 0 (ends_from rs 0 (begins job) (made ms k)) (ends_from rs 0 (begins job) ms) l.ends b.ends _ g.scans_so_far
             (moves-made ∙ sym (ends-length rs 0 (begins job) (made ms k))) (ap (λ (x : List ℕ). ends_from rs 0 (begins job) x) all_made) (rw (ends-length rs 0 (begins job) ms) few);
-        scanned_recipes = fill-shown (eqb edition 3) (4 * recipe_count job) 0 (map (λ c. c.recipe) (scans rs (begins job) (made ms k))) (map (λ c. c.recipe) (scans rs (begins job) ms)) l.recipes b.rest.scanned.recipes _ g.scanned_recipes
-            (g.progress.scanned ∙ sym (length-map (scans rs (begins job) (made ms k)) (λ c. c.recipe))) (ap (λ (x : List Scan). map (λ c. c.recipe) x) scanned) (rw length-map some)
-            ∙ ap (λ (x : List ℕ). listed (4 * recipe_count job) 0 x l.recipes) (told-map (eqb edition 3) (λ c. c.recipe) (scans rs (begins job) ms));
-        scanned_kinds = fill-shown (eqb edition 3) (4 * recipe_count job) 0 (map (λ c. c.kind) (scans rs (begins job) (made ms k))) (map (λ c. c.kind) (scans rs (begins job) ms)) l.kinds b.rest.scanned.kinds _ g.scanned_kinds
-            (g.progress.scanned ∙ sym (length-map (scans rs (begins job) (made ms k)) (λ c. c.kind))) (ap (λ (x : List Scan). map (λ c. c.kind) x) scanned) (rw length-map some)
-            ∙ ap (λ (x : List ℕ). listed (4 * recipe_count job) 0 x l.kinds) (told-map (eqb edition 3) (λ c. c.kind) (scans rs (begins job) ms));
+        scanned_recipes = fill-in (4 * recipe_count job) 0 (map (λ c. c.recipe) (scans rs (begins job) (made ms k))) (map (λ c. c.recipe) (scans rs (begins job) ms)) l.recipes b.rest.scanned.recipes _ g.scanned_recipes
+            (g.progress.scanned ∙ sym (length-map (scans rs (begins job) (made ms k)) (λ c. c.recipe))) (ap (λ (x : List Scan). map (λ c. c.recipe) x) scanned) (rw length-map some);
+        scanned_kinds = fill-in (4 * recipe_count job) 0 (map (λ c. c.kind) (scans rs (begins job) (made ms k))) (map (λ c. c.kind) (scans rs (begins job) ms)) l.kinds b.rest.scanned.kinds _ g.scanned_kinds
+            (g.progress.scanned ∙ sym (length-map (scans rs (begins job) (made ms k)) (λ c. c.kind))) (ap (λ (x : List Scan). map (λ c. c.kind) x) scanned) (rw length-map some);
       }

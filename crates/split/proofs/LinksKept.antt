@@ -23,7 +23,6 @@ use Rattle.rules.proofs.Changes.{steps-append}
 use Rattle.rules.proofs.Latest.{changed-enter}
 use Rattle.choice.specs.declared.window.Window.{Window}
 use Rattle.choice.specs.Best.{choice_in}
-use Rattle.levels.specs.Vectors.{vector_choice}
 use Rattle.buckets.specs.declared.slots.Shape.{Shape}
 use Rattle.buckets.specs.Slots.{Fits}
 use Rattle.buckets.specs.Entries.{entered_all, taken_out, brought_front}
@@ -54,17 +53,15 @@ module _ (edition c n p : ℕ) (z : List ℕ) (fits : HasLinks edition c n p z) 
 
   pub picked-kept : (w : Window) (size : ℕ) (sizes sides : List ℕ) (gains : List ℤ) → Kept c n p z (picked_by edition c n p w size sizes sides gains z).scratch
   unfolding picked_by
-  picked-kept w size sizes sides gains = go (eqb edition 2) (eqb edition 3) refl
+  picked-kept w size sizes sides gains = go (eqb edition 2) refl
     where
       e' : Chosen
       e' = chosen_front (shape_of c n) w size sizes sides gains (links_in c n p z)
 
-      go : (second third : Bool) → eqb edition 2 ≡ second
-          → Kept c n p z (cond second (picked_is e'.best (with_links c n p z e'.links))
-          (cond third (picked_is (vector_choice c n p w size sizes sides gains z) z) (picked_is (choice_in w size sizes sides z gains) z))).scratch
-      go true third e = let h = fits (eqb-true edition 2 e) in kept-with c n p z h e'.links (chosen-long (shape_of c n) w size sizes sides gains (links_in c n p z) ∙ links-long c n p z h)
-      go false true e = kept_same
-      go false false e = kept_same
+      go : (b : Bool) → eqb edition 2 ≡ b
+          → Kept c n p z (cond b (picked_is e'.best (with_links c n p z e'.links)) (picked_is (choice_in w size sizes sides z gains) z)).scratch
+      go true e = let h = fits (eqb-true edition 2 e) in kept-with c n p z h e'.links (chosen-long (shape_of c n) w size sizes sides gains (links_in c n p z) ∙ links-long c n p z h)
+      go false e = kept_same
 
   pub followed-kept : (gains : List ℤ) (sides : List ℕ) (look : ℕ → List ℕ) (js ks : List ℕ) (f : ℕ) → Kept c n p z (followed_by edition c n p gains sides look js ks f z)
   unfolding followed_by

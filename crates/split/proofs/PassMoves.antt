@@ -14,19 +14,14 @@ use Rattle.rules.specs.Job.{Job, Limits, file_count, recipe_count, pin_count, re
 use Rattle.rules.specs.Split.{side_of, balanced, tolerance, weight}
 use Rattle.rules.specs.Move.{State, moved, after, Frees, legal, size_after, dist_after, choose, moves, moves_by}
 use Rattle.rules.specs.Pass.{tries}
-use Rattle.rules.specs.Fronts.{Buckets, start_buckets, moved_on, gain_in, offer, choose_front, front_tries}
-use Rattle.rules.specs.Levels.{choose_vector, vector_tries}
-use Rattle.rules.specs.Editions.{tries_by}
+use Rattle.rules.specs.Fronts.{Buckets, start_buckets, moved_on, gain_in, offer, choose_front, front_tries, tries_by}
 use Rattle.rules.specs.FrontsHold.{buckets_at, fronts_at}
-use Rattle.rules.specs.LevelsHold.{vectors_at}
 use Rattle.rules.specs.Theorems.{Sound, Chosen}
 use Rattle.rules.proofs.Tests.{clash}
 use Rattle.rules.proofs.Choice.{chosen}
 use Rattle.rules.proofs.MovesEnd.{StateLong, moves_each, pass-end}
 use Rattle.rules.proofs.Proved.{lawful-frees, given-sides}
-use Rattle.rules.proofs.FrontsProved.{pass-holds-fronts, good-at, chosen-front}
-use Rattle.rules.proofs.LevelsProved.{choice-holds, pass-holds-vectors}
-use Rattle.rules.proofs.Editions.{editions-hold}
+use Rattle.rules.proofs.FrontsProved.{editions-hold, pass-holds-fronts, good-at, chosen-front}
 use Rattle.choice.specs.declared.window.Window.{Window}
 use Rattle.choice.specs.declared.edition1.Best.{Best}
 use Rattle.split.specs.Moving.{Board}
@@ -42,9 +37,7 @@ abbrev pub buckets_now : ℕ → Job → ℕ → Buckets
 buckets_now edition job k = buckets_at job job.sides (pass_moves edition job) k
 
 abbrev pub pick_at : ℕ → Job → ℕ → Option ℕ
-pick_at edition job k =
-    cond (eqb edition 2) (choose_front job (buckets_now edition job k))
-    (cond (eqb edition 3) (choose_vector job (stands job (pass_moves edition job) k)) (choose job (stands job (pass_moves edition job) k)))
+pick_at edition job k = cond (eqb edition 2) (choose_front job (buckets_now edition job k)) (choose job (stands job (pass_moves edition job) k))
 
 module _ (most : Limits) (job : Job) (s : Sound most job) where
   pub pass-frees : (edition : ℕ) → Frees (begins job) (pass_moves edition job)
@@ -90,19 +83,10 @@ module _ (most : Limits) (job : Job) (s : Sound most job) where
           let c = chosen-front job b (p.buckets.fronts last) f e in
           clash (sym c.lawful ∙ ap (λ (st : State). legal job st f) (p.buckets.seen last) ∙ p.ended (side_of b.state.sides f) f (good.binary f) c.front)
 
-  -- nor edition 3
-  vectors-picked : Picked (λ k. choose_vector job (stands job (vector_tries job job.sides) k)) (vector_tries job job.sides)
-  unfolding vector_tries
-  vectors-picked = record {
-    each = λ k h. moves_each (choose_vector job) moved (file_count job) (begins job) k h;
-    ended = (choice-holds job (vectors_at job job.sides (length (vector_tries job job.sides)))).stuck (pass-holds-vectors most job s job.sides (given-sides most job s)).ended;
-  }
-
   pub pass-picked : (edition : ℕ) → Picked (pick_at edition job) (pass_moves edition job)
-  pass-picked edition = go (eqb edition 2) (eqb edition 3)
+  pass-picked edition = go (eqb edition 2)
     where
-      go : (second third : Bool) → let ms = cond second (front_tries job job.sides) (cond third (vector_tries job job.sides) (tries job job.sides)) in
-          Picked (λ k. cond second (choose_front job (buckets_at job job.sides ms k)) (cond third (choose_vector job (stands job ms k)) (choose job (stands job ms k)))) ms
-      go true third = fronts-picked
-      go false true = vectors-picked
-      go false false = first-picked
+      go : (t : Bool) → Picked (λ k. cond t (choose_front job (buckets_at job job.sides (cond t (front_tries job job.sides) (tries job job.sides)) k))
+          (choose job (stands job (cond t (front_tries job job.sides) (tries job job.sides)) k))) (cond t (front_tries job job.sides) (tries job job.sides))
+      go true = fronts-picked
+      go false = first-picked

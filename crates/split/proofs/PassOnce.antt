@@ -12,8 +12,8 @@ use Rattle.rules.specs.Job.{Job, Limits, file_count, recipe_count, pin_count, vi
 use Rattle.rules.specs.Split.{unread_files, unread_recipes}
 use Rattle.rules.specs.Check.{done}
 use Rattle.rules.specs.Move.{Frees}
-use Rattle.rules.specs.Pass.{Pass, shown_scans, shown_visits, leaves}
-use Rattle.rules.specs.Editions.{tries_by}
+use Rattle.rules.specs.Pass.{Pass, leaves}
+use Rattle.rules.specs.Fronts.{tries_by}
 use Rattle.rules.specs.Run.{ended_of, last_of, first_pass, figures_of}
 use Rattle.rules.specs.Theorems.{Sound}
 use Rattle.rules.proofs.Fits.{LongEnough, long-enough}
@@ -21,7 +21,7 @@ use Rattle.rules.proofs.Runs.{pass-from, pass-unread}
 use Rattle.tables.specs.declared.zones.Extent.{Extent}
 use Rattle.tables.specs.Zones.{extent_of}
 use Rattle.tables.specs.Clearing.{cleared_in}
-use Rattle.tables.specs.Ending.{back_to, shown_of}
+use Rattle.tables.specs.Ending.{back_to}
 use Rattle.tables.specs.LayingOut.{Prepared}
 use Rattle.tables.proofs.Filled.{cleared-front, cleared-in}
 use Rattle.choice.specs.declared.window.Window.{Window}
@@ -110,15 +110,15 @@ module _ (edition : ℕ) {job : Job} {l : Lent} {w : Window} {b : Board} (u : Un
   pub pass-ends : {before unread holding scans numbers : ℕ} {r : Figures} {sides tried : List ℕ} {gained : List ℤ} {cuts ends rs kinds scratch : List ℕ}
       → before ≡ cut_at_start job
       → (unread ≡ unread_files job) × (holding ≡ unread_recipes job)
-      → r ≡ figures_from edition before unread holding q
+      → r ≡ figures_from before unread holding q
       → (sides ≡ back_to b.tried q.best (q.moves - q.best) b.sides)
       × (tried ≡ cleared_in q.moves (file_count job) 0 b.tried)
       × (gained ≡ cleared_in q.moves (file_count job) (pos 0) b.gained)
       × (cuts ≡ cleared_in q.moves (file_count job) 0 b.cuts)
-      × (ends ≡ cleared_in (shown_of edition q.moves) (file_count job) 0 b.ends)
+      × (ends ≡ cleared_in q.moves (file_count job) 0 b.ends)
       → (scans ≡ 4 * recipe_count job) × (numbers ≡ scratch_for edition job)
-      → (rs ≡ cleared_in (shown_of edition q.scans) scans 0 b.rest.scanned.recipes)
-      × (kinds ≡ cleared_in (shown_of edition q.scans) scans 0 b.rest.scanned.kinds)
+      → (rs ≡ cleared_in q.scans scans 0 b.rest.scanned.recipes)
+      × (kinds ≡ cleared_in q.scans scans 0 b.rest.scanned.kinds)
       × (scratch ≡ cleared_in 0 numbers 0 b.rest.scratch)
       → ended_of r sides (lent_of b.rest.scanned.gains tried gained cuts ends rs kinds scratch) ≡ pass_left edition job l
   unfolding figures_of last_of total leaves
@@ -133,11 +133,11 @@ module _ (edition : ℕ) {job : Job} {l : Lent} {w : Window} {b : Board} (u : Un
       let tr = m.1 ∙ cleared-in q.moves c 0 b.tried early (omega (arith, long.tried, o.tried)) ∙ d.tried in
       let ga = m.2 ∙ cleared-in q.moves c (pos 0) b.gained early (omega (arith, long.gained, o.gained)) ∙ d.gained in
       let cu = m.3 ∙ cleared-in q.moves c 0 b.cuts early (omega (arith, long.cuts, o.cuts)) ∙ d.cuts in
-      let en = m.4 ∙ cleared-in (shown_of edition q.moves) c 0 b.ends d.ends (omega (arith, long.scans_so_far, o.scans_so_far)) ∙ d.scans_so_far in
-      let re = s.0 ∙ ap (λ (i : ℕ). cleared_in (shown_of edition q.scans) i 0 b.rest.scanned.recipes) ro.0
-      ∙ cleared-in (shown_of edition q.scans) (4 * recipe_count job) 0 b.rest.scanned.recipes d.few (omega (arith, long.scanned_recipes, o.scanned_recipes)) ∙ d.scanned_recipes in
-      let ki = s.1 ∙ ap (λ (i : ℕ). cleared_in (shown_of edition q.scans) i 0 b.rest.scanned.kinds) ro.0
-      ∙ cleared-in (shown_of edition q.scans) (4 * recipe_count job) 0 b.rest.scanned.kinds d.few (omega (arith, long.scanned_kinds, o.scanned_kinds)) ∙ d.scanned_kinds in
+      let en = m.4 ∙ cleared-in q.moves c 0 b.ends early (omega (arith, long.scans_so_far, o.scans_so_far)) ∙ d.scans_so_far in
+      let re = s.0 ∙ ap (λ (i : ℕ). cleared_in q.scans i 0 b.rest.scanned.recipes) ro.0
+      ∙ cleared-in q.scans (4 * recipe_count job) 0 b.rest.scanned.recipes d.few (omega (arith, long.scanned_recipes, o.scanned_recipes)) ∙ d.scanned_recipes in
+      let ki = s.1 ∙ ap (λ (i : ℕ). cleared_in q.scans i 0 b.rest.scanned.kinds) ro.0
+      ∙ cleared-in q.scans (4 * recipe_count job) 0 b.rest.scanned.kinds d.few (omega (arith, long.scanned_kinds, o.scanned_kinds)) ∙ d.scanned_kinds in
       let sc = s.2 ∙ ap (λ (i : ℕ). cleared_in 0 i 0 b.rest.scratch) ro.1
       ∙ cleared-in 0 (scratch_for edition job) 0 b.rest.scratch (omega arith) (omega (arith, long.scratch, u.enough))
       ∙ cleared-front 0 (scratch_for edition job) b.rest.scratch
@@ -151,8 +151,8 @@ module _ (edition : ℕ) {job : Job} {l : Lent} {w : Window} {b : Board} (u : Un
           size = d.size j;
           tried = (d.moves ∙ sym (add-zero (length p.tried))) j;
           kept = (d.best ∙ sym (add-zero p.kept)) j;
-          scans = (d.scanned ∙ sym (add-zero (length (shown_scans edition p)))) j;
-          visits = (d.visited ∙ sym (add-zero (shown_visits edition p))) j;
+          scans = (d.scanned ∙ sym (add-zero (length p.scanned))) j;
+          visits = (d.visited ∙ sym (add-zero p.visited)) j;
           unread = (un.0 ∙ sym (pass-unread job (tries_by edition job) job.sides).0) j;
           holding = (un.1 ∙ sym (pass-unread job (tries_by edition job) job.sides).1) j;
         }) i;

@@ -20,8 +20,6 @@ use Rattle.rules.proofs.Fits.{LongEnough, long-enough}
 use Rattle.buckets.specs.StandFor.{StandFor}
 use Rattle.choice.specs.declared.window.Window.{Window}
 use Rattle.choice.specs.declared.edition1.Best.{Best}
-use Rattle.choice.specs.Best.{choice_in}
-use Rattle.levels.specs.Vectors.{vector_choice}
 use Rattle.tables.specs.declared.zones.Extent.{Extent}
 use Rattle.tables.specs.Zones.{extent_of}
 use Rattle.tables.specs.Ending.{turned}
@@ -112,12 +110,7 @@ module _ {edition : ℕ} {job : Job} {l : Lent} {w : Window} {b : Board} (u : Pa
 
   picked-stays : edition ≢ 2 → picks.scratch ≡ z
   unfolding picked_by
-  picked-stays h = rw (ne_eqb edition 2 h) (go (eqb edition 3))
-    where
-      go : (third : Bool) → (cond third (picked_is (vector_choice c n p w b.rest.scanned.progress.size job.sizes b.sides gains z) z)
-          (picked_is (choice_in w b.rest.scanned.progress.size job.sizes b.sides z gains) z)).scratch ≡ z
-      go true = refl
-      go false = refl
+  picked-stays h = rw (ne_eqb edition 2 h) refl
 
   module _ {best : Best} {z' : List ℕ} (answered : picked_is best z' ≡ picks) where
     left : z' ≡ picks.scratch

@@ -9,7 +9,6 @@ use Rattle.choice.specs.Best.{choice_in}
 use Rattle.buckets.specs.declared.slots.Shape.{Shape}
 use Rattle.buckets.specs.Entries.{entered_all, taken_out, brought_front}
 use Rattle.buckets.specs.Offers.{chosen_front}
-use Rattle.levels.specs.Vectors.{vector_choice}
 use Rattle.tables.specs.Zones.{counts_at, part, state_in}
 
 -- where they begin, and how many numbers they are, of c files, n recipes and p pins
@@ -34,7 +33,7 @@ with_links c n p z links = take (links_at c n p) z ++ (links ++ drop (links_long
 abbrev pub HasLinks : ℕ → ℕ → ℕ → ℕ → List ℕ → Type 0
 HasLinks edition c n p z = edition ≡ 2 → links_at c n p + links_long c n ≤ length z
 
--- ---- what each step does to the scratch; by editions 1 and 3 nothing
+-- ---- what each step does to the scratch; by edition 1 nothing
 
 -- before the first move the free files enter
 unfoldable pub entered_by : ℕ → ℕ → ℕ → ℕ → List ℕ → List ℕ → List ℤ → List ℕ → List ℕ
@@ -51,8 +50,7 @@ picked_is best z = record { best = best; scratch = z }
 unfoldable pub picked_by : ℕ → ℕ → ℕ → ℕ → Window → ℕ → List ℕ → List ℕ → List ℤ → List ℕ → Picked
 picked_by edition c n p w size sizes sides gains z =
     let e = chosen_front (shape_of c n) w size sizes sides gains (links_in c n p z) in
-    cond (eqb edition 2) (picked_is e.best (with_links c n p z e.links))
-    (cond (eqb edition 3) (picked_is (vector_choice c n p w size sizes sides gains z) z) (picked_is (choice_in w size sizes sides z gains) z))
+    cond (eqb edition 2) (picked_is e.best (with_links c n p z e.links)) (picked_is (choice_in w size sizes sides z gains) z)
 
 -- file f is brought to the front of the bucket of its side and gain
 abbrev pub brought_in : ℕ → ℕ → ℕ → List ℕ → List ℤ → List ℕ → ℕ → List ℕ

@@ -5,24 +5,23 @@ use Rattle.rules.specs.declared.BalanceFigures.{BalanceFigures}
 use Rattle.rules.specs.Job.{Job, Lent}
 use Rattle.rules.specs.Check.{done}
 use Rattle.rules.specs.Run.{Ended, first_pass, figures_of, left_by}
-use Rattle.tables.specs.Ending.{shown_of}
 use Rattle.split.specs.declared.progress.Progress.{Progress}
 
 -- one pass by an edition of a job that is not refused: its figures, and what it leaves
 abbrev pub pass_left : ℕ → Job → Lent → Ended Figures
-pass_left edition job l = left_by edition job l (figures_of edition done (first_pass edition job) (first_pass edition job ∷ [])) (first_pass edition job)
+pass_left edition job l = left_by edition job l (figures_of done (first_pass edition job) (first_pass edition job ∷ [])) (first_pass edition job)
 
--- the figures of a pass by an edition from its record, the cut before, and what could not be read
-abbrev pub figures_from : ℕ → ℕ → ℕ → ℕ → Progress → Figures
-figures_from edition before unread holding q = record {
+-- the figures of a pass from its record, the cut before, and what could not be read
+abbrev pub figures_from : ℕ → ℕ → ℕ → Progress → Figures
+figures_from before unread holding q = record {
   verdict = done;
   before = before;
   cut = q.least;
   size = q.atbest;
   tried = q.moves;
   kept = q.best;
-  scans = shown_of edition q.scans;
-  visits = shown_of edition q.visits;
+  scans = q.scans;
+  visits = q.visits;
   unread = unread;
   holding = holding;
 }

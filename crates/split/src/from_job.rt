@@ -15,7 +15,7 @@ use tables::Extent;
 pub(crate) fn check_edition(edition: u16) -> Verdict
     ensures { result ≡ check_edition edition }
 {
-    refuse_if(!((edition == 1) | (edition == 2) | (edition == 3)), 32, 0)
+    refuse_if(!((edition == 1) | (edition == 2)), 32, 0)
 }
 
 // Den, and typeof.num.W and den times the tolerance.

@@ -1,4 +1,4 @@
-// Edition 2's buckets in the scratch of a pass: entered before the first move, asked for the choice, kept up after each move. By editions 1 and 3 nothing of it is done but the choice.
+// Edition 2's buckets in the scratch of a pass: entered before the first move, asked for the choice, kept up after each move. By edition 1 nothing of it is done.
 ghost use Rattle.std.specs.Prelude.{◌≡◌, ◌&&◌, ◌+◌, ◌-◌, ◌≤◌, ◌<◌, eqb, length, take, drop};
 ghost use Rattle.rules.specs.Lists.{AllBelow};
 ghost use Rattle.rules.specs.Job.{view_of};
@@ -11,7 +11,6 @@ use super::scan::is_changed;
 use buckets::{Shape, choose_front, enter_all, take_out, to_front};
 use choice::{Best, Window, choose};
 use job::{view, wide};
-use levels::choose_vector;
 use tables::{Extent, zones_of};
 
 // Where the links begin and end in the scratch: right behind the counts.
@@ -78,9 +77,6 @@ pub(crate) fn choose_by(
     requires { HasLinks edition extent.files extent.recipes extent.pins scratch.old }
     ensures { picked_is result scratch.new ≡ picked_by edition extent.files extent.recipes extent.pins window size sizes.now sides.now gains.now scratch.old }
 {
-    if edition == 3 {
-        return choose_vector(window, size, sizes, sides, gains, scratch, extent);
-    }
     if edition != 2 {
         return choose(window, size, sizes, sides, scratch, gains);
     }

@@ -71,11 +71,9 @@ pub fn pass_once(
         let chosen = choose_by(edition, scratch, window, size, sizes, sides, gains, extent);
         let f = chosen.file;
         if c <= f {
-            end_moves(
-                sides, tried, gained, cuts, ends, p.best, p.moves, c, edition,
-            );
+            end_moves(sides, tried, gained, cuts, ends, p.best, p.moves, c);
             end_scans(recipes, kinds, scratch, p.scans, edition, extent);
-            return p.figures(edition, s.cut, s.unread, s.holding);
+            return p.figures(s.cut, s.unread, s.holding);
         }
         let at = p.moves;
         let listed = p.scans;

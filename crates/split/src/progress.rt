@@ -6,7 +6,6 @@ ghost use Rattle.split.specs.Moving.{begun, shifted_to, counted_on};
 ghost use Rattle.split.specs.Playing.{figures_from, balanced_from};
 
 use rules::{BalanceFigures, Figures, Verdict};
-use tables::shown;
 
 #[derive(Drop)]
 pub(crate) struct Progress {
@@ -71,8 +70,8 @@ impl Progress {
     }
 
     // The figures of the pass, once its moves have ended; what could not be read is the job's.
-    pub fn figures(self, edition: u16, before: usize, unread: usize, holding: usize) -> Figures
-        ensures { result ≡ figures_from edition before unread holding self }
+    pub fn figures(self, before: usize, unread: usize, holding: usize) -> Figures
+        ensures { result ≡ figures_from before unread holding self }
     {
         let verdict = Verdict {
             number: 0,
@@ -85,8 +84,8 @@ impl Progress {
             size: self.atbest,
             tried: self.moves as u64,
             kept: self.best as u64,
-            scans: shown(edition, self.scans) as u64,
-            visits: shown(edition, self.visits as usize) as u64,
+            scans: self.scans as u64,
+            visits: self.visits,
             unread,
             holding,
         }

@@ -27,8 +27,8 @@ use Rattle.stored.proofs.Readings.{first-written}
 
 -- ---- the job in the first entries of the lists
 
-pub figures-whole : (figures : Figures) (h : Header) → (figures.num ≡ h.num) × (figures.den ≡ h.den) × (figures.k ≡ h.k) → figures ≡ figures_in h
-figures-whole figures h e = λ i. record { num = e.0 i; den = e.1 i; k = e.2 i }
+pub figures-whole : (figures : Figures) (h : Header) → (figures.num ≡ h.num) × (figures.den ≡ h.den) × (figures.cap ≡ h.cap) × (figures.k ≡ h.k) → figures ≡ figures_in h
+figures-whole figures h e = λ i. record { num = e.0 i; den = e.1 i; cap = e.2 i; k = e.3 i }
 
 -- the figures of the header are those of the job
 pub first-whole : (h : Header) (lists : Room) (figures : Figures) → figures ≡ figures_in h

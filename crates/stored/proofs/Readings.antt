@@ -17,7 +17,7 @@ use Rattle.rules.specs.Lists.{onto}
 use Rattle.rules.specs.Job.{Job, Limits}
 use Rattle.rules.specs.Check.{refuse_if, ◌or_else◌, bad_k, check_counts, check_contents, «measure»}
 use Rattle.rules.specs.Report.{all_room}
-use Rattle.rules.specs.Stored.{Room, Reading, block_at, header_of, header_values, bounds_at, pins_at, block_count, roomy, has_cap, job_of, block_verdict, blocks_verdict, layout_verdict, read_verdict, written, no_header, reading}
+use Rattle.rules.specs.Stored.{Room, Reading, block_at, header_of, header_values, bounds_at, pins_at, block_count, roomy, job_of, block_verdict, blocks_verdict, layout_verdict, read_verdict, written, no_header, reading}
 use Rattle.rules.proofs.Tests.{and_yes, not-no}
 use Rattle.rules.proofs.Verdicts.{or_assoc, or-three, chain-stop, chain-go, refuse-stop, refuse-go, zero_of, passes-both, not-refused, measure-verdict, sound-contents}
 use Rattle.rules.proofs.SoundJob.{some_of, few-of, counts-pass}
@@ -48,7 +48,6 @@ module _ (most : Limits) (bytes : List ℕ) (room : Room) where
       let a : Verdict = refuse_if (ltb (length bytes) 512) 20 0 in
       let b : Verdict = block_verdict h bytes 0 in
       let w : Verdict = refuse_if (bad_k h.k) 22 0 in
-      let x : Verdict = refuse_if (has_cap h) 23 0 in
       let c : Verdict = check_counts most h.files h.recipes h.pins in
       let e : Verdict = refuse_if (not (roomy h room)) 3 0 in
       let f : Verdict = figures_verdict most h room in
@@ -57,8 +56,7 @@ module _ (most : Limits) (bytes : List ℕ) (room : Room) where
       (or-three a b (f or_else length-verdict) blocks-past
       ∙ ap (λ (v : Verdict). a or_else b or_else v)
       (or_assoc f length-verdict blocks-past
-      ∙ or_assoc w (x or_else c or_else e) (length-verdict or_else blocks-past)
-      ∙ ap (λ (v : Verdict). w or_else v) (or-three x c e (length-verdict or_else blocks-past)))
+      ∙ or-three w c e (length-verdict or_else blocks-past))
       ∙ sym (layout-chain most bytes room))
       ∙ sym (read-chain most bytes room)
 
@@ -70,8 +68,7 @@ module _ (most : Limits) (bytes : List ℕ) (room : Room) where
       let b = passes-both (block_verdict h bytes 0) _ a.1 in
       let c = passes-both (figures_verdict most h room) length-verdict b.1 in
       let w = passes-both (refuse_if (bad_k h.k) 22 0) _ c.0 in
-      let x = passes-both (refuse_if (has_cap h) 23 0) _ w.1 in
-      let d = counts-pass most h.files h.recipes h.pins (passes-both (check_counts most h.files h.recipes h.pins) _ x.1).0 in
+      let d = counts-pass most h.files h.recipes h.pins (passes-both (check_counts most h.files h.recipes h.pins) _ w.1).0 in
       let some = some_of h.files h.recipes d.0 in
       let few = few-of most h.files h.recipes h.pins d.1 in (
         eqb-true (length bytes) (512 * block_count h) (not-no _ (not-refused _ 19 0 c.1)),
@@ -116,6 +113,7 @@ first-written bytes old =
       pins = first (job_of bytes).pins old.pins (read-pins bytes) i;
       num = (header_of bytes).num;
       den = (header_of bytes).den;
+      cap = (header_of bytes).cap;
       k = (header_of bytes).k;
     }
   where

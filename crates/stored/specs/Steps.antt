@@ -6,7 +6,7 @@ use Rattle.rules.specs.declared.ReadFigures.{ReadFigures}
 use Rattle.job.specs.declared.Job.{Job as Figures}
 use Rattle.rules.specs.Job.{Job, Limits, as_job}
 use Rattle.rules.specs.Check.{is_done, refuse_if, ◌or_else◌, bad_k, check_counts}
-use Rattle.rules.specs.Stored.{Room, word, value_in, value, header_of, block_check, over_second, laid_out, block_count, block_verdict, job_of, roomy, has_cap, no_header}
+use Rattle.rules.specs.Stored.{Room, word, value_in, value, header_of, block_check, over_second, laid_out, block_count, block_verdict, job_of, roomy, no_header}
 use Rattle.stored.specs.declared.TakenUp.{TakenUp}
 use Rattle.stored.specs.Room.{lists_of}
 
@@ -82,11 +82,10 @@ pub record TakenFiles (bytes : List ℕ) (n : ℕ) (old new : Files) : Type 0 wh
   pub sides : Taken (stored_side bytes) n old.sides new.sides
   pub marks : Taken (stored_mark bytes) n old.marks new.marks
 
--- 22 for k, 23 for the cap, then 1 to 3, in the order of layout_verdict
+-- 22 for k, then 1 to 3, in the order of layout_verdict
 abbrev pub figures_verdict : Limits → Header → Room → Verdict
 figures_verdict most h room =
     refuse_if (bad_k h.k) 22 0
-    or_else refuse_if (has_cap h) 23 0
     or_else check_counts most h.files h.recipes h.pins
     or_else refuse_if (not (roomy h room)) 3 0
 
@@ -117,13 +116,13 @@ pub record Ample (c n p : ℕ) (r : Room) : Type 0 where
 
 -- the figures that a stored job's header has
 abbrev pub figures_in : Header → Figures
-figures_in h = record { num = h.num; den = h.den; k = h.k }
+figures_in h = record { num = h.num; den = h.den; cap = h.cap; k = h.k }
 
 -- the job of the first entries
 abbrev pub first_of : Header → Room → Job
 first_of h r =
     as_job (take h.files r.sizes) (take h.files r.sides) (take h.files r.marks) (take (h.recipes + 1) r.bounds) (take h.pins r.pins)
-    h.num h.den h.k
+    h.num h.den h.cap h.k
 
 -- the stored job stands in the first entries of the lists
 pub record Gathered (bytes : List ℕ) (h : Header) (r : Room) : Type 0 where

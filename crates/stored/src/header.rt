@@ -77,7 +77,7 @@ fn header_in(block: &[u8; 512]) -> Header
     }
 }
 
-// 22 for a k that is none, 23 for a cap, then 1 to 3, of the header's figures.
+// 22 for a k that is none, then 1 to 3, of the header's figures.
 fn figures_verdict(h: Header, lent: Lengths) -> Verdict
     ensures* { do ⌜ result ≡ figures_verdict (limits_of (← (⟦Job::MOST_FILES⟧).entry) (← (⟦Job::MOST_RECIPES⟧).entry) (← (⟦Job::MOST_PINS⟧).entry) (← (⟦Job::MOST_DEN⟧).entry)) h (room_long lent) ⌝ }
 {
@@ -85,7 +85,6 @@ fn figures_verdict(h: Header, lent: Lengths) -> Verdict
     let recipes = h.recipes as usize;
     let pins = h.pins as usize;
     let wrong = refuse_if(bad_k(h.k), 22, 0);
-    let capped = refuse_if(h.cap != 0, 23, 0);
     let counts = check_counts(files, recipes, pins);
     let roomy = (files <= lent.sizes)
         & (files <= lent.sides)
@@ -93,10 +92,10 @@ fn figures_verdict(h: Header, lent: Lengths) -> Verdict
         & (recipes + 1 <= lent.bounds)
         & (pins <= lent.pins);
     let short = refuse_if(!roomy, 3, 0);
-    or_else(wrong, or_else(capped, or_else(counts, short)))
+    or_else(wrong, or_else(counts, short))
 }
 
-// Block 0, filled, checked and then taken apart; its k is looked at first, since the count of its values goes by it. Then k, the cap, 1 to 3 and the total length by its header.
+// Block 0, filled, checked and then taken apart; its k is looked at first, since the count of its values goes by it. Then k, 1 to 3 and the total length by its header.
 pub(crate) fn opening(bytes: &[u8], lent: Lengths) -> ReadFigures
     ensures* { do ⌜ result ≡ answer_by (opening_verdict (limits_of (← (⟦Job::MOST_FILES⟧).entry) (← (⟦Job::MOST_RECIPES⟧).entry) (← (⟦Job::MOST_PINS⟧).entry) (← (⟦Job::MOST_DEN⟧).entry)) bytes.now (room_long lent)) (header_of bytes.now) ⌝ }
 {

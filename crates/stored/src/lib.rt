@@ -30,7 +30,7 @@ pub struct TakenUp {
 pub fn figures_of(h: Header) -> Job
     ensures { result ≡ figures_in h }
 {
-    Job::new(h.num, h.den, h.k)
+    Job::new(h.num, h.den, h.cap, h.k)
 }
 
 // 4 to 6, of the job in the first entries of the lists.

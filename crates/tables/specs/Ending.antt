@@ -1,5 +1,5 @@
--- A file turned over, moves taken back, and how many scans are told, on lists. Assumes nothing.
-use Rattle.std.specs.Prelude.{ℕ, zero, suc, ◌+◌, cond, List, get_or, set, eqb}
+-- A file turned over, and moves taken back, on lists. Assumes nothing.
+use Rattle.std.specs.Prelude.{ℕ, zero, suc, ◌+◌, List, get_or, set}
 use Rattle.rules.specs.Split.{other, side_of}
 
 -- the file changes its side
@@ -10,7 +10,3 @@ turned sides f = set sides f (other (side_of sides f))
 unfoldable pub back_to : List ℕ → ℕ → ℕ → List ℕ → List ℕ
 back_to tried best zero sides = sides
 back_to tried best (suc d) sides = back_to tried best d (turned sides (get_or tried (best + d) 0))
-
--- how many scans, ends or visits are told, of so many: by edition 3 none
-abbrev pub shown_of : ℕ → ℕ → ℕ
-shown_of edition count = cond (eqb edition 3) 0 count

@@ -5,7 +5,7 @@ ghost use Rattle.std.specs.Prelude.{◌≡◌, ◌-◌, ◌*◌, pos};
 ghost use Rattle.rules.specs.Split.{side_of};
 ghost use Rattle.rules.specs.Job.{scratch_numbers};
 ghost use Rattle.tables.specs.Clearing.{cleared_in};
-ghost use Rattle.tables.specs.Ending.{turned, back_to, shown_of};
+ghost use Rattle.tables.specs.Ending.{turned, back_to};
 
 use super::zones::{Extent, numbers_for, scans_for};
 use job::{entry_at, wide};
@@ -36,16 +36,6 @@ fn clear_signed(list: &mut [i32], from: usize, to: usize)
     }
 }
 
-// How many scans, ends or visits are told, of so many: by edition 3 none.
-pub fn shown(edition: u16, count: usize) -> usize
-    ensures { result ≡ shown_of edition count }
-{
-    if edition == 3 {
-        return 0;
-    }
-    count
-}
-
 // The moves from best on are taken back; the move lists end in zeros, from the number of moves up to the number of files.
 pub fn end_moves(
     sides: &mut [u16],
@@ -56,15 +46,14 @@ pub fn end_moves(
     best: usize,
     moves: usize,
     files: usize,
-    edition: u16,
 )
-    ensures { (sides.new ≡ back_to tried.old best (moves - best) sides.old) × (tried.new ≡ cleared_in moves files 0 tried.old) × (gained.new ≡ cleared_in moves files (pos 0) gained.old) × (cuts.new ≡ cleared_in moves files 0 cuts.old) × (ends.new ≡ cleared_in (shown_of edition moves) files 0 ends.old) }
+    ensures { (sides.new ≡ back_to tried.old best (moves - best) sides.old) × (tried.new ≡ cleared_in moves files 0 tried.old) × (gained.new ≡ cleared_in moves files (pos 0) gained.old) × (cuts.new ≡ cleared_in moves files 0 cuts.old) × (ends.new ≡ cleared_in moves files 0 ends.old) }
 {
     take_back(sides, tried, best, moves);
     clear(tried, moves, files);
     clear_signed(gained, moves, files);
     clear(cuts, moves, files);
-    clear(ends, shown(edition, moves), files);
+    clear(ends, moves, files);
 }
 
 // The scan lists end in zeros, from the number of scans up to 4N; all numbers of the scratch that the edition and the extent ask are zeros.
@@ -76,13 +65,12 @@ pub fn end_scans(
     edition: u16,
     extent: Extent,
 )
-    ensures { (recipes.new ≡ cleared_in (shown_of edition scans) (4 * extent.recipes) 0 recipes.old) × (kinds.new ≡ cleared_in (shown_of edition scans) (4 * extent.recipes) 0 kinds.old) × (scratch.new ≡ cleared_in 0 (scratch_numbers edition extent.pins extent.files extent.recipes) 0 scratch.old) }
+    ensures { (recipes.new ≡ cleared_in scans (4 * extent.recipes) 0 recipes.old) × (kinds.new ≡ cleared_in scans (4 * extent.recipes) 0 kinds.old) × (scratch.new ≡ cleared_in 0 (scratch_numbers edition extent.pins extent.files extent.recipes) 0 scratch.old) }
 {
     let most = scans_for(extent);
     let numbers = numbers_for(edition, extent);
-    let from = shown(edition, scans);
-    clear(recipes, from, most);
-    clear(kinds, from, most);
+    clear(recipes, scans, most);
+    clear(kinds, scans, most);
     clear(scratch, 0, numbers);
 }
 

@@ -13,7 +13,7 @@ ghost use Rattle.job.specs.Parts.{whole_job};
 ghost use Rattle.tables.specs.LentFits.{fits_of};
 ghost use Rattle.tables.specs.LayingOut.{LaysOut};
 
-pub use ending::{end_moves, end_scans, shown, turn};
+pub use ending::{end_moves, end_scans, turn};
 use job::{Job, Survey, recipe_count};
 pub use lent::ListLengths;
 use lent::lists_fit;

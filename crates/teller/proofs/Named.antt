@@ -30,12 +30,8 @@ module _ (word : List ℕ) (l : length word ≡ 1) where
     pub digit-two : get_or word 0 0 ≡ 50 → 2 ≡ edition_in word
     digit-two d = rw (ne_eqb (get_or word 0 0) 49 other, eq-eqb (get_or word 0 0) 50 d) at by-digit
 
-    module _ (neither : get_or word 0 0 ≢ 50) where
-      pub digit-three : get_or word 0 0 ≡ 51 → 3 ≡ edition_in word
-      digit-three d = rw (ne_eqb (get_or word 0 0) 49 other, ne_eqb (get_or word 0 0) 50 neither, eq-eqb (get_or word 0 0) 51 d) at by-digit
-
-      pub no_digit : get_or word 0 0 ≢ 51 → 0 ≡ edition_in word
-      no_digit n = rw (ne_eqb (get_or word 0 0) 49 other, ne_eqb (get_or word 0 0) 50 neither, ne_eqb (get_or word 0 0) 51 n) at by-digit
+    pub no_digit : get_or word 0 0 ≢ 50 → 0 ≡ edition_in word
+    no_digit n = rw (ne_eqb (get_or word 0 0) 49 other, ne_eqb (get_or word 0 0) 50 n) at by-digit
 
 module _ (words : ℕ) (word : List ℕ) (unsaid : ℕ) where
   pub named-unsaid : words < 2 → unsaid ≡ edition_named words word unsaid
@@ -55,21 +51,18 @@ module _ (words : ℕ) (word : List ℕ) (unsaid : ℕ) where
 
 only-digits : (word : List ℕ) (e : ℕ) → edition_in word ≡ e → e ≢ 0 → (is_edition e ≡ true) × (word ≡ digits e)
 only-digits [] e q n = absurd (n (sym q ∙ sym (other_length [] (λ l. omega arith))))
-only-digits (b ∷ []) e q n = go (eqb b 49) refl (eqb b 50) refl (eqb b 51) refl
+only-digits (b ∷ []) e q n = go (eqb b 49) refl (eqb b 50) refl
   where
-    go : (x : Bool) → eqb b 49 ≡ x → (y : Bool) → eqb b 50 ≡ y → (z : Bool) → eqb b 51 ≡ z → (is_edition e ≡ true) × (b ∷ [] ≡ digits e)
-    go true p y t z u =
+    go : (x : Bool) → eqb b 49 ≡ x → (y : Bool) → eqb b 50 ≡ y → (is_edition e ≡ true) × (b ∷ [] ≡ digits e)
+    go true p y t =
         let one : e ≡ 1 = sym q ∙ sym (digit-one (b ∷ []) refl (eqb-true b 49 p)) in
         rw (one, eqb-true b 49 p) (unfold digits_in in (refl, refl))
-    go false p true t z u =
+    go false p true t =
         let two : e ≡ 2 = sym q ∙ sym (digit-two (b ∷ []) refl (eqb-false b 49 p) (eqb-true b 50 t)) in
         rw (two, eqb-true b 50 t) (unfold digits_in in (refl, refl))
-    go false p false t true u =
-        let three : e ≡ 3 = sym q ∙ sym (digit-three (b ∷ []) refl (eqb-false b 49 p) (eqb-false b 50 t) (eqb-true b 51 u)) in
-        rw (three, eqb-true b 51 u) (unfold digits_in in (refl, refl))
-    go false p false t false u = absurd (n (sym q ∙ sym (no_digit (b ∷ []) refl (eqb-false b 49 p) (eqb-false b 50 t) (eqb-false b 51 u))))
+    go false p false t = absurd (n (sym q ∙ sym (no_digit (b ∷ []) refl (eqb-false b 49 p) (eqb-false b 50 t))))
 only-digits (b ∷ c ∷ bs) e q n = absurd (n (sym q ∙ sym (other_length (b ∷ c ∷ bs) (λ l. omega (arith, l)))))
 
 pub names-hold : NamesHold
 unfolding edition_in digits_in
-names-hold = record { one = refl; two = refl; three = refl; only = only-digits }
+names-hold = record { one = refl; two = refl; only = only-digits }

@@ -1,11 +1,11 @@
--- Which edition of the choice the arguments of a program name, 0 where they name none (document 02, orders 9 and 12). Assumes nothing.
+-- Which edition of the choice the arguments of a program name, 0 where they name none (document 02, order 9). Assumes nothing.
 use Rattle.std.specs.Prelude.{◌≡◌, ◌≢◌, ℕ, true, cond, List, length, get_or, ltb, eqb}
 use Rattle.rules.specs.Check.{is_edition}
 use Rattle.rules.specs.Report.{digits}
 
--- 1, 2 and 3 by their digits, and nothing else: not `01`, not `+1`, not an empty argument
+-- 1 and 2 by their digits, and nothing else: not `01`, not `+1`, not an empty argument
 abbrev pub of_digit : ℕ → ℕ
-of_digit b = cond (eqb b 49) 1 (cond (eqb b 50) 2 (cond (eqb b 51) 3 0))
+of_digit b = cond (eqb b 49) 1 (cond (eqb b 50) 2 0)
 
 unfoldable pub edition_in : List ℕ → ℕ
 edition_in word = cond (eqb (length word) 1) (of_digit (get_or word 0 0)) 0
@@ -20,5 +20,4 @@ edition_named words word unsaid = cond (ltb words 2) unsaid (cond (ltb 2 words) 
 pub record NamesHold : Type 0 where
   pub one : edition_in (digits 1) ≡ 1
   pub two : edition_in (digits 2) ≡ 2
-  pub three : edition_in (digits 3) ≡ 3
   pub only : (word : List ℕ) (e : ℕ) → edition_in word ≡ e → e ≢ 0 → (is_edition e ≡ true) × (word ≡ digits e)

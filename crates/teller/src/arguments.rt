@@ -16,9 +16,6 @@ fn edition_in(word: &[u8]) -> u16
     if digit == b'2' {
         return 2;
     }
-    if digit == b'3' {
-        return 3;
-    }
     0
 }
 

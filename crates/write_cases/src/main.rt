@@ -12,8 +12,8 @@ use rules::Verdict;
 // Room for one number more than the longest list of a job may have.
 const MOST: usize = job::Job::MOST_PINS + 1;
 
-// The longest output list of a call, a block longer than the largest job; and what each byte of one is before the call.
-const MOST_OUT: usize = layout::INPUT_BYTES;
+// The longest output list of a call, and what each byte of one is before the call.
+const MOST_OUT: usize = 20000;
 
 const FILLED: u8 = 165;
 
@@ -150,10 +150,10 @@ fn ask(
 }
 
 fn show_call() {
-    let mut figures = [0u16; 4];
+    let mut figures = [0u16; 5];
     frames::take_numbers(&mut figures);
-    let job = job::Job::new(figures[0], figures[1], figures[2]);
-    let length = least(wide(figures[3]), MOST_OUT);
+    let job = job::Job::new(figures[0], figures[1], figures[2], figures[3]);
+    let length = least(wide(figures[4]), MOST_OUT);
     let mut sizes = [0u16; MOST];
     let s = frames::take_numbers(&mut sizes);
     let mut sides = [0u16; MOST];
@@ -211,7 +211,7 @@ fn write_back(
         return;
     }
     let h = figures.header;
-    let job = job::Job::new(h.num, h.den, h.k);
+    let job = job::Job::new(h.num, h.den, h.cap, h.k);
     let w = writer::write(
         job,
         first(sizes, h.files, 0),

@@ -38,7 +38,7 @@ verdict-is most job out {lent = lent} e c w b f o =
     ∙ ap₂ ◌or_else◌ (e ∙ lists-only most job lent ∙ ap (check_sound most job) (w ∙ ap (λ (k : ℕ). eqb (length out) (512 * k)) c))
     (f ∙ ap (λ (x : Bool). refuse_if x 7 0) b)
 
--- the job, with its ratio and k from its header
+-- the job, with its ratio, cap and k from its header
 module _ (job : Job) {h : Header} (e : h ≡ header_for job) where
   abbrev own : Header → Job
   own k = job_with k job.sizes job.sides job.marks job.bounds job.pins

@@ -6,9 +6,9 @@ use Rattle.rules.specs.Job.{Job, as_job}
 use Rattle.rules.specs.Writing.{two_bytes, value_bytes, header_for}
 use Rattle.rules.specs.Theorems.{Binary}
 
--- the job of five lists and a header's ratio and k
+-- the job of five lists and a header's ratio, cap and k
 abbrev pub job_with : Header → List ℕ → List ℕ → List ℕ → List ℕ → List ℕ → Job
-job_with h sizes sides marks bounds pins = as_job sizes sides marks bounds pins h.num h.den h.k
+job_with h sizes sides marks bounds pins = as_job sizes sides marks bounds pins h.num h.den h.cap h.k
 
 -- h is the job's header, and a file's second value is not over 5
 pub record Writable (h : Header) (job : Job) : Type 0 where

@@ -24,7 +24,7 @@ fn header_for(job: Job, sizes: &[u16], bounds: &[u16], pins: &[u16]) -> Header
         pins: pins.len() as u16,
         num: job.num,
         den: job.den,
-        cap: 0,
+        cap: job.cap,
         k: job.k,
     }
 }

@@ -26,6 +26,9 @@ array-read-new-2 c = search rules
 array-read-new-3 : tie.Need-array-read-new-3
 array-read-new-3 c = search rules
 
+array-read-new-4 : tie.Need-array-read-new-4
+array-read-new-4 c = search rules
+
 new-requires : tie.Need-new-requires
 new-requires c κs = search rules
 
@@ -203,6 +206,7 @@ show-call-spec =
     array-read-new
     array-read-new-2
     array-read-new-3
+    array-read-new-4
     new-requires
     slice-aggregate-take-numbers-2
     take-numbers-requires-2

@@ -7,7 +7,7 @@ new-requires : tie.Need-new-requires
 new-requires c κs = search rules
 
 returns : tie.Need-returns
-returns c = figures-whole _ c.before.args.h c.new.ensures.0
+returns c = figures-whole _ c.before.args.h c.new.ensures
 
 pub figures-of-spec : {M : Type 1} → statement M
 figures-of-spec =

@@ -45,7 +45,7 @@ returns : tie.Need-returns
 returns c =
     let start = c.before.before.before.before.before.before.before.before.before.before.before.before.before.before.before.before.before.before.before.before.before.before.before.before.before.before.before.before.before.before.before.before.before.before.before.before.before.before.before.before.before.before.before in
     let t = c.before.before.report.ensures in
-    let e = run-printed start.args.edition (limits_of _ _ _ _) (as_job _ _ _ _ _ _ _ _) _ _ _ _ _ _ _ c.before.before.before.before.before.before.before.before.before.before.before.before.before.before.before.before.before.before.before.before.before.run.ensures start.requires.1 t.0 in
+    let e = run-printed start.args.edition (limits_of _ _ _ _) (as_job _ _ _ _ _ _ _ _ _) _ _ _ _ _ _ _ c.before.before.before.before.before.before.before.before.before.before.before.before.before.before.before.before.before.before.before.before.before.run.ensures start.requires.1 t.0 in
     let long = c.before.before.before.before.before.before.before.before.before.before.before.before.before.before.before.before.before.before.before.before.sides.given in
     (e.0, λ room. e.1 (t.1 (omega (arith, long, start.requires.0.1)) start.requires.0.2 (omega (arith, room, long, start.requires.0.1, start.requires.0.0))))
 

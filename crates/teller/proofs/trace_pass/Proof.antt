@@ -46,7 +46,7 @@ returns : tie.Need-returns
 returns c =
     let start = c.before.before.before.before.before.before.before.before.before.before.before.before.before.before.before.before.before.before.before.before.before.before.before.before.before.before.before.before.before.before.before.before.before.before.before.before.before.before.before.before.before.before.before.before.before.before.before.before.before.before in
     let t = c.before.before.trace.ensures in
-    let e = pass-printed start.args.edition (limits_of _ _ _ _) (as_job _ _ _ _ _ _ _ _) _ _ _ _ _ _ _ c.before.before.before.before.before.before.before.before.before.before.before.before.before.before.before.before.before.before.before.before.before.before.before.before.before.before.before.before.pass-once.ensures start.requires.1 t.0 in
+    let e = pass-printed start.args.edition (limits_of _ _ _ _) (as_job _ _ _ _ _ _ _ _ _) _ _ _ _ _ _ _ c.before.before.before.before.before.before.before.before.before.before.before.before.before.before.before.before.before.before.before.before.before.before.before.before.before.before.before.before.pass-once.ensures start.requires.1 t.0 in
     (e.0, λ room. e.1 (t.1 (e.3 ∙ start.requires.0.1) start.requires.0.2 e.2 (omega (arith, room, e.4, start.requires.0.0))))
 
 pub trace-pass-spec : {M : Type 1} → statement M

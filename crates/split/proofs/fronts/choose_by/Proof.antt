@@ -10,8 +10,8 @@ use Rattle.split.proofs.LinksLent.{lent_back, lent-read}
 use Rattle.split.proofs.fronts.choose_by.Statement.{statement}
 use Rattle.split.proofs.fronts.choose_by.Tie as tie
 
-choose-vector-requires : tie.Need-choose-vector-requires
-choose-vector-requires c κs = search rules
+choose-requires : tie.Need-choose-requires
+choose-requires c κs = search rules
 
 same_length : tie.Need-same-length
 same_length c = search rules
@@ -20,19 +20,7 @@ returns : tie.Need-returns
 unfolding picked_by
 returns c =
     let s = c.before.before.before.before.before.before in
-    rw c.before.before.if1.true (ap (λ (b : Best). picked_is b s.args.scratch.now) c.choose-vector.ensures)
-
-choose-requires : tie.Need-choose-requires
-choose-requires c κs = search rules
-
-same-length-2 : tie.Need-same-length-2
-same-length-2 c = search rules
-
-returns-2 : tie.Need-returns-2
-unfolding picked_by
-returns-2 c =
-    let s = c.before.before.before.before.before.before.before in
-    rw (ne_eqb _ 2 c.before.before.if2.true, ne_eqb _ 3 c.before.before.before.if1.false) (ap (λ (b : Best). picked_is b s.args.scratch.now) c.choose.ensures)
+    rw (ne_eqb _ 2 c.before.before.if1.true) (ap (λ (b : Best). picked_is b s.args.scratch.now) c.choose.ensures)
 
 links-of-requires : tie.Need-links-of-requires
 links-of-requires c κs = search rules
@@ -47,7 +35,7 @@ part-choose-front-start : tie.Need-slice-bounds-choose-front-start
 part-choose-front-start c = search rules
 
 part-choose-front-end : tie.Need-slice-bounds-choose-front-end
-part-choose-front-end c = omega (arith, c.before.before.before.before.before.before.requires c.before.if2.false, c.links-of.ensures.0, c.links-of.ensures.1)
+part-choose-front-end c = omega (arith, c.before.before.before.before.before.requires c.before.if1.false, c.links-of.ensures.0, c.links-of.ensures.1)
 
 shape-of-requires : tie.Need-shape-of-requires
 shape-of-requires c κs = search rules
@@ -55,18 +43,18 @@ shape-of-requires c κs = search rules
 choose-front-requires : tie.Need-choose-front-requires
 choose-front-requires c κs = search rules
 
-same-length-3 : tie.Need-same-length-3
-same-length-3 c = search rules
+same-length-2 : tie.Need-same-length-2
+same-length-2 c = search rules
 
-returns-3 : tie.Need-returns-3
+returns-2 : tie.Need-returns-2
 unfolding picked_by
-returns-3 c =
-    let s = c.before.before.before.before.before.before.before.before.before.before.before in
+returns-2 c =
+    let s = c.before.before.before.before.before.before.before.before.before.before in
     let a = s.args in
     let at = c.before.before.before.before.before.links-of in
     let shape = c.before.before.before.shape_of.ensures in
     let q = c.before.before.choose-front.ensures in
-    rw (eq-eqb _ 2 c.before.before.before.before.before.before.if2.false)
+    rw (eq-eqb _ 2 c.before.before.before.before.before.before.if1.false)
     (ap₂ picked_is
     (ap (λ (x : Chosen). x.best) q
     ∙ lent-read a.extent.files a.extent.recipes a.extent.pins a.scratch.now at.ensures.0 at.ensures.1
@@ -78,12 +66,9 @@ pub choose-by-spec : {M : Type 1} → statement M
 choose-by-spec =
     tie.close
     (tie.spec
-    choose-vector-requires
+    choose-requires
     same_length
     returns
-    choose-requires
-    same-length-2
-    returns-2
     links-of-requires
     mul-choose-front
     sub-choose-front
@@ -91,5 +76,5 @@ choose-by-spec =
     part-choose-front-end
     shape-of-requires
     choose-front-requires
-    same-length-3
-    returns-3)
+    same-length-2
+    returns-2)

@@ -21,17 +21,14 @@ bad-k-requires c κs = tt
 refuse-if-requires : tie.Need-refuse-if-requires
 refuse-if-requires c κs = tt
 
-refuse-if-requires-2 : tie.Need-refuse-if-requires-2
-refuse-if-requires-2 c κs = tt
-
 check-counts-requires : tie.Need-check-counts-requires
 check-counts-requires c κs = tt
 
 add-roomy : tie.Need-overflow-add-roomy
 add-roomy c = omega arith
 
-refuse-if-requires-3 : tie.Need-refuse-if-requires-3
-refuse-if-requires-3 c κs = tt
+refuse-if-requires-2 : tie.Need-refuse-if-requires-2
+refuse-if-requires-2 c κs = tt
 
 or-else-requires : tie.Need-or-else-requires
 or-else-requires c κs = tt
@@ -39,20 +36,15 @@ or-else-requires c κs = tt
 or-else-requires-2 : tie.Need-or-else-requires-2
 or-else-requires-2 c κs = tt
 
-or-else-requires-3 : tie.Need-or-else-requires-3
-or-else-requires-3 c κs = tt
-
 returns : tie.Need-returns
 returns c =
-    let s = c.before.before.before in
+    let s = c.before.before in
     let t = s.before.before.before.before.before.before in
-    let k = t.before.before.before in
+    let k = t.before in
     simp length-replicate
-    (c.or-else3.ensures
+    (c.or-else2.ensures
     ∙ ap₂ ◌or_else◌ (k.refuse-if.ensures ∙ ap (λ (b : Bool). refuse_if b 22 0) k.before.bad-k.ensures)
-    (c.before.or-else2.ensures
-    ∙ ap₂ ◌or_else◌ t.before.refuse-if2.ensures
-    (c.before.before.or_else.ensures ∙ ap₂ ◌or_else◌ t.check-counts.ensures s.refuse-if3.ensures)))
+    (c.before.or_else.ensures ∙ ap₂ ◌or_else◌ t.check-counts.ensures s.refuse-if2.ensures))
 
 pub figures-verdict-spec : {M : Type 1} → statement M
 figures-verdict-spec =
@@ -63,11 +55,9 @@ figures-verdict-spec =
     cast-pins
     bad-k-requires
     refuse-if-requires
-    refuse-if-requires-2
     check-counts-requires
     add-roomy
-    refuse-if-requires-3
+    refuse-if-requires-2
     or-else-requires
     or-else-requires-2
-    or-else-requires-3
     returns)

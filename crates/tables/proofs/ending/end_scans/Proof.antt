@@ -1,5 +1,5 @@
 -- `ending::end_scans` meets its contract. Assumes nothing.
-use mathlib.Core.Path.{ap, ap₂, ◌∙◌}
+use mathlib.Core.Path.{ap, ◌∙◌}
 use Prim.Native.Nat.{ℕ}
 use borrow.Author.Rules.{rules}
 use Rattle.tables.specs.Clearing.{cleared_in}
@@ -11,9 +11,6 @@ scans-for-requires c κs = search rules
 
 numbers-for-requires : tie.Need-numbers-for-requires
 numbers-for-requires c κs = search rules
-
-shown-requires : tie.Need-shown-requires
-shown-requires c κs = search rules
 
 clear-requires : tie.Need-clear-requires
 clear-requires c κs = search rules
@@ -35,12 +32,11 @@ same-length-3 c = search rules
 
 returns : tie.Need-returns
 returns c =
-    let s = c.before.before.before.before.before.before.before.before.before.before.before.before.before.before.before.before.before.before in
-    let scans = c.before.before.before.before.before.before.before.before.before.before.before.before.before.before.scans-for.ensures.0 in
-    let numbers = c.before.before.before.before.before.before.before.before.before.before.before.before.before.numbers-for.ensures.0 in
-    let from = c.before.before.before.before.before.before.before.before.before.before.before.before.shown.ensures in (
-      c.before.before.before.before.before.before.before.before.before.before.clear.ensures ∙ ap₂ (λ (i j : ℕ). cleared_in i j 0 s.args.recipes.now) from scans,
-      c.before.before.before.before.before.before.clear2.ensures ∙ ap₂ (λ (i j : ℕ). cleared_in i j 0 s.args.kinds.now) from scans,
+    let s = c.before.before.before.before.before.before.before.before.before.before.before.before.before.before.before.before.before in
+    let scans = c.before.before.before.before.before.before.before.before.before.before.before.before.before.scans-for.ensures.0 in
+    let numbers = c.before.before.before.before.before.before.before.before.before.before.before.before.numbers-for.ensures.0 in (
+      c.before.before.before.before.before.before.before.before.before.before.clear.ensures ∙ ap (λ (i : ℕ). cleared_in s.args.scans i 0 s.args.recipes.now) scans,
+      c.before.before.before.before.before.before.clear2.ensures ∙ ap (λ (i : ℕ). cleared_in s.args.scans i 0 s.args.kinds.now) scans,
       c.before.before.clear3.ensures ∙ ap (λ (i : ℕ). cleared_in 0 i 0 s.args.scratch.now) numbers,
     )
 
@@ -50,7 +46,6 @@ end-scans-spec =
     (tie.spec
     scans-for-requires
     numbers-for-requires
-    shown-requires
     clear-requires
     clear-requires-2
     clear-requires-3

@@ -1,4 +1,4 @@
-use Rattle.teller.proofs.Named.{other_length, digit-one, digit-two, digit-three, no_digit}
+use Rattle.teller.proofs.Named.{other_length, digit-one, digit-two, no_digit}
 use borrow.Author.Rules.{rules}
 use Rattle.teller.proofs.arguments.edition_in.Statement.{statement}
 use Rattle.teller.proofs.arguments.edition_in.Tie as tie
@@ -16,10 +16,7 @@ returns-3 : tie.Need-returns-3
 returns-3 c = digit-two c.before.before.before.before.args.word.now c.before.before.before.if1.false c.before.if2.false c.if3.true
 
 returns-4 : tie.Need-returns-4
-returns-4 c = digit-three c.before.before.before.before.before.args.word.now c.before.before.before.before.if1.false c.before.before.if2.false c.before.if3.false c.if4.true
-
-returns-5 : tie.Need-returns-5
-returns-5 c = no_digit c.before.before.before.before.before.args.word.now c.before.before.before.before.if1.false c.before.before.if2.false c.before.if3.false c.if4.false
+returns-4 c = no_digit c.before.before.before.before.args.word.now c.before.before.before.if1.false c.before.if2.false c.if3.false
 
 pub edition-in-spec : {M : Type 1} → statement M
-edition-in-spec = tie.close (tie.spec returns shared-slice-read-digit returns-2 returns-3 returns-4 returns-5)
+edition-in-spec = tie.close (tie.spec returns shared-slice-read-digit returns-2 returns-3 returns-4)

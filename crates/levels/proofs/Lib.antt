@@ -1,4 +1,0 @@
-pub mod Walked
-pub mod FilesPassed
-pub mod Shown
-pub mod Unique
