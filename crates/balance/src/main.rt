@@ -1,4 +1,6 @@
 // A stored job on standard input, and on standard output the stored job with a balanced start; its lines, or a refusal's line, go to standard error.
+#![tactic(auto)]
+
 use libc::{STDERR_FILENO, STDOUT_FILENO};
 
 fn main() {

@@ -4,7 +4,7 @@ ghost use Rattle.std.specs.Prelude.{◌≡◌, ◌+◌, ◌<◌};
 ghost use Rattle.buckets.specs.Slots.{levels, level_of, vault_at, head_at, back_at, top_at, fits_in, Fits};
 
 // The number of files, and the most that a gain can be.
-#[derive(Drop)]
+#[derive(Clone, Copy)]
 pub struct Shape {
     pub files: u16,
     pub most: u16,

@@ -1,4 +1,6 @@
 // Stored jobs on standard input, each after its name; on standard output each name, and the night's report of the job.
+#![tactic(auto)]
+
 use libc::STDOUT_FILENO;
 
 fn show_report() {

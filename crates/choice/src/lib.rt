@@ -1,5 +1,7 @@
 // The choice: which file is to move next, by the sizes, the sides, the locks and the gains as they stand.
 // Edition 1 is that of a pass; `heavy` has that of the balancing.
+#![tactic(auto)]
+
 mod edition1;
 mod heavy;
 mod window;

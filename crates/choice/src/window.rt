@@ -4,7 +4,7 @@ ghost use Rattle.rules.specs.Move.{distance};
 ghost use Rattle.choice.specs.Choosing.{size_by, dist_by, fit_files};
 
 // The balance window: den, and typeof.num.W and den times the tolerance, within which den·|A| must stay.
-#[derive(Drop)]
+#[derive(Clone, Copy)]
 pub struct Window {
     pub den: u16,
     pub aim: u64,

@@ -1,4 +1,6 @@
 // Two stored jobs, in the files that are named: the lines of their differences, or of a refusal, on standard output.
+#![tactic(auto)]
+
 ghost use Rattle.io.specs.Counts.{IsPrefixLen};
 
 use libc::STDOUT_FILENO;

@@ -2,6 +2,8 @@
 //
 // The lines of a call: `done` and the count, each record's four numbers, and whether the records
 // beyond are as before the call; or the refusal with its job and its count, and whether all are.
+#![tactic(auto)]
+
 ghost use Rattle.std.specs.Prelude.{◌≤◌};
 
 use job::wide;
@@ -17,7 +19,7 @@ const MOST_LIST: usize = comparer::MOST_DIFFERENCES + 9;
 const FILLED: u16 = 165;
 
 // What a call answered, and the list after it.
-#[derive(Drop)]
+#[derive(Clone, Copy)]
 struct Listed {
     answer: Compared,
     list: [Difference; MOST_LIST],
@@ -36,7 +38,7 @@ fn least(a: usize, b: usize) -> usize
 
 // The list's first n records are lent, and no other may change.
 fn compared<'o, 'n>(old: &'o [u8], new: &'n [u8], n: usize) -> Listed
-    requires* { do ⌜ n ≤ (← ⟦MOST_LIST⟧) ⌝ }
+    requires { n ≤ MOST_LIST }
 {
     let mut list = [Difference {
         what: FILLED,

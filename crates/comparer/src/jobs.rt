@@ -36,11 +36,11 @@ pub(crate) fn note_jobs(
     new_pins: &[u16],
     numbers: &mut [u16],
 ) -> usize
-    requires* fact { do ⌜ Exact (limits_of (← ⟦Job::MOST_FILES⟧) (← ⟦Job::MOST_RECIPES⟧) (← ⟦Job::MOST_PINS⟧) (← ⟦Job::MOST_DEN⟧)) h (room_of sizes.now sides.now marks.now bounds.now pins.now) ⌝ }
-    requires* fact_2 { do ⌜ Exact (limits_of (← ⟦Job::MOST_FILES⟧) (← ⟦Job::MOST_RECIPES⟧) (← ⟦Job::MOST_PINS⟧) (← ⟦Job::MOST_DEN⟧)) new (room_of new_sizes.now new_sides.now new_marks.now new_bounds.now new_pins.now) ⌝ }
-    requires* do_in_bounds { do ⌜ (← ⟦crate::NUMBERS⟧) ≤ length numbers.old ⌝ }
+    requires fact { Exact (limits_of Job.MOST_FILES Job.MOST_RECIPES Job.MOST_PINS Job.MOST_DEN) h (room_of sizes.now sides.now marks.now bounds.now pins.now) }
+    requires fact_2 { Exact (limits_of Job.MOST_FILES Job.MOST_RECIPES Job.MOST_PINS Job.MOST_DEN) new (room_of new_sizes.now new_sides.now new_marks.now new_bounds.now new_pins.now) }
+    requires do_in_bounds { NUMBERS ≤ length numbers.old }
     ensures noted { Noted 0 numbers.old (differences (job_in h (room_of sizes.now sides.now marks.now bounds.now pins.now)) (job_in new (room_of new_sizes.now new_sides.now new_marks.now new_bounds.now new_pins.now))) result numbers.new }
-    ensures* result_bound { do ⌜ result ≤ (← (⟦crate::MOST_DIFFERENCES⟧).entry) ⌝ }
+    ensures result_bound { result ≤ MOST_DIFFERENCES }
 {
     let mut count = note_header(numbers, h, new);
     count = note_files(

@@ -1,4 +1,6 @@
 // Two stored jobs' bytes in, their differences out: as records in a lent list, or as the bytes that a program writes.
+#![tactic(auto)]
+
 mod files;
 mod jobs;
 mod noting;
@@ -33,7 +35,7 @@ const LINE_BYTES: usize = 128;
 pub const TEXT_BYTES: usize = LINE_BYTES * (MOST_DIFFERENCES + 1);
 
 // What is to be stored of a comparison, and its answer.
-#[derive(Drop)]
+#[derive(Clone, Copy)]
 struct Fitted {
     answer: Compared,
     stored: usize,
@@ -52,8 +54,8 @@ fn refused(job: usize, verdict: Verdict) -> Compared
 
 // The differences of two jobs that were taken up, put into the numbers, and how many they are.
 fn note_taken(old: TakenUp, new: TakenUp, numbers: &mut [u16]) -> usize
-    requires* fact { do ⌜ Held (limits_of (← ⟦Job::MOST_FILES⟧) (← ⟦Job::MOST_RECIPES⟧) (← ⟦Job::MOST_PINS⟧) (← ⟦Job::MOST_DEN⟧)) old ⌝ }
-    requires* fact_2 { do ⌜ Held (limits_of (← ⟦Job::MOST_FILES⟧) (← ⟦Job::MOST_RECIPES⟧) (← ⟦Job::MOST_PINS⟧) (← ⟦Job::MOST_DEN⟧)) new ⌝ }
+    requires fact { Held (limits_of Job.MOST_FILES Job.MOST_RECIPES Job.MOST_PINS Job.MOST_DEN) old }
+    requires fact_2 { Held (limits_of Job.MOST_FILES Job.MOST_RECIPES Job.MOST_PINS Job.MOST_DEN) new }
     requires in_bounds { NUMBERS ≤ length numbers.old }
     ensures noted { Noted 0 numbers.old (differences (job_taken old) (job_taken new)) result numbers.new }
     ensures upper_bound { result ≤ MOST_DIFFERENCES }
@@ -98,7 +100,7 @@ fn note_taken(old: TakenUp, new: TakenUp, numbers: &mut [u16]) -> usize
 // The differences of two stored jobs, put into the numbers, and how many they are; or a refusal, job 1's first.
 fn find(old: &[u8], new: &[u8], numbers: &mut [u16]) -> Compared
     requires { NUMBERS ≤ length numbers.old }
-    ensures* result_value { do ⌜ result ≡ answer_of (limits_of (← (⟦Job::MOST_FILES⟧).entry) (← (⟦Job::MOST_RECIPES⟧).entry) (← (⟦Job::MOST_PINS⟧).entry) (← (⟦Job::MOST_DEN⟧).entry)) old.now new.now ⌝ }
+    ensures result_value { result ≡ answer_of (limits_of Job.MOST_FILES Job.MOST_RECIPES Job.MOST_PINS Job.MOST_DEN) old.now new.now }
     ensures found { Found (job_of old.now) (job_of new.now) result numbers.new }
 {
     let t = stored::take_up(old);
@@ -123,8 +125,8 @@ fn find(old: &[u8], new: &[u8], numbers: &mut [u16]) -> Compared
 
 // The same for a list of so many records: 30 where it is too short, and how many are to be stored.
 fn find_for<'o, 'n, 'w>(old: &'o [u8], new: &'n [u8], room: usize, numbers: &'w mut [u16]) -> Fitted
-    requires* { do ⌜ (← ⟦NUMBERS⟧) ≤ length numbers.old ⌝ }
-    ensures* { do ⌜ Fits (limits_of (← (⟦Job::MOST_FILES⟧).entry) (← (⟦Job::MOST_RECIPES⟧).entry) (← (⟦Job::MOST_PINS⟧).entry) (← (⟦Job::MOST_DEN⟧).entry)) old.now new.now room result.answer result.stored numbers.new ⌝ }
+    requires { NUMBERS ≤ length numbers.old }
+    ensures { Fits (limits_of Job.MOST_FILES Job.MOST_RECIPES Job.MOST_PINS Job.MOST_DEN) old.now new.now room result.answer result.stored numbers.new }
 {
     let found = find(old, new, numbers);
     let v = found.verdict;
@@ -184,7 +186,7 @@ fn store<'l, 'w>(list: &'l mut [Difference], numbers: &'w [u16], n: usize)
 
 // The differences of two stored jobs, as records at the start of the lent list; the answer and the list are those of the comparing, for every input.
 pub fn compare<'o, 'n, 'l>(old: &'o [u8], new: &'n [u8], list: &'l mut [Difference]) -> Compared
-    ensures* { do ⌜ comparing_of result list.new ≡ comparing (limits_of (← (⟦Job::MOST_FILES⟧).entry) (← (⟦Job::MOST_RECIPES⟧).entry) (← (⟦Job::MOST_PINS⟧).entry) (← (⟦Job::MOST_DEN⟧).entry)) old.now new.now list.old ⌝ }
+    ensures { comparing_of result list.new ≡ comparing (limits_of Job.MOST_FILES Job.MOST_RECIPES Job.MOST_PINS Job.MOST_DEN) old.now new.now list.old }
 {
     let mut numbers = [0u16; NUMBERS];
     let fitted = find_for(old, new, list.len(), &mut numbers);
@@ -194,7 +196,7 @@ pub fn compare<'o, 'n, 'l>(old: &'o [u8], new: &'n [u8], list: &'l mut [Differen
 
 // The lines of two stored jobs' differences, or of a refusal: what the program `compare` writes, for every two inputs.
 pub fn tell(old: &[u8], new: &[u8], out: &mut [u8]) -> Printed
-    ensures* out_after { do ⌜ «printed» result out.new ≡ into_room (compares (limits_of (← (⟦Job::MOST_FILES⟧).entry) (← (⟦Job::MOST_RECIPES⟧).entry) (← (⟦Job::MOST_PINS⟧).entry) (← (⟦Job::MOST_DEN⟧).entry)) old.now new.now) out.old ⌝ }
+    ensures out_after { «printed» result out.new ≡ into_room (compares (limits_of Job.MOST_FILES Job.MOST_RECIPES Job.MOST_PINS Job.MOST_DEN) old.now new.now) out.old }
     ensures answered { Answered TEXT_BYTES result.verdict out.old × Lendable result.bytes out.new }
 {
     let mut numbers = [0u16; NUMBERS];

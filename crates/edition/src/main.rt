@@ -1,4 +1,6 @@
 // The night's report by the edition that the one argument names: a stored job on standard input, its report on standard output.
+#![tactic(auto)]
+
 use libc::STDOUT_FILENO;
 
 fn main() {

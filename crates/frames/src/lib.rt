@@ -1,4 +1,6 @@
 // Test cases on standard input, as frames: a length in two bytes, low byte first, and so many bytes.
+#![tactic(auto)]
+
 ghost use Rattle.std.specs.Prelude.{◌≡◌, drop};
 ghost use Rattle.io.specs.Counts.{IsPrefixLen};
 ghost use Rattle.frames.specs.Numbers.{number_of, NumbersPut};

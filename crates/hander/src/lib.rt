@@ -1,4 +1,6 @@
 // A stored job's bytes in, the stored job with other sides out: those after its run, or those of a balanced start. What is refused is told in a line.
+#![tactic(auto)]
+
 ghost use Rattle.std.specs.Prelude.{◌≡◌, ◌≢◌, true, [], ◌+◌, ◌*◌, ◌≤◌};
 ghost use Rattle.rules.specs.Job.{limits_of, lent_of};
 ghost use Rattle.job.specs.Parts.{whole_job};
@@ -56,7 +58,7 @@ fn hand_blocks(
     room: &mut [u8],
     bytes: usize,
 ) -> Handed
-    requires* true_value { do ⌜ (check_written (limits_of (← ⟦Job::MOST_FILES⟧) (← ⟦Job::MOST_RECIPES⟧) (← ⟦Job::MOST_PINS⟧) (← ⟦Job::MOST_DEN⟧)) (whole_job job sizes.now sides.now marks.now bounds.now pins.now) true).number ≡ 0 ⌝ }
+    requires true_value { (check_written (limits_of Job.MOST_FILES Job.MOST_RECIPES Job.MOST_PINS Job.MOST_DEN) (whole_job job sizes.now sides.now marks.now bounds.now pins.now) true).number ≡ 0 }
     requires bytes_value { bytes ≡ 512 * block_count (header_for (whole_job job sizes.now sides.now marks.now bounds.now pins.now)) }
     ensures room_after { handing_of result room.new ≡ hand_into (made_out (whole_job job sizes.now sides.now marks.now bounds.now pins.now) []) room.old }
     ensures answered { Answered bytes result.verdict room.old }
@@ -100,10 +102,10 @@ fn resettle_run(
     room: &mut [u8],
     bytes: usize,
 ) -> Handed
-    requires* scratch_value { do ⌜ lent_of gains.old tried.old gained.old cuts.old ends.old recipes.old kinds.old scratch.old ≡ all_lent (limits_of (← ⟦Job::MOST_FILES⟧) (← ⟦Job::MOST_RECIPES⟧) (← ⟦Job::MOST_PINS⟧) (← ⟦Job::MOST_DEN⟧)) (whole_job job sizes.now sides.old marks.now bounds.now pins.now) ⌝ }
-    requires* fact { do ⌜ (bytes ≡ 512 * block_count (header_for (whole_job job sizes.now sides.old marks.now bounds.now pins.now))) × (bytes ≤ (← ⟦layout::INPUT_BYTES⟧)) ⌝ }
-    ensures* room_after { do ⌜ handing_of result room.new ≡ hand_into (run_out edition (limits_of (← (⟦Job::MOST_FILES⟧).entry) (← (⟦Job::MOST_RECIPES⟧).entry) (← (⟦Job::MOST_PINS⟧).entry) (← (⟦Job::MOST_DEN⟧).entry)) (whole_job job sizes.now sides.old marks.now bounds.now pins.now)) room.old ⌝ }
-    ensures* fact_2 { do ⌜ Answered (← (⟦layout::INPUT_BYTES⟧).entry) result.verdict room.old ⌝ }
+    requires scratch_value { lent_of gains.old tried.old gained.old cuts.old ends.old recipes.old kinds.old scratch.old ≡ all_lent (limits_of Job.MOST_FILES Job.MOST_RECIPES Job.MOST_PINS Job.MOST_DEN) (whole_job job sizes.now sides.old marks.now bounds.now pins.now) }
+    requires fact { (bytes ≡ 512 * block_count (header_for (whole_job job sizes.now sides.old marks.now bounds.now pins.now))) × (bytes ≤ layout.INPUT_BYTES) }
+    ensures room_after { handing_of result room.new ≡ hand_into (run_out edition (limits_of Job.MOST_FILES Job.MOST_RECIPES Job.MOST_PINS Job.MOST_DEN) (whole_job job sizes.now sides.old marks.now bounds.now pins.now)) room.old }
+    ensures fact_2 { Answered layout.INPUT_BYTES result.verdict room.old }
 {
     let answer = runs::run(
         edition, job, sizes, sides, marks, bounds, pins, gains, tried, gained, cuts, ends, recipes,
@@ -119,10 +121,10 @@ fn resettle_run(
 
 // The same of a job that was taken up, with lists of the hander's own.
 fn resettle_job(edition: u16, t: TakenUp, room: &mut [u8], bytes: usize) -> Handed
-    requires* fact { do ⌜ Held (limits_of (← ⟦Job::MOST_FILES⟧) (← ⟦Job::MOST_RECIPES⟧) (← ⟦Job::MOST_PINS⟧) (← ⟦Job::MOST_DEN⟧)) t ⌝ }
-    requires* fact_2 { do ⌜ (bytes ≡ 512 * block_count (header_for (job_taken t))) × (bytes ≤ (← ⟦layout::INPUT_BYTES⟧)) ⌝ }
-    ensures* room_after { do ⌜ handing_of result room.new ≡ hand_into (run_out edition (limits_of (← (⟦Job::MOST_FILES⟧).entry) (← (⟦Job::MOST_RECIPES⟧).entry) (← (⟦Job::MOST_PINS⟧).entry) (← (⟦Job::MOST_DEN⟧).entry)) (job_taken t)) room.old ⌝ }
-    ensures* fact_3 { do ⌜ Answered (← (⟦layout::INPUT_BYTES⟧).entry) result.verdict room.old ⌝ }
+    requires fact { Held (limits_of Job.MOST_FILES Job.MOST_RECIPES Job.MOST_PINS Job.MOST_DEN) t }
+    requires fact_2 { (bytes ≡ 512 * block_count (header_for (job_taken t))) × (bytes ≤ layout.INPUT_BYTES) }
+    ensures room_after { handing_of result room.new ≡ hand_into (run_out edition (limits_of Job.MOST_FILES Job.MOST_RECIPES Job.MOST_PINS Job.MOST_DEN) (job_taken t)) room.old }
+    ensures fact_3 { Answered layout.INPUT_BYTES result.verdict room.old }
 {
     let read = t.read;
     let h = read.header;
@@ -166,8 +168,8 @@ fn resettle_job(edition: u16, t: TakenUp, room: &mut [u8], bytes: usize) -> Hand
 
 // The stored job with the sides after its run by an edition, or a refusal's line: what the program `resettle` writes to standard output and to standard error, for every input.
 pub fn resettle(edition: u16, input: &[u8], room: &mut [u8]) -> Handed
-    ensures* room_after { do ⌜ handing_of result room.new ≡ hand_into (resettles edition (limits_of (← (⟦Job::MOST_FILES⟧).entry) (← (⟦Job::MOST_RECIPES⟧).entry) (← (⟦Job::MOST_PINS⟧).entry) (← (⟦Job::MOST_DEN⟧).entry)) input.now) room.old ⌝ }
-    ensures* fact { do ⌜ Answered (← (⟦layout::INPUT_BYTES⟧).entry) result.verdict room.old × BothLendable result.output result.errors room.new ⌝ }
+    ensures room_after { handing_of result room.new ≡ hand_into (resettles edition (limits_of Job.MOST_FILES Job.MOST_RECIPES Job.MOST_PINS Job.MOST_DEN) input.now) room.old }
+    ensures fact { Answered layout.INPUT_BYTES result.verdict room.old × BothLendable result.output result.errors room.new }
 {
     let t = stored::take_up(input);
     let read = t.read;
@@ -191,7 +193,7 @@ fn hand_made(
     room: &mut [u8],
     bytes: usize,
 ) -> Handed
-    requires* { do ⌜ Made (limits_of (← ⟦Job::MOST_FILES⟧) (← ⟦Job::MOST_RECIPES⟧) (← ⟦Job::MOST_PINS⟧) (← ⟦Job::MOST_DEN⟧)) answer (whole_job job sizes.now sides.now marks.now bounds.now pins.now) bytes ⌝ }
+    requires { Made (limits_of Job.MOST_FILES Job.MOST_RECIPES Job.MOST_PINS Job.MOST_DEN) answer (whole_job job sizes.now sides.now marks.now bounds.now pins.now) bytes }
     ensures room_after { handing_of result room.new ≡ hand_into (balanced_out answer (whole_job job sizes.now sides.now marks.now bounds.now pins.now)) room.old }
     ensures answered { Answered (bytes + LINES_BYTES) result.verdict room.old }
 {
@@ -235,9 +237,9 @@ fn balance_with(
     room: &mut [u8],
     bytes: usize,
 ) -> Handed
-    requires* scratch_value { do ⌜ scratch.old ≡ (all_lent (limits_of (← ⟦Job::MOST_FILES⟧) (← ⟦Job::MOST_RECIPES⟧) (← ⟦Job::MOST_PINS⟧) (← ⟦Job::MOST_DEN⟧)) (whole_job job sizes.now sides.old marks.now bounds.now pins.now)).scratch ⌝ }
-    requires* fact { do ⌜ (bytes ≡ 512 * block_count (header_for (whole_job job sizes.now sides.old marks.now bounds.now pins.now))) × (bytes ≤ (← ⟦layout::INPUT_BYTES⟧)) ⌝ }
-    ensures* room_after { do ⌜ handing_of result room.new ≡ hand_into (balancing_out (limits_of (← (⟦Job::MOST_FILES⟧).entry) (← (⟦Job::MOST_RECIPES⟧).entry) (← (⟦Job::MOST_PINS⟧).entry) (← (⟦Job::MOST_DEN⟧).entry)) (whole_job job sizes.now sides.old marks.now bounds.now pins.now)) room.old ⌝ }
+    requires scratch_value { scratch.old ≡ (all_lent (limits_of Job.MOST_FILES Job.MOST_RECIPES Job.MOST_PINS Job.MOST_DEN) (whole_job job sizes.now sides.old marks.now bounds.now pins.now)).scratch }
+    requires fact { (bytes ≡ 512 * block_count (header_for (whole_job job sizes.now sides.old marks.now bounds.now pins.now))) × (bytes ≤ layout.INPUT_BYTES) }
+    ensures room_after { handing_of result room.new ≡ hand_into (balancing_out (limits_of Job.MOST_FILES Job.MOST_RECIPES Job.MOST_PINS Job.MOST_DEN) (whole_job job sizes.now sides.old marks.now bounds.now pins.now)) room.old }
     ensures answered { Answered ROOM_BYTES result.verdict room.old }
 {
     let answer = split::balance(job, sizes, sides, marks, bounds, pins, scratch);
@@ -250,10 +252,10 @@ fn balance_with(
 
 // The same of a job that was taken up, with a scratch of the hander's own.
 fn balance_job(t: TakenUp, room: &mut [u8], bytes: usize) -> Handed
-    requires* fact { do ⌜ Held (limits_of (← ⟦Job::MOST_FILES⟧) (← ⟦Job::MOST_RECIPES⟧) (← ⟦Job::MOST_PINS⟧) (← ⟦Job::MOST_DEN⟧)) t ⌝ }
-    requires* fact_2 { do ⌜ (bytes ≡ 512 * block_count (header_for (job_taken t))) × (bytes ≤ (← ⟦layout::INPUT_BYTES⟧)) ⌝ }
-    ensures* room_after { do ⌜ handing_of result room.new ≡ hand_into (balancing_out (limits_of (← (⟦Job::MOST_FILES⟧).entry) (← (⟦Job::MOST_RECIPES⟧).entry) (← (⟦Job::MOST_PINS⟧).entry) (← (⟦Job::MOST_DEN⟧).entry)) (job_taken t)) room.old ⌝ }
-    ensures* fact_3 { do ⌜ Answered (← (⟦ROOM_BYTES⟧).entry) result.verdict room.old ⌝ }
+    requires fact { Held (limits_of Job.MOST_FILES Job.MOST_RECIPES Job.MOST_PINS Job.MOST_DEN) t }
+    requires fact_2 { (bytes ≡ 512 * block_count (header_for (job_taken t))) × (bytes ≤ layout.INPUT_BYTES) }
+    ensures room_after { handing_of result room.new ≡ hand_into (balancing_out (limits_of Job.MOST_FILES Job.MOST_RECIPES Job.MOST_PINS Job.MOST_DEN) (job_taken t)) room.old }
+    ensures fact_3 { Answered ROOM_BYTES result.verdict room.old }
 {
     let read = t.read;
     let h = read.header;
@@ -283,7 +285,7 @@ fn balance_job(t: TakenUp, room: &mut [u8], bytes: usize) -> Handed
 // The stored job with a balanced start and the lines that tell of it, or a refusal's line: what the program `balance` writes to standard output and to standard error, for
 // every input.
 pub fn balance(input: &[u8], room: &mut [u8]) -> Handed
-    ensures* room_after { do ⌜ handing_of result room.new ≡ hand_into (balances (limits_of (← (⟦Job::MOST_FILES⟧).entry) (← (⟦Job::MOST_RECIPES⟧).entry) (← (⟦Job::MOST_PINS⟧).entry) (← (⟦Job::MOST_DEN⟧).entry)) input.now) room.old ⌝ }
+    ensures room_after { handing_of result room.new ≡ hand_into (balances (limits_of Job.MOST_FILES Job.MOST_RECIPES Job.MOST_PINS Job.MOST_DEN) input.now) room.old }
     ensures answered { Answered ROOM_BYTES result.verdict room.old × BothLendable result.output result.errors room.new }
 {
     let t = stored::take_up(input);

@@ -1,7 +1,7 @@
 pub mod Search
 pub mod AddingUp
 pub mod Walking
-pub mod Held
+pub mod HoldsOf
 pub mod OwnRecipe
 pub mod Whole
 pub mod Unique

@@ -16,7 +16,7 @@ use Rattle.rules.proofs.Tests.{and-false}
 use Rattle.rules.proofs.Views.{bounds-rise}
 use Rattle.rules.proofs.Searches.{lowest-le, some_at, Passed, passed_none, passed-end}
 use Rattle.job.specs.Pins.{onwards, bad_from, Held}
-use Rattle.job.proofs.Held.{held-since, held_none}
+use Rattle.job.proofs.HoldsOf.{held-since, held_none}
 use Rattle.job.proofs.Search.{part_end, part-hit}
 
 -- bounds that pass check 4

@@ -12,7 +12,7 @@ use crate::{Job, view};
 use rules::Verdict;
 
 // W, smax, |A|, the least and the most that it can be, and the numbers of free and of unread files.
-#[derive(Drop)]
+#[derive(Clone, Copy)]
 pub(crate) struct Totals {
     pub weight: u64,
     pub largest: u64,
@@ -24,7 +24,7 @@ pub(crate) struct Totals {
 }
 
 // The answer of a survey, where the verdict is done: W, the tolerance, |A|, the cut, and the numbers of unread files and of recipes that hold one.
-#[derive(Drop)]
+#[derive(Clone, Copy)]
 pub struct Survey {
     pub verdict: Verdict,
     pub weight: u64,
@@ -43,7 +43,7 @@ fn weight_of(size: u16, mark: u16) -> u64
 }
 
 fn with_file(t: Totals, size: u16, side: u16, mark: u16) -> Totals
-    requires* { do ⌜ Within t ((← ⟦Job::MOST_FILES⟧) * 65535) ⌝ }
+    requires { Within t (Job.MOST_FILES * 65535) }
     ensures { result ≡ with_file t size side mark }
 {
     let s = weight_of(size, mark);
@@ -61,7 +61,7 @@ fn with_file(t: Totals, size: u16, side: u16, mark: u16) -> Totals
 }
 
 pub(crate) fn totals_of(sizes: &[u16], sides: &[u16], marks: &[u16]) -> Totals
-    requires* sizes_bound { do ⌜ length sizes.now ≤ (← ⟦Job::MOST_FILES⟧) ⌝ }
+    requires sizes_bound { length sizes.now ≤ Job.MOST_FILES }
     requires sides_len { (length sides.now ≡ length sizes.now) × (length marks.now ≡ length sizes.now) }
     ensures { Added (of_files sizes.now sides.now marks.now) (length sizes.now) result }
 {
@@ -84,15 +84,15 @@ pub(crate) fn totals_of(sizes: &[u16], sides: &[u16], marks: &[u16]) -> Totals
 
 // k times smax.
 pub(crate) fn tolerance(job: Job, t: Totals) -> u64
-    requires* { do ⌜ Within t ((← ⟦Job::MOST_FILES⟧) * 65535) ⌝ }
-    ensures* { do ⌜ (result ≡ tolerance_by job t) × (result ≤ 65535 * ((← (⟦Job::MOST_FILES⟧).entry) * 65535)) ⌝ }
+    requires { Within t (Job.MOST_FILES * 65535) }
+    ensures { (result ≡ tolerance_by job t) × (result ≤ 65535 * (Job.MOST_FILES * 65535)) }
 {
     long(job.k) * t.largest
 }
 
 // Whether the most that |A| can be is large enough, and the least small enough: for a pass both are |A| itself.
 pub(crate) fn is_balanced(job: Job, t: Totals, least: u64, most: u64) -> bool
-    requires* { do ⌜ Within t ((← ⟦Job::MOST_FILES⟧) * 65535) × (least ≤ (← ⟦Job::MOST_FILES⟧) * 65535) × (most ≤ (← ⟦Job::MOST_FILES⟧) * 65535) ⌝ }
+    requires { Within t (Job.MOST_FILES * 65535) × (least ≤ Job.MOST_FILES * 65535) × (most ≤ Job.MOST_FILES * 65535) }
     ensures { result ≡ reaches job t least most }
 {
     let num = long(job.num);
@@ -104,7 +104,7 @@ pub(crate) fn is_balanced(job: Job, t: Totals, least: u64, most: u64) -> bool
 
 // Whether the window would allow a vault of size 0.
 pub(crate) fn may_empty(job: Job, t: Totals) -> bool
-    requires* { do ⌜ Within t ((← ⟦Job::MOST_FILES⟧) * 65535) ⌝ }
+    requires { Within t (Job.MOST_FILES * 65535) }
     ensures { result ≡ may_empty_by job t }
 {
     let den = long(job.den);

@@ -5,13 +5,13 @@ ghost use Rattle.job.specs.Holds.{with_pin, tally_of};
 use crate::numbers::{bit, entry_at, wide};
 
 // The readable files in a vault, and those of them that are locked.
-#[derive(Drop)]
+#[derive(Clone, Copy)]
 pub struct Held {
     pub all: usize,
     pub locked: usize,
 }
 
-#[derive(Drop)]
+#[derive(Clone, Copy)]
 pub struct Vaults {
     pub a: Held,
     pub b: Held,

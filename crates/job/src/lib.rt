@@ -1,4 +1,6 @@
 // The kind of job of document 01: its figures and limits, the view of a recipe, the check, the measure and the survey.
+#![tactic(auto)]
+
 mod bounds;
 mod figures;
 mod files;
@@ -23,7 +25,7 @@ use verdict::check_rest;
 pub use verdict::{bad_k, check_counts, check_sound, or_else, refuse_if};
 
 // What a job has besides its lists: the ratio num/den for A, the cap, and k of the tolerance.
-#[derive(Drop)]
+#[derive(Clone, Copy)]
 pub struct Job {
     pub num: u16,
     pub den: u16,
@@ -76,7 +78,7 @@ pub fn check(
     bounds: &[u16],
     pins: &[u16],
 ) -> Verdict
-    ensures* { do ⌜ result ≡ check_job (limits_of (← (⟦Job::MOST_FILES⟧).entry) (← (⟦Job::MOST_RECIPES⟧).entry) (← (⟦Job::MOST_PINS⟧).entry) (← (⟦Job::MOST_DEN⟧).entry)) (whole_job job sizes.now sides.now marks.now bounds.now pins.now) ⌝ }
+    ensures { result ≡ check_job (limits_of Job.MOST_FILES Job.MOST_RECIPES Job.MOST_PINS Job.MOST_DEN) (whole_job job sizes.now sides.now marks.now bounds.now pins.now) }
 {
     let v = check_sound(sizes, sides, marks, bounds, pins, true);
     if v.number != 0 {
@@ -94,7 +96,7 @@ pub fn measure(
     bounds: &[u16],
     pins: &[u16],
 ) -> Measure
-    ensures* { do ⌜ result ≡ «measure» (limits_of (← (⟦Job::MOST_FILES⟧).entry) (← (⟦Job::MOST_RECIPES⟧).entry) (← (⟦Job::MOST_PINS⟧).entry) (← (⟦Job::MOST_DEN⟧).entry)) (whole_job job sizes.now sides.now marks.now bounds.now pins.now) ⌝ }
+    ensures { result ≡ «measure» (limits_of Job.MOST_FILES Job.MOST_RECIPES Job.MOST_PINS Job.MOST_DEN) (whole_job job sizes.now sides.now marks.now bounds.now pins.now) }
 {
     let verdict = check_sound(sizes, sides, marks, bounds, pins, true);
     if verdict.number != 0 {
@@ -127,7 +129,7 @@ pub fn survey(
     lent: bool,
     balancing: bool,
 ) -> Survey
-    ensures* { do ⌜ result ≡ survey_of balancing (limits_of (← (⟦Job::MOST_FILES⟧).entry) (← (⟦Job::MOST_RECIPES⟧).entry) (← (⟦Job::MOST_PINS⟧).entry) (← (⟦Job::MOST_DEN⟧).entry)) (whole_job job sizes.now sides.now marks.now bounds.now pins.now) lent ⌝ }
+    ensures { result ≡ survey_of balancing (limits_of Job.MOST_FILES Job.MOST_RECIPES Job.MOST_PINS Job.MOST_DEN) (whole_job job sizes.now sides.now marks.now bounds.now pins.now) lent }
 {
     let v = check_sound(sizes, sides, marks, bounds, pins, lent);
     if v.number != 0 {

@@ -39,7 +39,7 @@ fn first_bad_in(files: usize, pins: &[u16], held: &mut [usize], a: usize, e: usi
 
 // The lowest bad pin, or P.
 pub(crate) fn first_bad_pin(sizes: &[u16], bounds: &[u16], pins: &[u16]) -> usize
-    requires* { do ⌜ (length sizes.now ≤ (← ⟦Job::MOST_FILES⟧)) × ((check_bounds (of_recipes bounds.now pins.now)).number ≡ 0) ⌝ }
+    requires { (length sizes.now ≤ Job.MOST_FILES) × ((check_bounds (of_recipes bounds.now pins.now)).number ≡ 0) }
     ensures { result ≡ lowest (bad_pin (of_pins sizes.now bounds.now pins.now)) (length pins.now) }
 {
     let n = recipe_count(bounds);

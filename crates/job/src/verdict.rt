@@ -38,7 +38,7 @@ pub fn or_else(v: Verdict, w: Verdict) -> Verdict
 
 // 1 and 2, asked of a stored job's header too.
 pub fn check_counts(files: usize, recipes: usize, pins: usize) -> Verdict
-    ensures* { do ⌜ result ≡ check_counts (limits_of (← (⟦Job::MOST_FILES⟧).entry) (← (⟦Job::MOST_RECIPES⟧).entry) (← (⟦Job::MOST_PINS⟧).entry) (← (⟦Job::MOST_DEN⟧).entry)) files recipes pins ⌝ }
+    ensures { result ≡ check_counts (limits_of Job.MOST_FILES Job.MOST_RECIPES Job.MOST_PINS Job.MOST_DEN) files recipes pins }
 {
     let none = refuse_if((files == 0) | (recipes == 0), 1, 0);
     let over = refuse_if(
@@ -80,7 +80,7 @@ fn check_bounds(bounds: &[u16], pins: &[u16]) -> Verdict
 
 // 5.
 fn check_pins(sizes: &[u16], bounds: &[u16], pins: &[u16]) -> Verdict
-    requires* { do ⌜ (length sizes.now ≤ (← ⟦Job::MOST_FILES⟧)) × ((check_bounds (of_recipes bounds.now pins.now)).number ≡ 0) ⌝ }
+    requires { (length sizes.now ≤ Job.MOST_FILES) × ((check_bounds (of_recipes bounds.now pins.now)).number ≡ 0) }
     ensures { result ≡ check_pins (of_pins sizes.now bounds.now pins.now) }
 {
     let k = first_bad_pin(sizes, bounds, pins);
@@ -105,7 +105,7 @@ pub fn bad_k(k: u16) -> bool
 
 // 7: the ratio, then k.
 fn check_ratio(job: Job) -> Verdict
-    ensures* { do ⌜ result ≡ check_ratio (limits_of (← (⟦Job::MOST_FILES⟧).entry) (← (⟦Job::MOST_RECIPES⟧).entry) (← (⟦Job::MOST_PINS⟧).entry) (← (⟦Job::MOST_DEN⟧).entry)) (of_figures job) ⌝ }
+    ensures { result ≡ check_ratio (limits_of Job.MOST_FILES Job.MOST_RECIPES Job.MOST_PINS Job.MOST_DEN) (of_figures job) }
 {
     let ratio = refuse_if(
         (job.num == 0) | (job.den <= job.num) | (Job::MOST_DEN < job.den),
@@ -124,7 +124,7 @@ fn check_lengths(
     pins: &[u16],
     lent: bool,
 ) -> Verdict
-    ensures* { do ⌜ result ≡ check_lengths (limits_of (← (⟦Job::MOST_FILES⟧).entry) (← (⟦Job::MOST_RECIPES⟧).entry) (← (⟦Job::MOST_PINS⟧).entry) (← (⟦Job::MOST_DEN⟧).entry)) (of_lists sizes.now sides.now marks.now bounds.now pins.now) lent ⌝ }
+    ensures { result ≡ check_lengths (limits_of Job.MOST_FILES Job.MOST_RECIPES Job.MOST_PINS Job.MOST_DEN) (of_lists sizes.now sides.now marks.now bounds.now pins.now) lent }
 {
     let counts = check_counts(sizes.len(), recipe_count(bounds), pins.len());
     or_else(counts, check_lists(sizes, sides, marks, lent))
@@ -138,7 +138,7 @@ fn check_contents(
     bounds: &[u16],
     pins: &[u16],
 ) -> Verdict
-    requires* fact { do ⌜ (1 < length bounds.now) × (length sizes.now ≤ (← ⟦Job::MOST_FILES⟧)) ⌝ }
+    requires fact { (1 < length bounds.now) × (length sizes.now ≤ Job.MOST_FILES) }
     requires sides_len { (length sides.now ≡ length sizes.now) × (length marks.now ≡ length sizes.now) }
     ensures { result ≡ check_contents (of_lists sizes.now sides.now marks.now bounds.now pins.now) }
 {
@@ -162,7 +162,7 @@ pub fn check_sound(
     pins: &[u16],
     lent: bool,
 ) -> Verdict
-    ensures* { do ⌜ result ≡ check_sound (limits_of (← (⟦Job::MOST_FILES⟧).entry) (← (⟦Job::MOST_RECIPES⟧).entry) (← (⟦Job::MOST_PINS⟧).entry) (← (⟦Job::MOST_DEN⟧).entry)) (of_lists sizes.now sides.now marks.now bounds.now pins.now) lent ⌝ }
+    ensures { result ≡ check_sound (limits_of Job.MOST_FILES Job.MOST_RECIPES Job.MOST_PINS Job.MOST_DEN) (of_lists sizes.now sides.now marks.now bounds.now pins.now) lent }
 {
     let v = check_lengths(sizes, sides, marks, bounds, pins, lent);
     if v.number != 0 {
@@ -173,7 +173,7 @@ pub fn check_sound(
 
 // 9: a pass is refused where |A| is not balanced, the balancing where it cannot be.
 fn check_start(job: Job, t: Totals, balancing: bool) -> Verdict
-    requires* { do ⌜ Within t ((← ⟦Job::MOST_FILES⟧) * 65535) ⌝ }
+    requires { Within t (Job.MOST_FILES * 65535) }
     ensures { GivesStart balancing job t result }
 {
     if balancing {
@@ -184,8 +184,8 @@ fn check_start(job: Job, t: Totals, balancing: bool) -> Verdict
 
 // 7, 8, 10 and 9, in this order: they need no list, only what its files add up to.
 pub(crate) fn check_rest(job: Job, t: Totals, balancing: bool) -> Verdict
-    requires* { do ⌜ Within t ((← ⟦Job::MOST_FILES⟧) * 65535) ⌝ }
-    ensures* { do ⌜ GivesRest balancing (limits_of (← (⟦Job::MOST_FILES⟧).entry) (← (⟦Job::MOST_RECIPES⟧).entry) (← (⟦Job::MOST_PINS⟧).entry) (← (⟦Job::MOST_DEN⟧).entry)) job t result ⌝ }
+    requires { Within t (Job.MOST_FILES * 65535) }
+    ensures { GivesRest balancing (limits_of Job.MOST_FILES Job.MOST_RECIPES Job.MOST_PINS Job.MOST_DEN) job t result }
 {
     let ratio = check_ratio(job);
     let free = refuse_if(t.free == 0, 8, 0);

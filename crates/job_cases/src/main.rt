@@ -3,6 +3,8 @@
 // The line of a job: the check's number and place, then the measure's number, place, cut, size of A, unread files and recipes
 // that hold one. The lines of a balancing: its number, place, moves, and the other four; the sides as it leaves them; the scratch.
 // The line of a list, as of a view: how many entries it has, then the entries.
+#![tactic(auto)]
+
 ghost use Rattle.std.specs.Prelude.{◌<◌};
 
 use libc::STDOUT_FILENO;

@@ -23,8 +23,8 @@ pub const INPUT_BYTES: usize = BLOCK_BYTES
 
 // That number, and that no stored job has as many bytes: a program takes up so many of its input, and no more.
 pub fn input_bytes() -> usize
-    ensures* result_value { do ⌜ result ≡ (← (⟦INPUT_BYTES⟧).entry) ⌝ }
-    ensures* lower_bound { do ⌜ most_bytes (limits_of (← (⟦Job::MOST_FILES⟧).entry) (← (⟦Job::MOST_RECIPES⟧).entry) (← (⟦Job::MOST_PINS⟧).entry) (← (⟦Job::MOST_DEN⟧).entry)) < result ⌝ }
+    ensures result_value { result ≡ INPUT_BYTES }
+    ensures lower_bound { most_bytes (limits_of Job.MOST_FILES Job.MOST_RECIPES Job.MOST_PINS Job.MOST_DEN) < result }
 {
     INPUT_BYTES
 }

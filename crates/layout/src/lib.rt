@@ -1,4 +1,6 @@
 // The layout of a stored job, which its reader and its writer share: document 01, "The stored job".
+#![tactic(auto)]
+
 mod block;
 mod kinds;
 

@@ -1,4 +1,6 @@
 // The night's program: a stored job on standard input, its report on standard output. It stays with edition 1 of the choice.
+#![tactic(auto)]
+
 use libc::STDOUT_FILENO;
 
 fn main() {

@@ -3,6 +3,8 @@
 // The lines of a call: its figures, and of a run the passes and whether it settled; the sides; the gain list; the four move lists; the two scan
 // lists; the scratch. Of a run that is shown in short only the figures, the sides, the gain list and the first move list. The line of a list: how many entries it
 // has, then the entries; of the scratch, for each stretch of equal numbers how many they are and the number.
+#![tactic(auto)]
+
 ghost use Rattle.std.specs.Prelude.{◌≤◌, ◌<◌, length};
 
 use job::Job;

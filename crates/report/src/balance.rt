@@ -19,7 +19,7 @@ pub(crate) fn put_balance(
     sides: &[u16],
     marks: &[u16],
 ) -> usize
-    requires* { do ⌜ EachFile (← ⟦Job::MOST_FILES⟧) sizes.now sides.now marks.now ⌝ }
+    requires { EachFile Job.MOST_FILES sizes.now sides.now marks.now }
     ensures laid { Laid 0 (balance_lines (of_files sizes.now marks.now) answer sides.now) out.old result out.new }
     ensures upper_bound { result ≤ figure_bytes }
 {

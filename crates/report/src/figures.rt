@@ -44,7 +44,7 @@ pub(crate) fn put_figures(
     sides: &[u16],
     marks: &[u16],
 ) -> usize
-    requires* { do ⌜ EachFile (← ⟦Job::MOST_FILES⟧) sizes.now sides.now marks.now ⌝ }
+    requires { EachFile Job.MOST_FILES sizes.now sides.now marks.now }
     ensures laid { Laid 0 (figure_lines (of_files sizes.now marks.now) r sides.now) out.old result out.new }
     ensures upper_bound { result ≤ report_bytes (length sides.now) }
 {

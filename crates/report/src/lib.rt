@@ -1,4 +1,6 @@
 // Answers as the exact bytes that a program prints.
+#![tactic(auto)]
+
 mod balance;
 mod differences;
 mod figures;
@@ -83,7 +85,7 @@ pub fn report(
     marks: &[u16],
     out: &mut [u8],
 ) -> Printed
-    ensures* out_after { do ⌜ printed result out.new ≡ reporting (limits_of (← (⟦Job::MOST_FILES⟧).entry) (← (⟦Job::MOST_RECIPES⟧).entry) (← (⟦Job::MOST_PINS⟧).entry) (← (⟦Job::MOST_DEN⟧).entry)) sizes.now marks.now answer sides.now out.old ⌝ }
+    ensures out_after { printed result out.new ≡ reporting (limits_of Job.MOST_FILES Job.MOST_RECIPES Job.MOST_PINS Job.MOST_DEN) sizes.now marks.now answer sides.now out.old }
     ensures enough { Enough (report_bytes (length sides.now)) result.verdict sizes.now sides.now marks.now out.old }
 {
     if answer.figures.verdict.number != 0 {
@@ -111,7 +113,7 @@ pub fn balanced(
     marks: &[u16],
     out: &mut [u8],
 ) -> Printed
-    ensures* out_after { do ⌜ printed result out.new ≡ balance_reporting (limits_of (← (⟦Job::MOST_FILES⟧).entry) (← (⟦Job::MOST_RECIPES⟧).entry) (← (⟦Job::MOST_PINS⟧).entry) (← (⟦Job::MOST_DEN⟧).entry)) sizes.now marks.now answer sides.now out.old ⌝ }
+    ensures out_after { printed result out.new ≡ balance_reporting (limits_of Job.MOST_FILES Job.MOST_RECIPES Job.MOST_PINS Job.MOST_DEN) sizes.now marks.now answer sides.now out.old }
     ensures enough { Enough figure_bytes result.verdict sizes.now sides.now marks.now out.old }
 {
     if answer.verdict.number != 0 {
@@ -147,7 +149,7 @@ pub fn trace(
     kinds: &[u16],
     out: &mut [u8],
 ) -> Printed
-    ensures* out_after { do ⌜ printed result out.new ≡ tracing (limits_of (← (⟦Job::MOST_FILES⟧).entry) (← (⟦Job::MOST_RECIPES⟧).entry) (← (⟦Job::MOST_PINS⟧).entry) (← (⟦Job::MOST_DEN⟧).entry)) sizes.now marks.now answer sides.now (listing_of gains.now tried.now gained.now cuts.now ends.now recipes.now kinds.now) out.old ⌝ }
+    ensures out_after { printed result out.new ≡ tracing (limits_of Job.MOST_FILES Job.MOST_RECIPES Job.MOST_PINS Job.MOST_DEN) sizes.now marks.now answer sides.now (listing_of gains.now tried.now gained.now cuts.now ends.now recipes.now kinds.now) out.old }
     ensures enough_told { EnoughTold result.verdict sizes.now answer sides.now marks.now (listing_of gains.now tried.now gained.now cuts.now ends.now recipes.now kinds.now) out.old }
 {
     if answer.verdict.number != 0 {
@@ -187,7 +189,7 @@ pub fn trace(
 // A comparison's answer told: a line for each record, which stands in the numbers, four to a record, or the refusal's line. The answer and the room are those of the
 // telling, for every input. The text is counted only once there are no more records than two jobs can have, so that the count is small.
 pub fn comparison(answer: Compared, numbers: &[u16], out: &mut [u8]) -> Printed
-    ensures* out_after { do ⌜ printed result out.new ≡ comparison_telling (limits_of (← (⟦Job::MOST_FILES⟧).entry) (← (⟦Job::MOST_RECIPES⟧).entry) (← (⟦Job::MOST_PINS⟧).entry) (← (⟦Job::MOST_DEN⟧).entry)) answer numbers.now out.old ⌝ }
+    ensures out_after { printed result out.new ≡ comparison_telling (limits_of Job.MOST_FILES Job.MOST_RECIPES Job.MOST_PINS Job.MOST_DEN) answer numbers.now out.old }
     ensures enough_lines { EnoughLines result.verdict answer numbers.now out.old }
 {
     if answer.verdict.number != 0 {

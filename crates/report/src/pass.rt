@@ -71,7 +71,7 @@ pub(crate) fn pass_verdict(
     recipes: &[u16],
     kinds: &[u16],
 ) -> Verdict
-    ensures* { do ⌜ result ≡ pass_verdict (← (⟦Job::MOST_FILES⟧).entry) sizes.now sides.now marks.now (holds_pass sizes.now answer (listing_of gains.now tried.now gained.now cuts.now ends.now recipes.now kinds.now)) ⌝ }
+    ensures { result ≡ pass_verdict Job.MOST_FILES sizes.now sides.now marks.now (holds_pass sizes.now answer (listing_of gains.now tried.now gained.now cuts.now ends.now recipes.now kinds.now)) }
 {
     let lengths = lengths_verdict(sizes, sides, marks);
     if lengths.number != 0 {
@@ -131,7 +131,7 @@ pub(crate) fn put_pass(
     recipes: &[u16],
     kinds: &[u16],
 ) -> usize
-    requires* fact { do ⌜ EachFile (← ⟦Job::MOST_FILES⟧) sizes.now sides.now marks.now ⌝ }
+    requires fact { EachFile Job.MOST_FILES sizes.now sides.now marks.now }
     requires kinds_value { holds_pass sizes.now f (listing_of gains.now tried.now gained.now cuts.now ends.now recipes.now kinds.now) ≡ true }
     ensures laid { Laid 0 (pass_lines (of_files sizes.now marks.now) f sides.now (listing_of gains.now tried.now gained.now cuts.now ends.now recipes.now kinds.now)) out.old result out.new }
     ensures upper_bound { result ≤ trace_bytes (length sizes.now) (length recipes.now) }

@@ -37,7 +37,7 @@ pub(crate) fn put_sides(out: &mut [u8], at: usize, sides: &[u16], marks: &[u16])
 
 // What the files on a side weigh: one that could not be read weighs nothing.
 pub(crate) fn size_on(sizes: &[u16], sides: &[u16], marks: &[u16], side: u16) -> u64
-    requires* { do ⌜ EachFile (← ⟦Job::MOST_FILES⟧) sizes.now sides.now marks.now ⌝ }
+    requires { EachFile Job.MOST_FILES sizes.now sides.now marks.now }
     ensures { result ≡ size_on (of_files sizes.now marks.now) side sides.now }
 {
     let mut sum: u64 = 0;

@@ -10,7 +10,7 @@ use rules::Verdict;
 
 // 2, or 3 for sides or marks that are not C long.
 pub(crate) fn lengths_verdict(sizes: &[u16], sides: &[u16], marks: &[u16]) -> Verdict
-    ensures* { do ⌜ result ≡ lengths_verdict (← (⟦Job::MOST_FILES⟧).entry) sizes.now sides.now marks.now ⌝ }
+    ensures { result ≡ lengths_verdict Job.MOST_FILES sizes.now sides.now marks.now }
 {
     let over = refuse_if(Job::MOST_FILES < sizes.len(), 2, 0);
     if over.number != 0 {
@@ -34,7 +34,7 @@ pub(crate) fn room_verdict(sides: &[u16], lent: bool) -> Verdict
 
 // 2 for more records than two jobs can have, or 3 for numbers that do not hold them.
 pub(crate) fn records_verdict(count: usize, numbers: usize) -> Verdict
-    ensures* { do ⌜ result ≡ records_verdict (limits_of (← (⟦Job::MOST_FILES⟧).entry) (← (⟦Job::MOST_RECIPES⟧).entry) (← (⟦Job::MOST_PINS⟧).entry) (← (⟦Job::MOST_DEN⟧).entry)) count numbers ⌝ }
+    ensures { result ≡ records_verdict (limits_of Job.MOST_FILES Job.MOST_RECIPES Job.MOST_PINS Job.MOST_DEN) count numbers }
 {
     if crate::MOST_DIFFERENCES < count {
         return Verdict {

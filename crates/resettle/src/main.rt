@@ -1,5 +1,7 @@
 // A stored job on standard input, and on standard output the stored job with the sides after its run; a refusal's line goes to standard error. The edition is the one
 // argument, and 1 without.
+#![tactic(auto)]
+
 use libc::{STDERR_FILENO, STDOUT_FILENO};
 
 fn main() {

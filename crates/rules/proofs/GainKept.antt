@@ -201,7 +201,7 @@ Fresh rs st g = (y : ℕ) → y < length g → lock_of st y ≡ 0 → get_or g y
 pub frees-take : {st : State} {fs : List ℕ} (k : ℕ) → Frees st fs → Frees st (take k fs)
 frees-take zero l = stop
 frees-take (suc k) stop = stop
-frees-take (suc k) (move a b e rest) = move a b e (frees-take k rest)
+frees-take {st} (suc k) (move {f = f} {fs = fs} a b e rest) = move a b e (frees-take {st = moved st f} k rest)
 
 pub after-binary : (st : State) (fs : List ℕ) → Frees st fs → Binary st.sides → Binary (after st fs).sides
 unfolding steps_by

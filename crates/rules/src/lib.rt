@@ -1,15 +1,16 @@
 // The answers of document 01's calls, as every crate hands them back; specs/ says what each holds.
 // Nothing runs here: the crate is the meaning of document 01 and the theorems about it.
+#![tactic(auto)]
 
 // A number for no and its place; 0 and 0 is done.
-#[derive(Drop)]
+#[derive(Clone, Copy)]
 pub struct Verdict {
     pub number: usize,
     pub place: usize,
 }
 
 // The measure: the cut and |A| of a job as it stands, and the numbers of unread files and of recipes that hold one.
-#[derive(Drop)]
+#[derive(Clone, Copy)]
 pub struct Measure {
     pub verdict: Verdict,
     pub cut: usize,
@@ -19,7 +20,7 @@ pub struct Measure {
 }
 
 // The answer of a pass: the cut before; the cut and |A| after; moves tried and kept, scans, visits; unread files and recipes that hold one.
-#[derive(Drop)]
+#[derive(Clone, Copy)]
 pub struct Figures {
     pub verdict: Verdict,
     pub before: usize,
@@ -34,7 +35,7 @@ pub struct Figures {
 }
 
 // The answer of a run: that of a pass, with the number of passes and settled besides.
-#[derive(Drop)]
+#[derive(Clone, Copy)]
 pub struct RunFigures {
     pub figures: Figures,
     pub passes: u64,
@@ -42,7 +43,7 @@ pub struct RunFigures {
 }
 
 // The seven figures of a stored job's header: C, N, P, num, den, cap, k.
-#[derive(Drop)]
+#[derive(Clone, Copy)]
 pub struct Header {
     pub files: u16,
     pub recipes: u16,
@@ -54,21 +55,21 @@ pub struct Header {
 }
 
 // The answer of reading.
-#[derive(Drop)]
+#[derive(Clone, Copy)]
 pub struct ReadFigures {
     pub verdict: Verdict,
     pub header: Header,
 }
 
 // The answer of making a report: how many bytes it has.
-#[derive(Drop)]
+#[derive(Clone, Copy)]
 pub struct Printed {
     pub verdict: Verdict,
     pub bytes: usize,
 }
 
 // The answer of a call that hands out: how many bytes go to standard output, and how many after them to standard error.
-#[derive(Drop)]
+#[derive(Clone, Copy)]
 pub struct Handed {
     pub verdict: Verdict,
     pub output: usize,
@@ -76,7 +77,7 @@ pub struct Handed {
 }
 
 // The answer of balancing: the moves made, and the cut and |A| after them; unread files and recipes that hold one.
-#[derive(Drop)]
+#[derive(Clone, Copy)]
 pub struct BalanceFigures {
     pub verdict: Verdict,
     pub moves: usize,
@@ -87,7 +88,7 @@ pub struct BalanceFigures {
 }
 
 // A difference of two jobs: what differs, its number, and the old and the new figure.
-#[derive(Drop)]
+#[derive(Clone, Copy)]
 pub struct Difference {
     pub what: u16,
     pub number: u16,
@@ -96,7 +97,7 @@ pub struct Difference {
 }
 
 // The answer of a comparison: the number of differences; or a refusal and the job that it is of, 1 or 2, or 0 where the lent list is too short, and then the number of records needed.
-#[derive(Drop)]
+#[derive(Clone, Copy)]
 pub struct Compared {
     pub job: usize,
     pub verdict: Verdict,

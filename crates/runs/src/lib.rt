@@ -1,4 +1,6 @@
 // A run of passes.
+#![tactic(auto)]
+
 mod sums;
 
 ghost use Rattle.std.specs.Prelude.{◌≡◌};
@@ -29,7 +31,7 @@ pub fn run(
     kinds: &mut [u16],
     scratch: &mut [u16],
 ) -> RunFigures
-    ensures* { do ⌜ ended_of result sides.new (lent_of gains.new tried.new gained.new cuts.new ends.new recipes.new kinds.new scratch.new) ≡ run_ends edition (limits_of (← (⟦Job::MOST_FILES⟧).entry) (← (⟦Job::MOST_RECIPES⟧).entry) (← (⟦Job::MOST_PINS⟧).entry) (← (⟦Job::MOST_DEN⟧).entry)) (whole_job job sizes.now sides.old marks.now bounds.now pins.now) (lent_of gains.old tried.old gained.old cuts.old ends.old recipes.old kinds.old scratch.old) ⌝ }
+    ensures { ended_of result sides.new (lent_of gains.new tried.new gained.new cuts.new ends.new recipes.new kinds.new scratch.new) ≡ run_ends edition (limits_of Job.MOST_FILES Job.MOST_RECIPES Job.MOST_PINS Job.MOST_DEN) (whole_job job sizes.now sides.old marks.now bounds.now pins.now) (lent_of gains.old tried.old gained.old cuts.old ends.old recipes.old kinds.old scratch.old) }
 {
     let mut sum = no_pass();
     while goes_on(job.cap, sum) {

@@ -40,8 +40,8 @@ fn balance_with(
     kinds: &mut [u16],
     scratch: &mut [u16],
 ) -> BalanceFigures
-    requires* { do ⌜ OwnLists (← ⟦Job::MOST_FILES⟧) (← ⟦Job::MOST_RECIPES⟧) (length sizes.now) (length gains.old) (length recipes.old) (length kinds.old) ⌝ }
-    ensures* { do ⌜ balancing_of result sides.new scratch.new ≡ «balancing» (limits_of (← (⟦Job::MOST_FILES⟧).entry) (← (⟦Job::MOST_RECIPES⟧).entry) (← (⟦Job::MOST_PINS⟧).entry) (← (⟦Job::MOST_DEN⟧).entry)) (whole_job job sizes.now sides.old marks.now bounds.now pins.now) scratch.old ⌝ }
+    requires { OwnLists Job.MOST_FILES Job.MOST_RECIPES (length sizes.now) (length gains.old) (length recipes.old) (length kinds.old) }
+    ensures { balancing_of result sides.new scratch.new ≡ «balancing» (limits_of Job.MOST_FILES Job.MOST_RECIPES Job.MOST_PINS Job.MOST_DEN) (whole_job job sizes.now sides.old marks.now bounds.now pins.now) scratch.old }
 {
     let c = sizes.len();
     let lists = ListLengths {
@@ -78,7 +78,7 @@ fn balance_with(
 
 // As many, but no more than the most files.
 fn within_most(files: usize) -> usize
-    ensures* { do ⌜ result ≡ min files (← (⟦Job::MOST_FILES⟧).entry) ⌝ }
+    ensures { result ≡ min files Job.MOST_FILES }
 {
     if Job::MOST_FILES < files {
         return Job::MOST_FILES;
@@ -96,7 +96,7 @@ pub fn balance(
     pins: &[u16],
     scratch: &mut [u16],
 ) -> BalanceFigures
-    ensures* { do ⌜ balancing_of result sides.new scratch.new ≡ «balancing» (limits_of (← (⟦Job::MOST_FILES⟧).entry) (← (⟦Job::MOST_RECIPES⟧).entry) (← (⟦Job::MOST_PINS⟧).entry) (← (⟦Job::MOST_DEN⟧).entry)) (whole_job job sizes.now sides.old marks.now bounds.now pins.now) scratch.old ⌝ }
+    ensures { balancing_of result sides.new scratch.new ≡ «balancing» (limits_of Job.MOST_FILES Job.MOST_RECIPES Job.MOST_PINS Job.MOST_DEN) (whole_job job sizes.now sides.old marks.now bounds.now pins.now) scratch.old }
 {
     let mut gains = [0i32; Job::MOST_FILES];
     let mut recipes = [0u16; MOST_SCANS];

@@ -38,7 +38,7 @@ fn way_to(extent: Extent, side: u16) -> Way
 }
 
 // Where a part of the scratch begins and ends, such as a file's cells.
-#[derive(Drop)]
+#[derive(Clone, Copy)]
 pub(crate) struct Span {
     pub from: usize,
     pub to: usize,

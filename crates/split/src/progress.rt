@@ -7,7 +7,7 @@ ghost use Rattle.split.specs.Playing.{figures_from, balanced_from};
 
 use rules::{BalanceFigures, Figures, Verdict};
 
-#[derive(Drop)]
+#[derive(Clone, Copy)]
 pub(crate) struct Progress {
     pub size: u64,
     pub cut: usize,

@@ -12,7 +12,7 @@ use job::wide;
 
 // The way of a move: the side moved to, and where the counts of the side moved to and of the side left begin in the scratch;
 // those of the locked files stand two lists further.
-#[derive(Drop)]
+#[derive(Clone, Copy)]
 pub(crate) struct Way {
     pub side: u16,
     pub files: usize,
@@ -22,7 +22,7 @@ pub(crate) struct Way {
 }
 
 // The kinds of a recipe's scans at a move: 1 or 2, and 3 or 4; 0 is none.
-#[derive(Drop)]
+#[derive(Clone, Copy)]
 pub(crate) struct Kinds {
     pub first: u16,
     pub second: u16,

@@ -11,7 +11,7 @@ use layout::{block_count, header_values, value_in};
 use rules::{Header, ReadFigures, Verdict};
 
 // How long the lent lists are.
-#[derive(Drop)]
+#[derive(Clone, Copy)]
 pub(crate) struct Lengths {
     pub(crate) sizes: usize,
     pub(crate) sides: usize,
@@ -79,7 +79,7 @@ fn header_in(block: &[u8; 512]) -> Header
 
 // 22 for a k that is none, then 1 to 3, of the header's figures.
 fn figures_verdict(h: Header, lent: Lengths) -> Verdict
-    ensures* { do ⌜ result ≡ figures_verdict (limits_of (← (⟦Job::MOST_FILES⟧).entry) (← (⟦Job::MOST_RECIPES⟧).entry) (← (⟦Job::MOST_PINS⟧).entry) (← (⟦Job::MOST_DEN⟧).entry)) h (room_long lent) ⌝ }
+    ensures { result ≡ figures_verdict (limits_of Job.MOST_FILES Job.MOST_RECIPES Job.MOST_PINS Job.MOST_DEN) h (room_long lent) }
 {
     let files = h.files as usize;
     let recipes = h.recipes as usize;
@@ -97,7 +97,7 @@ fn figures_verdict(h: Header, lent: Lengths) -> Verdict
 
 // Block 0, filled, checked and then taken apart; its k is looked at first, since the count of its values goes by it. Then k, 1 to 3 and the total length by its header.
 pub(crate) fn opening(bytes: &[u8], lent: Lengths) -> ReadFigures
-    ensures* { do ⌜ result ≡ answer_by (opening_verdict (limits_of (← (⟦Job::MOST_FILES⟧).entry) (← (⟦Job::MOST_RECIPES⟧).entry) (← (⟦Job::MOST_PINS⟧).entry) (← (⟦Job::MOST_DEN⟧).entry)) bytes.now (room_long lent)) (header_of bytes.now) ⌝ }
+    ensures { result ≡ answer_by (opening_verdict (limits_of Job.MOST_FILES Job.MOST_RECIPES Job.MOST_PINS Job.MOST_DEN) bytes.now (room_long lent)) (header_of bytes.now) }
 {
     if bytes.len() < 512 {
         return refused(refuse_if(true, 20, 0));

@@ -1,4 +1,6 @@
 // Reading a stored job: document 01, "The stored job".
+#![tactic(auto)]
+
 mod block;
 mod entries;
 mod header;
@@ -16,7 +18,7 @@ use job::Job;
 use rules::{Header, ReadFigures, Verdict};
 
 // A stored job that was taken up: what reading answers, and lists that are never too short, with the job in their first entries.
-#[derive(Drop)]
+#[derive(Clone, Copy)]
 pub struct TakenUp {
     pub read: ReadFigures,
     pub sizes: [u16; Job::MOST_FILES],
@@ -42,7 +44,7 @@ fn sound_verdict(
     bounds: &[u16],
     pins: &[u16],
 ) -> Verdict
-    requires* fact { do ⌜ Allowed (limits_of (← ⟦Job::MOST_FILES⟧) (← ⟦Job::MOST_RECIPES⟧) (← ⟦Job::MOST_PINS⟧) (← ⟦Job::MOST_DEN⟧)) h ⌝ }
+    requires fact { Allowed (limits_of Job.MOST_FILES Job.MOST_RECIPES Job.MOST_PINS Job.MOST_DEN) h }
     requires ample { Ample h.files h.recipes h.pins (room_of sizes.now sides.now marks.now bounds.now pins.now) }
     ensures { result ≡ check_contents (first_of h (room_of sizes.now sides.now marks.now bounds.now pins.now)) }
 {
@@ -71,8 +73,8 @@ fn take_job(
     bounds: &mut [u16],
     pins: &mut [u16],
 ) -> ReadFigures
-    requires* { do ⌜ Ample (← ⟦Job::MOST_FILES⟧) (← ⟦Job::MOST_RECIPES⟧) (← ⟦Job::MOST_PINS⟧) (room_of sizes.old sides.old marks.old bounds.old pins.old) ⌝ }
-    ensures* result_value { do ⌜ result ≡ (reading (limits_of (← (⟦Job::MOST_FILES⟧).entry) (← (⟦Job::MOST_RECIPES⟧).entry) (← (⟦Job::MOST_PINS⟧).entry) (← (⟦Job::MOST_DEN⟧).entry)) bytes.now (room_long lent)).answer ⌝ }
+    requires { Ample Job.MOST_FILES Job.MOST_RECIPES Job.MOST_PINS (room_of sizes.old sides.old marks.old bounds.old pins.old) }
+    ensures result_value { result ≡ (reading (limits_of Job.MOST_FILES Job.MOST_RECIPES Job.MOST_PINS Job.MOST_DEN) bytes.now (room_long lent)).answer }
     ensures gathered { result.verdict.number ≡ 0 → Gathered bytes.now result.header (room_of sizes.new sides.new marks.new bounds.new pins.new) }
 {
     let opened = opening(bytes, lent);
@@ -99,8 +101,8 @@ pub fn read(
     bounds: &mut [u16],
     pins: &mut [u16],
 ) -> ReadFigures
-    ensures* result_value { do ⌜ result ≡ (reading (limits_of (← (⟦Job::MOST_FILES⟧).entry) (← (⟦Job::MOST_RECIPES⟧).entry) (← (⟦Job::MOST_PINS⟧).entry) (← (⟦Job::MOST_DEN⟧).entry)) bytes.now (room_of sizes.old sides.old marks.old bounds.old pins.old)).answer ⌝ }
-    ensures* pins_after { do ⌜ room_of sizes.new sides.new marks.new bounds.new pins.new ≡ (reading (limits_of (← (⟦Job::MOST_FILES⟧).entry) (← (⟦Job::MOST_RECIPES⟧).entry) (← (⟦Job::MOST_PINS⟧).entry) (← (⟦Job::MOST_DEN⟧).entry)) bytes.now (room_of sizes.old sides.old marks.old bounds.old pins.old)).room ⌝ }
+    ensures result_value { result ≡ (reading (limits_of Job.MOST_FILES Job.MOST_RECIPES Job.MOST_PINS Job.MOST_DEN) bytes.now (room_of sizes.old sides.old marks.old bounds.old pins.old)).answer }
+    ensures pins_after { room_of sizes.new sides.new marks.new bounds.new pins.new ≡ (reading (limits_of Job.MOST_FILES Job.MOST_RECIPES Job.MOST_PINS Job.MOST_DEN) bytes.now (room_of sizes.old sides.old marks.old bounds.old pins.old)).room }
 {
     let lent = Lengths {
         sizes: sizes.len(),
@@ -140,8 +142,8 @@ pub fn read(
 
 // A stored job, read into lists of its own: the answer and the lists are those of the reading, for every input.
 pub fn take_up(bytes: &[u8]) -> TakenUp
-    ensures* read_value { do ⌜ result.read ≡ (taking_up (limits_of (← (⟦Job::MOST_FILES⟧).entry) (← (⟦Job::MOST_RECIPES⟧).entry) (← (⟦Job::MOST_PINS⟧).entry) (← (⟦Job::MOST_DEN⟧).entry)) bytes.now).answer ⌝ }
-    ensures* result_value { do ⌜ lists_of result ≡ (taking_up (limits_of (← (⟦Job::MOST_FILES⟧).entry) (← (⟦Job::MOST_RECIPES⟧).entry) (← (⟦Job::MOST_PINS⟧).entry) (← (⟦Job::MOST_DEN⟧).entry)) bytes.now).room ⌝ }
+    ensures read_value { result.read ≡ (taking_up (limits_of Job.MOST_FILES Job.MOST_RECIPES Job.MOST_PINS Job.MOST_DEN) bytes.now).answer }
+    ensures result_value { lists_of result ≡ (taking_up (limits_of Job.MOST_FILES Job.MOST_RECIPES Job.MOST_PINS Job.MOST_DEN) bytes.now).room }
 {
     let mut sizes = [0u16; Job::MOST_FILES];
     let mut sides = [0u16; Job::MOST_FILES];

@@ -5,7 +5,7 @@ use super::zones::{Extent, numbers_for, scans_for};
 use job::Job;
 
 // How long the lists of moves and of scans are.
-#[derive(Drop)]
+#[derive(Clone, Copy)]
 pub struct ListLengths {
     pub tried: usize,
     pub gained: usize,
@@ -26,7 +26,7 @@ pub(crate) fn lists_fit(
     scratch: usize,
     lists: ListLengths,
 ) -> bool
-    ensures* { do ⌜ WordOn (← (⟦Job::MOST_FILES⟧).entry) (← (⟦Job::MOST_RECIPES⟧).entry) (← (⟦Job::MOST_PINS⟧).entry) c n p result (fits_of edition c n p gains scratch lists) ⌝ }
+    ensures { WordOn Job.MOST_FILES Job.MOST_RECIPES Job.MOST_PINS c n p result (fits_of edition c n p gains scratch lists) }
 {
     if (Job::MOST_FILES < c) | (Job::MOST_RECIPES < n) | (Job::MOST_PINS < p) {
         return false;

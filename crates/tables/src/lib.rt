@@ -1,4 +1,6 @@
 // The lists that a pass works on: checked and laid out before the first move, a file turned over, moves taken back and the lists ended in zeros.
+#![tactic(auto)]
+
 mod cells;
 mod counts;
 mod ending;
@@ -35,7 +37,7 @@ pub fn lay_out(
     lists: ListLengths,
     balancing: bool,
 ) -> Survey
-    ensures* { do ⌜ LaysOut balancing (limits_of (← (⟦Job::MOST_FILES⟧).entry) (← (⟦Job::MOST_RECIPES⟧).entry) (← (⟦Job::MOST_PINS⟧).entry) (← (⟦Job::MOST_DEN⟧).entry)) (whole_job job sizes.now sides.now marks.now bounds.now pins.now) (fits_of edition (length sizes.now) (length bounds.now - 1) (length pins.now) (length gains.old) (length scratch.old) lists) gains.old scratch.old gains.new scratch.new result ⌝ }
+    ensures { LaysOut balancing (limits_of Job.MOST_FILES Job.MOST_RECIPES Job.MOST_PINS Job.MOST_DEN) (whole_job job sizes.now sides.now marks.now bounds.now pins.now) (fits_of edition (length sizes.now) (length bounds.now - 1) (length pins.now) (length gains.old) (length scratch.old) lists) gains.old scratch.old gains.new scratch.new result }
 {
     let fit = lists_fit(
         edition,

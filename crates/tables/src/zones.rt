@@ -6,7 +6,7 @@ ghost use Rattle.tables.specs.Zones.{counts_at, side_at, zones_of};
 use job::{Job, wide};
 
 // C, N and P of a job that is not refused.
-#[derive(Drop)]
+#[derive(Clone, Copy)]
 pub struct Extent {
     pub files: u16,
     pub recipes: u16,
@@ -14,7 +14,7 @@ pub struct Extent {
 }
 
 // Where the zones begin; the locks are the first C numbers.
-#[derive(Drop)]
+#[derive(Clone, Copy)]
 pub struct Zones {
     pub cells: usize,
     pub starts: usize,
@@ -49,7 +49,7 @@ pub const MOST_NUMBERS: usize = Job::MOST_PINS + 4 * Job::MOST_FILES + 8 * Job::
 
 pub(crate) fn numbers_for(edition: u16, extent: Extent) -> usize
     ensures value { result ≡ scratch_numbers edition extent.pins extent.files extent.recipes }
-    ensures* do_value { do ⌜ (← (⟦MOST_NUMBERS⟧).entry) ≡ scratch_numbers 2 (← (⟦Job::MOST_PINS⟧).entry) (← (⟦Job::MOST_FILES⟧).entry) (← (⟦Job::MOST_RECIPES⟧).entry) ⌝ }
+    ensures do_value { MOST_NUMBERS ≡ scratch_numbers 2 Job.MOST_PINS Job.MOST_FILES Job.MOST_RECIPES }
 {
     let counts = scans_for(extent);
     let numbers = wide(extent.pins) + 4 * wide(extent.files) + counts + 16;
@@ -64,7 +64,7 @@ pub const MOST_SCANS: usize = 4 * Job::MOST_RECIPES;
 
 pub(crate) fn scans_for(extent: Extent) -> usize
     ensures value { result ≡ 4 * extent.recipes }
-    ensures* do_value { do ⌜ (← (⟦MOST_SCANS⟧).entry) ≡ 4 * (← (⟦Job::MOST_RECIPES⟧).entry) ⌝ }
+    ensures do_value { MOST_SCANS ≡ 4 * Job.MOST_RECIPES }
 {
     4 * wide(extent.recipes)
 }

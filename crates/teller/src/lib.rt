@@ -1,4 +1,6 @@
 // A stored job's bytes in, the bytes that tell of it out: the night's report, or the trace of one pass, by an edition of the choice.
+#![tactic(auto)]
+
 mod arguments;
 
 ghost use Rattle.std.specs.Prelude.{◌≡◌, ◌≢◌, ◌≤◌, length};
@@ -75,9 +77,9 @@ fn report_run(
     scratch: &mut [u16],
     out: &mut [u8],
 ) -> Printed
-    requires* fact { do ⌜ (length sizes.now ≤ (← ⟦Job::MOST_FILES⟧)) × (length sides.old ≡ length sizes.now) × (length marks.now ≡ length sizes.now) ⌝ }
-    requires* scratch_value { do ⌜ lent_of gains.old tried.old gained.old cuts.old ends.old recipes.old kinds.old scratch.old ≡ all_lent (limits_of (← ⟦Job::MOST_FILES⟧) (← ⟦Job::MOST_RECIPES⟧) (← ⟦Job::MOST_PINS⟧) (← ⟦Job::MOST_DEN⟧)) (whole_job job sizes.now sides.old marks.now bounds.now pins.now) ⌝ }
-    ensures* out_after { do ⌜ «printed» result out.new ≡ into_room (run_report edition (limits_of (← (⟦Job::MOST_FILES⟧).entry) (← (⟦Job::MOST_RECIPES⟧).entry) (← (⟦Job::MOST_PINS⟧).entry) (← (⟦Job::MOST_DEN⟧).entry)) (whole_job job sizes.now sides.old marks.now bounds.now pins.now)) out.old ⌝ }
+    requires fact { (length sizes.now ≤ Job.MOST_FILES) × (length sides.old ≡ length sizes.now) × (length marks.now ≡ length sizes.now) }
+    requires scratch_value { lent_of gains.old tried.old gained.old cuts.old ends.old recipes.old kinds.old scratch.old ≡ all_lent (limits_of Job.MOST_FILES Job.MOST_RECIPES Job.MOST_PINS Job.MOST_DEN) (whole_job job sizes.now sides.old marks.now bounds.now pins.now) }
+    ensures out_after { «printed» result out.new ≡ into_room (run_report edition (limits_of Job.MOST_FILES Job.MOST_RECIPES Job.MOST_PINS Job.MOST_DEN) (whole_job job sizes.now sides.old marks.now bounds.now pins.now)) out.old }
     ensures answered { Answered TEXT_BYTES result.verdict out.old }
 {
     let f = runs::run(
@@ -89,9 +91,9 @@ fn report_run(
 
 // The same of a job that was taken up, with lists of the teller's own.
 fn report_job(edition: u16, t: TakenUp, out: &mut [u8]) -> Printed
-    requires* { do ⌜ Held (limits_of (← ⟦Job::MOST_FILES⟧) (← ⟦Job::MOST_RECIPES⟧) (← ⟦Job::MOST_PINS⟧) (← ⟦Job::MOST_DEN⟧)) t ⌝ }
-    ensures* out_after { do ⌜ «printed» result out.new ≡ into_room (run_report edition (limits_of (← (⟦Job::MOST_FILES⟧).entry) (← (⟦Job::MOST_RECIPES⟧).entry) (← (⟦Job::MOST_PINS⟧).entry) (← (⟦Job::MOST_DEN⟧).entry)) (job_taken t)) out.old ⌝ }
-    ensures* fact { do ⌜ Answered (← (⟦TEXT_BYTES⟧).entry) result.verdict out.old ⌝ }
+    requires { Held (limits_of Job.MOST_FILES Job.MOST_RECIPES Job.MOST_PINS Job.MOST_DEN) t }
+    ensures out_after { «printed» result out.new ≡ into_room (run_report edition (limits_of Job.MOST_FILES Job.MOST_RECIPES Job.MOST_PINS Job.MOST_DEN) (job_taken t)) out.old }
+    ensures fact { Answered TEXT_BYTES result.verdict out.old }
 {
     let read = t.read;
     let h = read.header;
@@ -134,7 +136,7 @@ fn report_job(edition: u16, t: TakenUp, out: &mut [u8]) -> Printed
 
 // The night's report of a stored job by an edition: what the program `edition` prints where its argument names that edition, and `night` by edition 1, for every input.
 pub fn night(edition: u16, input: &[u8], out: &mut [u8]) -> Printed
-    ensures* out_after { do ⌜ «printed» result out.new ≡ into_room (prints edition (limits_of (← (⟦Job::MOST_FILES⟧).entry) (← (⟦Job::MOST_RECIPES⟧).entry) (← (⟦Job::MOST_PINS⟧).entry) (← (⟦Job::MOST_DEN⟧).entry)) input.now) out.old ⌝ }
+    ensures out_after { «printed» result out.new ≡ into_room (prints edition (limits_of Job.MOST_FILES Job.MOST_RECIPES Job.MOST_PINS Job.MOST_DEN) input.now) out.old }
     ensures answered { Answered TEXT_BYTES result.verdict out.old × Lendable result.bytes out.new }
 {
     let t = stored::take_up(input);
@@ -165,9 +167,9 @@ fn trace_pass(
     scratch: &mut [u16],
     out: &mut [u8],
 ) -> Printed
-    requires* fact { do ⌜ (length sizes.now ≤ (← ⟦Job::MOST_FILES⟧)) × (length sides.old ≡ length sizes.now) × (length marks.now ≡ length sizes.now) ⌝ }
-    requires* scratch_value { do ⌜ lent_of gains.old tried.old gained.old cuts.old ends.old recipes.old kinds.old scratch.old ≡ all_lent (limits_of (← ⟦Job::MOST_FILES⟧) (← ⟦Job::MOST_RECIPES⟧) (← ⟦Job::MOST_PINS⟧) (← ⟦Job::MOST_DEN⟧)) (whole_job job sizes.now sides.old marks.now bounds.now pins.now) ⌝ }
-    ensures* out_after { do ⌜ «printed» result out.new ≡ into_room (pass_trace edition (limits_of (← (⟦Job::MOST_FILES⟧).entry) (← (⟦Job::MOST_RECIPES⟧).entry) (← (⟦Job::MOST_PINS⟧).entry) (← (⟦Job::MOST_DEN⟧).entry)) (whole_job job sizes.now sides.old marks.now bounds.now pins.now)) out.old ⌝ }
+    requires fact { (length sizes.now ≤ Job.MOST_FILES) × (length sides.old ≡ length sizes.now) × (length marks.now ≡ length sizes.now) }
+    requires scratch_value { lent_of gains.old tried.old gained.old cuts.old ends.old recipes.old kinds.old scratch.old ≡ all_lent (limits_of Job.MOST_FILES Job.MOST_RECIPES Job.MOST_PINS Job.MOST_DEN) (whole_job job sizes.now sides.old marks.now bounds.now pins.now) }
+    ensures out_after { «printed» result out.new ≡ into_room (pass_trace edition (limits_of Job.MOST_FILES Job.MOST_RECIPES Job.MOST_PINS Job.MOST_DEN) (whole_job job sizes.now sides.old marks.now bounds.now pins.now)) out.old }
     ensures answered { Answered TRACE_BYTES result.verdict out.old }
 {
     let f = split::pass_once(
@@ -181,9 +183,9 @@ fn trace_pass(
 
 // The same of a job that was taken up, with lists of the teller's own.
 fn trace_job(edition: u16, t: TakenUp, out: &mut [u8]) -> Printed
-    requires* { do ⌜ Held (limits_of (← ⟦Job::MOST_FILES⟧) (← ⟦Job::MOST_RECIPES⟧) (← ⟦Job::MOST_PINS⟧) (← ⟦Job::MOST_DEN⟧)) t ⌝ }
-    ensures* out_after { do ⌜ «printed» result out.new ≡ into_room (pass_trace edition (limits_of (← (⟦Job::MOST_FILES⟧).entry) (← (⟦Job::MOST_RECIPES⟧).entry) (← (⟦Job::MOST_PINS⟧).entry) (← (⟦Job::MOST_DEN⟧).entry)) (job_taken t)) out.old ⌝ }
-    ensures* fact { do ⌜ Answered (← (⟦TRACE_BYTES⟧).entry) result.verdict out.old ⌝ }
+    requires { Held (limits_of Job.MOST_FILES Job.MOST_RECIPES Job.MOST_PINS Job.MOST_DEN) t }
+    ensures out_after { «printed» result out.new ≡ into_room (pass_trace edition (limits_of Job.MOST_FILES Job.MOST_RECIPES Job.MOST_PINS Job.MOST_DEN) (job_taken t)) out.old }
+    ensures fact { Answered TRACE_BYTES result.verdict out.old }
 {
     let read = t.read;
     let h = read.header;
@@ -226,7 +228,7 @@ fn trace_job(edition: u16, t: TakenUp, out: &mut [u8]) -> Printed
 
 // The trace of one pass by an edition over a stored job: what the program `trace` prints, for every input.
 pub fn trace(edition: u16, input: &[u8], out: &mut [u8]) -> Printed
-    ensures* out_after { do ⌜ «printed» result out.new ≡ into_room (traces edition (limits_of (← (⟦Job::MOST_FILES⟧).entry) (← (⟦Job::MOST_RECIPES⟧).entry) (← (⟦Job::MOST_PINS⟧).entry) (← (⟦Job::MOST_DEN⟧).entry)) input.now) out.old ⌝ }
+    ensures out_after { «printed» result out.new ≡ into_room (traces edition (limits_of Job.MOST_FILES Job.MOST_RECIPES Job.MOST_PINS Job.MOST_DEN) input.now) out.old }
     ensures answered { Answered TRACE_BYTES result.verdict out.old × Lendable result.bytes out.new }
 {
     let t = stored::take_up(input);

@@ -1,4 +1,6 @@
 // One pass over a stored job, shown move by move: the job on standard input, the trace on standard output. The edition is the one argument, and 1 without.
+#![tactic(auto)]
+
 use libc::STDOUT_FILENO;
 
 fn main() {

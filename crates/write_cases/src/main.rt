@@ -3,6 +3,8 @@
 // The lines of a call: `done`, then the output list in hexadecimal, a block to a line; or the
 // refusal, and whether every byte of the list was kept. The line of a stored job: the reader's
 // refusal, or whether the bytes written are those read.
+#![tactic(auto)]
+
 ghost use Rattle.std.specs.Prelude.{◌<◌, ◌≤◌};
 
 use job::wide;

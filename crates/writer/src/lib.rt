@@ -1,4 +1,6 @@
 // Writing a stored job: document 02, order 1.
+#![tactic(auto)]
+
 mod block;
 mod values;
 
@@ -63,7 +65,7 @@ pub fn write(
     pins: &[u16],
     out: &mut [u8],
 ) -> Verdict
-    ensures* { do ⌜ writing_of result out.new ≡ writing (limits_of (← (⟦Job::MOST_FILES⟧).entry) (← (⟦Job::MOST_RECIPES⟧).entry) (← (⟦Job::MOST_PINS⟧).entry) (← (⟦Job::MOST_DEN⟧).entry)) (whole_job job sizes.now sides.now marks.now bounds.now pins.now) out.old ⌝ }
+    ensures { writing_of result out.new ≡ writing (limits_of Job.MOST_FILES Job.MOST_RECIPES Job.MOST_PINS Job.MOST_DEN) (whole_job job sizes.now sides.now marks.now bounds.now pins.now) out.old }
 {
     let n = recipe_count(bounds);
     let counts = check_counts(sizes.len(), n, pins.len());
