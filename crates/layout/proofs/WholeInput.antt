@@ -3,18 +3,15 @@ use Prim.Native.Nat.{ℕ, ◌<◌}
 use native.Mathlib.Omega.{arith}
 use Rattle.rules.specs.Job.{Limits, limits_of}
 use Rattle.rules.specs.Theorems.{most_bytes}
-use Rattle.layout.proofs.kinds.input_bytes.⟦INPUT-BYTES⟧-asked.Lts as input
-use Rattle.layout.proofs.kinds.input_bytes.⟦Job·MOST-FILES⟧-asked.Lts as files
-use Rattle.layout.proofs.kinds.input_bytes.⟦Job·MOST-RECIPES⟧-asked.Lts as recipes
-use Rattle.layout.proofs.kinds.input_bytes.⟦Job·MOST-PINS⟧-asked.Lts as pins
-use Rattle.layout.proofs.kinds.input_bytes.⟦Job·MOST-DEN⟧-asked.Lts as den
+use Rattle.layout.specs.declared.kinds.TheConstants.{INPUT_BYTES}
+use Rattle.job.specs.declared.TheConstants.Job.{MOST_FILES, MOST_RECIPES, MOST_PINS, MOST_DEN}
 
--- the job's own limits and the input's bytes, as the contract asks them of the code
+-- the job's own limits and the input's bytes, as the code has them
 abbrev pub most : Limits
-most = limits_of (files.answer tt tt) (recipes.answer tt tt) (pins.answer tt tt) (den.answer tt tt)
+most = limits_of MOST_FILES MOST_RECIPES MOST_PINS MOST_DEN
 
 abbrev pub input_bytes : ℕ
-input_bytes = input.answer tt tt
+input_bytes = INPUT_BYTES
 
 pub input-whole : most_bytes most < input_bytes
 input-whole = omega arith

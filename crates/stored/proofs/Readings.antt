@@ -17,7 +17,7 @@ use Rattle.rules.specs.Lists.{onto}
 use Rattle.rules.specs.Job.{Job, Limits}
 use Rattle.rules.specs.Check.{refuse_if, ◌or_else◌, bad_k, check_counts, check_contents, «measure»}
 use Rattle.rules.specs.Report.{all_room}
-use Rattle.rules.specs.Stored.{Room, Reading, block_at, header_of, header_values, bounds_at, pins_at, block_count, roomy, job_of, block_verdict, blocks_verdict, layout_verdict, read_verdict, written, no_header, reading}
+use Rattle.rules.specs.Stored.{Room, Reading, block_at, header_of, header_values, bounds_at, pins_at, block_count, roomy, job_of, block_verdict, blocks_verdict, read_verdict, written, no_header, reading}
 use Rattle.rules.proofs.Tests.{and_yes, not-no}
 use Rattle.rules.proofs.Verdicts.{or_assoc, or-three, chain-stop, chain-go, refuse-stop, refuse-go, zero_of, passes-both, not-refused, measure-verdict, sound-contents}
 use Rattle.rules.proofs.SoundJob.{some_of, few-of, counts-pass}
