@@ -31,6 +31,7 @@ use Rattle.buckets.proofs.Chosen.{offer-is, first-is, still}
 
 pub in-times : (f : ℕ) (xs : List ℕ) → f ∈ xs → 1 ≤ times f xs
 unfolding times count total ◌∈◌
+in-times f [] m = elim m [ ]
 in-times f (x ∷ xs) m = go (eqb x f) refl m (in-times f xs)
   where
     go : (t : Bool) → eqb x f ≡ t → (f ∈ x ∷ xs) → (f ∈ xs → 1 ≤ times f xs) → 1 ≤ bit t + times f xs

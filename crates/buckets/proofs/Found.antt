@@ -19,7 +19,7 @@ use Rattle.rules.proofs.Tests.{and_yes, contra}
 use Rattle.rules.proofs.First.{some_inj, no-some}
 use Rattle.choice.specs.Choosing.{file_or}
 use Rattle.buckets.specs.declared.slots.Shape.{Shape}
-use Rattle.buckets.specs.Slots.{levels, slots, level_of, vault_at, slot_in, top_at}
+use Rattle.buckets.specs.Slots.{levels, level_of, vault_at, slot_in, top_at}
 use Rattle.buckets.specs.Links.{highest_in}
 use Rattle.buckets.specs.Offers.{front_at, front_in}
 use Rattle.buckets.specs.StandFor.{◌∈◌, in_slot, first_or, Linked, StandFor}

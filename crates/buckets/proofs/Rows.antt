@@ -24,6 +24,7 @@ those-pass p f (x ∷ xs) h = go (p x) refl (those-pass p f xs) h
 
 pub pass-those : (p : ℕ → Bool) (f : ℕ) (xs : List ℕ) → p f ≡ true → f ∈ xs → f ∈ those p xs
 unfolding those ◌∈◌
+pass-those p f [] e m = elim m [ ]
 pass-those p f (x ∷ xs) e (inl q) = let h : p x ≡ true = rw q at e in rw h (inl q)
 pass-those p f (x ∷ xs) e (inr m) = go (p x) (pass-those p f xs e m)
   where
@@ -79,11 +80,13 @@ module _ (none : ℕ) where
   -- every member is the next of someone, and has a next
   pub before : (xs : List ℕ) (a x : ℕ) → x ∈ xs → (u : ℕ) × Follows none a xs u x
   unfolding Follows ◌∈◌
+  before [] a x m = elim m [ ]
   before (y ∷ ys) a x (inl e) = (a, inl (refl, e))
   before (y ∷ ys) a x (inr m) = let b = before ys y x m in (b.0, inr b.1)
 
   pub next : (xs : List ℕ) (a x : ℕ) → x ∈ xs → (v : ℕ) × Follows none a xs x v
   unfolding Follows ◌∈◌
+  next [] a x m = elim m [ ]
   next (y ∷ ys) a x (inl e) = (first_or none ys, inr (rw e (opens ys y)))
   next (y ∷ ys) a x (inr m) = let b = next ys y x m in (b.0, inr b.1)
 
