@@ -10,11 +10,11 @@ use Rattle.rules.specs.Compare.{Comparing}
 use Rattle.rules.proofs.Comparing.{compare-holds}
 use Rattle.layout.proofs.WholeInput.{most}
 use Rattle.comparer.proofs.Unique.{Promised}
-use Rattle.comparer.proofs.jobs.note_jobs.⟦crate·MOST-DIFFERENCES⟧-asked.Lts as differences
+use Rattle.comparer.specs.declared.TheConstants.{MOST_DIFFERENCES}
 
 -- as the code has it
 abbrev pub most_records : ℕ
-most_records = differences.answer tt tt
+most_records = MOST_DIFFERENCES
 
 pub never-short : (old new : List ℕ) (room after : List Difference) (a : Compared) → Promised old new room a after → most_records ≤ length room → a.verdict.number ≢ 30
 never-short old new room after a p h z =

@@ -13,15 +13,14 @@ use Rattle.rules.specs.declared.Header.{Header}
 use Rattle.rules.specs.declared.Difference.{Difference}
 use Rattle.rules.specs.declared.Compared.{Compared}
 use Rattle.rules.specs.Lists.{up_to, onto}
-use Rattle.rules.specs.Job.{Job, Limits, file_count, recipe_count, pin_count}
+use Rattle.rules.specs.Job.{Job, Limits}
 use Rattle.rules.specs.Check.{done, check_contents}
-use Rattle.rules.specs.Stored.{Room, job_of, layout_verdict, read_verdict}
+use Rattle.rules.specs.Stored.{Room, job_of, layout_verdict}
 use Rattle.rules.specs.Report.{all_room}
 use Rattle.rules.specs.Compare.{differences, read_for, compared, comparing_of, comparing}
 use Rattle.rules.proofs.Verdicts.{zero_of, Plain, plain-chain}
 use Rattle.rules.proofs.Refusals.{read-chain}
 use Rattle.rules.proofs.Proved.{plain-contents}
-use Rattle.rules.proofs.Reading.{read-holds}
 use Rattle.rules.proofs.Comparing.{compare-holds}
 use Rattle.stored.specs.Room.{room_of, taking_up, lists_of}
 use Rattle.stored.specs.Steps.{job_taken, Held}

@@ -1,12 +1,8 @@
-pub mod Asked
-pub mod Big
 pub mod Differences
 pub mod Enough
 pub mod Found
-pub mod Lent
 pub mod Noted
 pub mod Records
-pub mod Row
 pub mod Storing
 pub mod Telling
 pub mod Unique

@@ -4,6 +4,7 @@ ghost use Rattle.rules.specs.Job.{limits_of};
 ghost use Rattle.rules.specs.Compare.{differences};
 ghost use Rattle.stored.specs.Room.{room_of};
 ghost use Rattle.comparer.specs.Finding.{Noted, job_in, Exact};
+ghost use Rattle.comparer.specs.declared.TheConstants.{MOST_DIFFERENCES, NUMBERS};
 
 use crate::files::note_files;
 use crate::noting::note_header;

@@ -1,0 +1,4 @@
+pub mod Walked
+pub mod FilesPassed
+pub mod Shown
+pub mod Unique
