@@ -1,5 +1,5 @@
 -- The theorems of specs/Balancing.antt: the moves, 9 exactly if impossible, the call and the program. Assumes nothing.
-use mathlib.Core.Path.{◌≡◌, refl, sym, ap, ap₂, ◌∙◌}
+use mathlib.Core.Path.{◌≡◌, refl, sym, ap, ◌∙◌}
 use mathlib.Core.Logic.{◌≢◌}
 use Prim.Native.Nat.{ℕ, ◌≤◌, ◌<◌}
 use mathlib.Core.Bool.{Bool, true, false, not}
@@ -16,7 +16,7 @@ use Rattle.rules.specs.declared.BalanceFigures.{BalanceFigures}
 use Rattle.rules.specs.Lists.{listed}
 use Rattle.rules.specs.Job.{Job, Limits, file_count, recipe_count, pin_count, files, recipes, scratch_for}
 use Rattle.rules.specs.Split.{side_of, cut, gain, is_free, weight, smax, size_on, size_a, balanced}
-use Rattle.rules.specs.Check.{done, refuse_if, ◌or_else◌, ◌followed_by◌, row, over_most, goal_rows, check_ratio, check_free, check_window, check_start, check_sound, check_goal, check, check_edition, check_lent}
+use Rattle.rules.specs.Check.{done, refuse_if, ◌or_else◌, ◌followed_by◌, row, over_most, goal_rows, check_start, check_sound, check_goal, check, check_edition}
 use Rattle.rules.specs.Move.{steps_by, State, start, moved, after, Frees, greater, moves_by}
 use Rattle.rules.specs.Stored.{job_of, read_verdict}
 use Rattle.rules.specs.Report.{refusal, size_line, of_files, into_room, all_room, all_lent}

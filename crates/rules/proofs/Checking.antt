@@ -2,7 +2,7 @@
 use mathlib.Core.Path.{◌≡◌, refl, ap, ◌∙◌}
 use mathlib.Core.Logic.{◌≢◌}
 use Prim.Native.Nat.{ℕ, suc, ◌+◌, ◌<◌}
-use mathlib.Core.Bool.{Bool, true, false, not, ◌&&◌, ◌||◌}
+use mathlib.Core.Bool.{Bool, true, false, ◌&&◌}
 use native.Mathlib.Omega.{arith}
 use lib.Dec.{eqb, leb, ltb}
 use lib.ListN.{get_or}
@@ -10,7 +10,7 @@ use borrow.Author.Tests.{leb-true, ltb-true, eq-eqb, ne_eqb, le-ltb, lt-leb}
 use Rattle.rules.specs.declared.Verdict.{Verdict}
 use Rattle.rules.specs.Lists.{count, some_below, up_to}
 use Rattle.rules.specs.Job.{Job, Limits, file_count, recipe_count, pin_count, bound, pin, files}
-use Rattle.rules.specs.Split.{size_of, size_a, balanced}
+use Rattle.rules.specs.Split.{size_of}
 use Rattle.rules.specs.Check.{done, short, repeats_in, bad_pin, bad_file, bad_ratio, none_free, check_contents, check_rest, check_sound, check}
 use Rattle.rules.specs.Theorems.{Sound, Accepted, CheckHolds}
 use Rattle.rules.proofs.Count.{count-here}

@@ -1,15 +1,14 @@
 -- Order 8: what 10 says of the window and who never gives it, that no vault is emptied, and the jobs of specs/Emptied.antt worked by hand. Assumes nothing.
-use mathlib.Core.Path.{◌≡◌, refl, sym, ap, subst, ◌∙◌}
+use mathlib.Core.Path.{◌≡◌, refl, sym, ap, ◌∙◌}
 use mathlib.Core.Logic.{◌≢◌}
 use Prim.Native.Nat.{ℕ, ◌+◌, ◌*◌, ◌≤◌, ◌<◌}
 use mathlib.Core.Bool.{Bool, true, false, cond, ◌&&◌, ◌||◌}
-use mathlib.Core.List.{List, []}
+use mathlib.Core.List.{List}
 use native.Mathlib.Decide.{ℕ_discrete}
 use native.Mathlib.Nat.{zero-add, mul-zero, mul-le-mul_right}
 use native.Mathlib.Omega.{arith}
 use lib.Dec.{leb}
-use lib.ListN.{length, take}
-use lib.Seq.{take_all}
+use lib.ListN.{length}
 use borrow.Author.Tests.{leb-true, leb-false, le-leb, le-ltb, eq-eqb}
 use Rattle.rules.specs.declared.Verdict.{Verdict}
 use Rattle.rules.specs.declared.Figures.{Figures}
@@ -19,7 +18,7 @@ use Rattle.rules.specs.Lists.{total, count, those, largest, up_to, lowest, padde
 use Rattle.rules.specs.Job.{Job, Limits, limits_of, view_of, files, views, read_in, recipes, Lent, scratch_for, fits}
 use Rattle.rules.specs.Split.{count_on, is_cut, cut, unread_files, unread_recipes, weight, smax, tolerance, size_on, size_a, balanced}
 use Rattle.rules.specs.Check.{done, is_done, refuse_if, may_empty, bad_pin, check_sound, check, check_job, check_lent, measure, check_edition}
-use Rattle.rules.specs.Move.{steps_by, start, after}
+use Rattle.rules.specs.Move.{start}
 use Rattle.rules.specs.Pass.{keeps, pass_of}
 use Rattle.rules.specs.Fronts.{tries_by}
 use Rattle.rules.specs.Run.{no_figures, no_run_figures, Ended, pass_ends}
@@ -27,12 +26,12 @@ use Rattle.rules.specs.Stored.{weigh, block_check, header_of, laid_out, further_
 use Rattle.rules.specs.Report.{text, digits_in, spaced, line, refusal, report, all_room, all_lent, all_run, prints}
 use Rattle.rules.specs.Trace.{listing, trace, traces}
 use Rattle.rules.specs.Writing.{value_bytes, contents}
-use Rattle.rules.specs.Balance.{too_large, too_small, balance_moves, balance_sides, least_a, most_a, none_balanced, check_before_start, balance_check, Balancing}
+use Rattle.rules.specs.Balance.{too_large, too_small, balance_sides, least_a, most_a, none_balanced, balance_check, Balancing}
 use Rattle.rules.specs.Compare.{differences, comparing_of, compared, read_for, comparing_jobs, comparing}
 use Rattle.rules.specs.Theorems.{Sound, Sides, state_at, Lawful, LawfulTry}
 use Rattle.rules.specs.Emptied.{WindowAllows, NeverWindow, BothHold, NoneEmptied, CallsLeave, pair, pair_bytes, EmptiedWorked}
 use Rattle.rules.proofs.Tests.{or_no, and_yes}
-use Rattle.rules.proofs.Verdicts.{passes-both, measure-verdict}
+use Rattle.rules.proofs.Verdicts.{measure-verdict}
 use Rattle.rules.proofs.SoundJob.{ratio-pass, goal-pass, sound}
 use Rattle.rules.proofs.Sizes.{sizes-add}
 use Rattle.rules.proofs.Refusals.{never-read, lent-chain}

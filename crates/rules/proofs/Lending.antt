@@ -2,10 +2,10 @@
 use mathlib.Core.Path.{◌≡◌, refl, ap}
 use mathlib.Core.Logic.{◌≢◌}
 use Prim.Native.Nat.{ℕ, ◌+◌, ◌-◌, ◌*◌, ◌≤◌}
-use mathlib.Core.Bool.{Bool, true, false, not}
-use mathlib.Core.List.{List, [], ◌∷◌, ◌++◌}
+use mathlib.Core.Bool.{true, false, not}
+use mathlib.Core.List.{List, [], ◌∷◌}
 use native.Mathlib.Omega.{arith}
-use lib.Dec.{eqb, ltb, leb}
+use lib.Dec.{eqb, leb}
 use lib.IntN.{pos}
 use lib.ListN.{length, replicate, length-replicate}
 use borrow.Author.Tests.{le-leb, eq-eqb}
@@ -14,7 +14,7 @@ use Rattle.rules.specs.declared.Header.{Header}
 use Rattle.rules.specs.declared.Figures.{Figures}
 use Rattle.rules.specs.declared.RunFigures.{RunFigures}
 use Rattle.rules.specs.Job.{Job, Limits, file_count, recipe_count, pin_count, scratch_for, scratch_numbers, fits}
-use Rattle.rules.specs.Check.{done, refuse_if, ◌or_else◌, Rows, ◌followed_by◌, row, first_given, count_rows, content_rows, rest_rows, bad_k, over_most, check_counts, check_rest, check, is_edition, edition_rows, check_edition, check_lent}
+use Rattle.rules.specs.Check.{done, Rows, ◌followed_by◌, row, first_given, count_rows, content_rows, rest_rows, bad_k, over_most, check_counts, check_rest, check, is_edition, edition_rows, check_edition, check_lent}
 use Rattle.rules.specs.Stored.{header_of, block_count, block_rows, further_rows, job_of, roomy, under_one, wrong_total, layout_rows, read_verdict}
 use Rattle.rules.specs.Pass.{leaves}
 use Rattle.rules.specs.Run.{first_pass, run_by, last_pass, figures_of, run_figures_of, Ended}

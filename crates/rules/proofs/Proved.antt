@@ -13,13 +13,13 @@ use lib.ListN.{length, get_or, take, length-map, get_or-append}
 use lib.Seq.{take-suc, take_all, take-length, take-append-le, take-append_seam}
 use borrow.Author.Tests.{eqb-true, eqb-false, eq-eqb, ne_eqb}
 use Rattle.rules.specs.declared.Verdict.{Verdict}
-use Rattle.rules.specs.Lists.{bit, count, up_to, lowest, some_below}
+use Rattle.rules.specs.Lists.{bit, count, up_to}
 use Rattle.rules.specs.Job.{Job, Limits, file_count, pin_count, recipe_count, files, views, recipes, Lent, scratch_for, fits}
 use Rattle.rules.specs.Split.{other, side_of, cut, times, unread_files, unread_recipes, size_a, balanced}
-use Rattle.rules.specs.Check.{refuse_if, ◌or_else◌, bad_k, all_rows, content_rows, sound_rows, check_counts, check_lists, check_lengths, check_free, check_start, check_contents, check_sound, check_goal, check_rest, check, is_edition, lent_rows, check_edition, check_lent, measure}
+use Rattle.rules.specs.Check.{refuse_if, bad_k, all_rows, content_rows, sound_rows, check_counts, check_lists, check_lengths, check_free, check_start, check_contents, check_sound, check_goal, check_rest, check, is_edition, lent_rows, check_edition, check_lent, measure}
 use Rattle.rules.specs.Move.{steps_by, State, start, lock_of, free, moved, after, Frees, size_after, legal, Scan, scans_of, scans, ends_from, visits, changes_of, changed}
 use Rattle.rules.specs.Pass.{cut_at, keeps, gains_after, start_gains, Pass, pass_of, tries, leaves}
-use Rattle.rules.specs.Run.{pass_by, most_passes, passes, last_of, first_pass, run_by, last_pass, figures_of, run_figures_of, left_by, pass_ends, run_ends}
+use Rattle.rules.specs.Run.{pass_by, most_passes, passes, first_pass, run_by, last_pass, figures_of, run_figures_of, left_by, pass_ends, run_ends}
 use Rattle.rules.specs.Writing.{check_written}
 use Rattle.rules.specs.Theorems.{Sound, Accepted, Sides, state_at, MovesHold, replayed_to, ScansHold, Left, scans_told, replayed_by, Replayed, Lawful, PassHoldsBy, LawfulTry, start_sides, RunHoldsBy, PassHolds, RunHolds, Answers}
 use Rattle.rules.proofs.Tests.{clash, and_yes, not-no}

@@ -13,7 +13,7 @@ use borrow.Author.Tests.{eq-eqb, ne_eqb}
 use Rattle.rules.specs.declared.Header.{Header}
 use Rattle.rules.specs.Lists.{up_to, AllBelow}
 use Rattle.rules.specs.Job.{Job, Limits, TwoByte, file_count, recipe_count, pin_count}
-use Rattle.rules.specs.Check.{refuse_if, ◌or_else◌, bad_k, check_counts, check_lists, check_lengths, check_contents, check_sound}
+use Rattle.rules.specs.Check.{refuse_if, bad_k, check_counts, check_lists, check_lengths, check_contents, check_sound}
 use Rattle.rules.specs.Stored.{block_at, value, header_of, bounds_at, pins_at, block_verdict, job_of, Room, roomy, layout_verdict, read_verdict, Reading, reading}
 use Rattle.rules.specs.Writing.{check_written}
 use Rattle.rules.specs.Theorems.{ReadHolds, Written}

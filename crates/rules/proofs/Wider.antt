@@ -2,20 +2,17 @@
 use mathlib.Core.Path.{◌≡◌, refl, sym, ap, ◌∙◌}
 use mathlib.Core.Logic.{◌≢◌, ◌⊎◌, inl, inr, ⊎_elim}
 use Prim.Native.Nat.{ℕ, ◌*◌, ◌≤◌, ◌<◌}
-use mathlib.Core.Bool.{Bool, true, false, not, cond}
+use mathlib.Core.Bool.{Bool, true, false}
 use mathlib.Core.List.{List}
 use native.Mathlib.Decide.{ℕ_discrete}
 use native.Mathlib.Nat.{one-mul}
 use native.Mathlib.Omega.{arith}
-use lib.ListN.{get_or}
-use lib.Dec.{eqb}
 use borrow.Author.Tests.{eq-eqb, ne_eqb, lt-ltb}
-use Rattle.rules.specs.declared.Verdict.{Verdict}
 use Rattle.rules.specs.Lists.{total, count, largest, up_to, lowest}
 use Rattle.rules.specs.Job.{Job, Limits, files}
 use Rattle.rules.specs.Split.{weight, smax, size_on, balanced}
-use Rattle.rules.specs.Check.{refuse_if, ◌or_else◌, bad_k, bad_pin, check_contents, check}
-use Rattle.rules.specs.Stored.{block_at, value, header_of, header_values, values_in, laid_out, bad_check, bad_layout, under_one, block_verdict, Room, layout_verdict, read_verdict, job_of}
+use Rattle.rules.specs.Check.{refuse_if, bad_k, bad_pin, check_contents, check}
+use Rattle.rules.specs.Stored.{block_at, value, header_of, header_values, bad_check, bad_layout, under_one, block_verdict, Room, layout_verdict, read_verdict, job_of}
 use Rattle.rules.specs.Wider.{count_read, HeaderCounts, OneAsBefore, WiderWorked}
 use Rattle.rules.proofs.Verdicts.{passes-both, not-refused}
 use Rattle.rules.proofs.Tests.{not-no, contra'}

@@ -2,17 +2,15 @@
 use mathlib.Core.Path.{◌≡◌, refl, sym, ap, ap₂, ◌∙◌}
 use mathlib.Core.Logic.{◌≢◌}
 use Prim.Native.Nat.{ℕ, ◌*◌, ◌≤◌}
-use mathlib.Core.Bool.{Bool, true, false, not, cond, ◌&&◌, ◌||◌}
+use mathlib.Core.Bool.{Bool, true}
 use mathlib.Core.List.{List, []}
 use native.Mathlib.Decide.{ℕ_discrete}
-use native.Mathlib.Omega.{arith}
-use lib.Dec.{eqb, ltb}
+use lib.Dec.{eqb}
 use lib.ListN.{length}
 use borrow.Author.Tests.{eqb-true, eq-eqb, ne_eqb}
 use Rattle.rules.specs.declared.Verdict.{Verdict}
-use Rattle.rules.specs.Lists.{lowest, some_below}
-use Rattle.rules.specs.Job.{Job, Limits, file_count, recipe_count, pin_count, bound}
-use Rattle.rules.specs.Check.{refuse_if, refuse_at, ◌or_else◌, bad_k, bad_pin, sound_rows, check_sound}
+use Rattle.rules.specs.Job.{Job, Limits}
+use Rattle.rules.specs.Check.{refuse_if, bad_k, bad_pin, sound_rows, check_sound}
 use Rattle.rules.specs.Stored.{block_count}
 use Rattle.rules.specs.Report.{refusal}
 use Rattle.rules.specs.Writing.{header_for, blocks_of, writing_of, written_rows, check_written, write_verdict, writing, hands_out}

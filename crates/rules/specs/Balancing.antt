@@ -1,5 +1,5 @@
 -- What holds of making a balanced start, a fact to a field. A line above each record names its proof and what that asks. Assumes nothing.
-use Rattle.std.specs.Prelude.{◌≡◌, ◌≢◌, ℕ, ◌≤◌, ◌<◌, Bool, true, false, not, ◌&&◌, List, [], ◌∷◌, ◌++◌, length, get_or, take}
+use Rattle.std.specs.Prelude.{◌≡◌, ◌≢◌, ℕ, ◌≤◌, ◌<◌, Bool, true, false, not, ◌&&◌, List, [], ◌∷◌, length, get_or, take}
 use Rattle.std.proofs.Math.Option.{none, some}
 use Rattle.std.specs.Int.Signed.{lt_z}
 use Rattle.rules.specs.declared.Verdict.{Verdict}

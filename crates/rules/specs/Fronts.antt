@@ -1,5 +1,5 @@
 -- Document 02, order 9: edition 2 of the choice, by buckets, and which choice goes by which edition. Gains are worked out afresh from the sides. Assumes nothing.
-use Rattle.std.specs.Prelude.{ℕ, zero, suc, ◌*◌, Bool, not, cond, ◌&&◌, ◌||◌, List, [], ◌∷◌, eqb, ℤ}
+use Rattle.std.specs.Prelude.{ℕ, zero, suc, ◌*◌, Bool, not, cond, ◌&&◌, List, [], ◌∷◌, eqb, ℤ}
 use Rattle.std.proofs.Math.Option.{Option, none, some}
 use Rattle.std.specs.Int.Signed.{lt_z}
 use Rattle.rules.specs.Lists.{those, diff}

@@ -3,11 +3,11 @@ use Rattle.std.specs.Prelude.{◌≡◌, ℕ, suc, ◌≤◌, ◌<◌, Bool, tru
 use Rattle.std.proofs.Math.Option.{Option, none, some}
 use Rattle.std.specs.Int.Signed.{lt_z}
 use Rattle.rules.specs.Lists.{bit, those}
-use Rattle.rules.specs.Job.{Job, Limits, file_count, files, recipes}
+use Rattle.rules.specs.Job.{Job, file_count, files, recipes}
 use Rattle.rules.specs.Split.{other, side_of, on_side, times, is_free}
 use Rattle.rules.specs.Move.{State, start, free, moved, steps_by, legal, dist_after, Change, changes_of}
 use Rattle.rules.specs.Fronts.{Buckets, start_buckets, moved_on, gain_in, in_vault, front_of, front_tries, tries_by}
-use Rattle.rules.specs.RoundTrip.{Sideless, ResettledHoldsBy}
+use Rattle.rules.specs.RoundTrip.{Sideless}
 use Rattle.rules.specs.Theorems.{state_at, ScansHold, Lawful, PassHoldsBy, LawfulTry, RunHoldsBy}
 
 -- ---- the front of a vault
