@@ -1,72 +1,56 @@
-// Standard input or another descriptor, taken up block by block.
+// Standard input or another reader, taken up block by block.
 #![tactic(auto)]
 
-ghost use Rattle.std.specs.Prelude.{◌≡◌, ◌+◌, ◌≤◌, length, drop};
-ghost use Rattle.std.proofs.Math.Seq.{paste};
-ghost use Rattle.io.specs.Counts.{IsPrefixLen};
+ghost use Rattle.std.specs.Prelude.{◌≡◌, ℕ, ◌+◌, ◌<◌, ◌≤◌, length, take, drop, IfOk, OnErr};
+ghost use Rattle.std.specs.Io.KnownBytes.{Consumes, Keeps, IsAtEnd};
+ghost use Rattle.blocks.specs.Counts.{IsPrefixLen};
 
-use libc::STDIN_FILENO;
+use std::io;
+use std::io::{Input, Read};
 
-fn least(a: usize, b: usize) -> usize
-    ensures { (result ≤ a) × (result ≤ b) }
-{
-    if a < b {
-        return a;
-    }
-    b
-}
-
-fn copy_at(from: &[u8], room: &mut [u8], at: usize)
-    requires { at + length from.now ≤ length room.old }
-    ensures { room.new ≡ paste room.old at from.now (length from.now) }
-{
-    let mut i = 0;
-    while i < from.len() {
-        room[at + i] = from[i];
-        i += 1;
-    }
-}
-
-// At most so many bytes, from the room's start on.
-fn read_some(fd: i32, room: &mut [u8], most: usize) -> usize
-    requires { most ≤ length room.old }
-    ensures { IsPrefixLen result room.new × (result ≤ most) }
-{
-    io::read_full(fd, &mut room[..most])
-}
-
-// One block or the first bytes of one, put into the room from `at` on; the bytes that came, fewer than `most` only at the end of the input or where a read fails.
-fn take_block(fd: i32, room: &mut [u8], at: usize, most: usize) -> usize
-    requires { (most ≤ 512) × (at + most ≤ length room.old) }
-    ensures { (result ≤ most) × (drop (at + result) room.new ≡ drop (at + result) room.old) }
+// The reader's next bytes, put into the room from `at` on and before `end`: one block or the first bytes of one. How many came, none only at the end of the input.
+fn take_block<R: Read>(reader: &mut R, room: &mut [u8], at: usize, end: usize) -> io::Result<usize>
+    requires order { at ≤ end }
+    requires fits { end ≤ length room.old }
+    ensures within { IfOk result (λ n. at + n ≤ end) }
+    ensures front { take at room.new ≡ take at room.old }
+    ensures beyond { IfOk result (λ n. drop (at + n) room.new ≡ drop (at + n) room.old) }
+    ensures bytes { IfOk result (λ n. Consumes (R.remaining reader.old) (R.remaining reader.new) (take n (drop at room.new))) }
+    ensures at_end { IfOk result (λ n. n ≡ 0 → at < end → IsAtEnd (R.remaining reader.new)) }
+    ensures failed { OnErr result ((room.new ≡ room.old) × Keeps (R.remaining reader.old) (R.remaining reader.new)) }
 {
     let mut block = [0u8; 512];
-    let got = read_some(fd, &mut block, most);
-    copy_at(&block[..got], room, at);
-    got
+    let most = (end - at).min(512);
+    let got = reader.read(&mut block[..most])?;
+    room[at..at + got].copy_from_slice(&block[..got]);
+    Ok(got)
 }
 
-// The next bytes of the input: `most` of them, or as many as the room holds, or fewer at the end of the input or where a read fails. How many came.
-pub fn take_from(fd: i32, room: &mut [u8], most: usize) -> usize
-    ensures prefix_len { IsPrefixLen result room.new × (result ≤ most) }
-    ensures room_unchanged { drop result room.new ≡ drop result room.old }
+// The next bytes of the reader: `most` of them, or as many as the room holds, or fewer at the end of the input. How many came. Where a read fails, what came before it stands in the room.
+pub fn take_from<R: Read>(reader: &mut R, room: &mut [u8], most: usize) -> io::Result<usize>
+    ensures prefix_len { IfOk result (λ n. IsPrefixLen n room.new × (n ≤ most)) }
+    ensures room_unchanged { IfOk result (λ n. drop n room.new ≡ drop n room.old) }
+    ensures bytes { IfOk result (λ n. Consumes (R.remaining reader.old) (R.remaining reader.new) (take n room.new)) }
+    ensures at_end { IfOk result (λ n. n < most → n < length room.new → IsAtEnd (R.remaining reader.new)) }
+    ensures failed { OnErr result ((n : ℕ) × (n ≤ most) × (drop n room.new ≡ drop n room.old) × Consumes (R.remaining reader.old) (R.remaining reader.new) (take n room.new)) }
 {
-    let end = least(most, room.len());
+    let end = most.min(room.len());
     let mut at = 0;
     while at < end {
-        let got = take_block(fd, room, at, least(512, end - at));
-        at += got;
-        if got < 512 {
-            return at;
+        let got = take_block(reader, room, at, end)?;
+        if got == 0 {
+            return Ok(at);
         }
+        at += got;
     }
-    at
+    Ok(at)
 }
 
 // The same of standard input.
-pub fn take(room: &mut [u8], most: usize) -> usize
-    ensures prefix_len { IsPrefixLen result room.new × (result ≤ most) }
-    ensures room_unchanged { drop result room.new ≡ drop result room.old }
+pub fn take(rt: &impl Input, room: &mut [u8], most: usize) -> io::Result<usize>
+    ensures prefix_len { IfOk result (λ n. IsPrefixLen n room.new × (n ≤ most)) }
+    ensures room_unchanged { IfOk result (λ n. drop n room.new ≡ drop n room.old) }
+    ensures failed { OnErr result (drop most room.new ≡ drop most room.old) }
 {
-    take_from(STDIN_FILENO, room, most)
+    take_from(&mut rt.reader(), room, most)
 }
