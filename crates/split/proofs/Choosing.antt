@@ -1,40 +1,34 @@
 -- A pass by an edition, between two moves; what it chooses by its lists is what the edition chooses there. Assumes nothing.
 use mathlib.Core.Path.{◌≡◌, refl, sym, ap, ap₂, subst, ◌∙◌}
-use Prim.Native.Nat.{ℕ, ◌+◌, ◌*◌, ◌≤◌, ◌<◌}
+use Prim.Native.Nat.{ℕ, ◌<◌}
 use mathlib.Core.Bool.{Bool, true, false, cond, ◌&&◌}
 use mathlib.Core.List.{List}
 use mathlib.Core.Option.{Option, none, some}
-use native.Mathlib.Decide.{ℕ_discrete}
 use native.Mathlib.Omega.{arith}
-use lib.ListN.{length, get_or, take, drop}
+use lib.ListN.{get_or}
 use lib.Dec.{leb, eqb}
 use lib.IntN.{ℤ, pos}
-use borrow.Author.Tests.{eq-eqb, ne_eqb, eqb-true}
-use Rattle.rules.specs.Job.{Job, Limits, file_count, recipe_count, pin_count, recipes, Lent, scratch_for}
-use Rattle.rules.specs.Split.{side_of, gain, weight, tolerance, size_a, balanced}
-use Rattle.rules.specs.Move.{State, lock_of, free, legal, size_after, dist_after, better, choose}
-use Rattle.rules.specs.Fronts.{Buckets, gain_in, front_of, offer, choose_front, tries_by}
-use Rattle.rules.specs.FrontsHold.{buckets_at}
-use Rattle.rules.specs.Theorems.{Sound}
-use Rattle.rules.proofs.Tests.{and_yes}
-use Rattle.rules.proofs.Signed.{abs}
+use borrow.Author.Tests.{eq-eqb, eqb-true}
+use Rattle.rules.specs.Job.{Job, file_count, recipe_count, pin_count, recipes, Lent, scratch_for}
+use Rattle.rules.specs.Split.{gain, size_a}
+use Rattle.rules.specs.Move.{State, lock_of, legal, dist_after, choose}
+use Rattle.rules.specs.Fronts.{Buckets, gain_in, front_of, choose_front}
 use Rattle.rules.proofs.Proved.{given-sides}
 use Rattle.rules.proofs.FrontsProved.{Good, good-at, gain-within, standing-free, buckets-hold}
 use Rattle.choice.specs.declared.window.Window.{Window}
 use Rattle.choice.specs.declared.edition1.Best.{Best}
-use Rattle.choice.specs.Choosing.{file_or, dist_in, chosen_in}
+use Rattle.choice.specs.Choosing.{file_or, dist_in}
 use Rattle.choice.specs.Best.{best_of, choice_in}
 use Rattle.choice.proofs.FilesPassed.{choice-fit}
 use Rattle.buckets.specs.Offers.{Chosen as Picks, chosen_front}
 use Rattle.buckets.specs.StandFor.{◌∈◌, StandFor}
-use Rattle.buckets.proofs.Calls.{in-times, stands-chosen, answers-chosen}
+use Rattle.buckets.proofs.Calls.{in-times, answers-chosen}
 use Rattle.buckets.proofs.Found.{Known}
-use Rattle.split.specs.Moving.{Board, board}
-use Rattle.split.specs.Links.{links_at, links_long, shape_of, links_in, with_links, Picked, picked_is, picked_by}
+use Rattle.split.specs.Moving.{Board}
+use Rattle.split.specs.Links.{shape_of, links_in, with_links, Picked, picked_is, picked_by}
 use Rattle.split.proofs.Playable.{Playable}
 use Rattle.split.proofs.Going.{stands, Line, Going}
-use Rattle.split.proofs.ChoiceNow.{gains_now, gains-long, gains-fresh, dist_same, legal-same, choice-now}
-use Rattle.split.proofs.NextMove.{stands-binary}
+use Rattle.split.proofs.ChoiceNow.{gains-long, gains-fresh, dist_same, legal-same, choice-now}
 use Rattle.split.proofs.Played.{moves_of, Underway, line, Chose, Choosable, choosable}
 use Rattle.split.proofs.PassMoves.{pass_moves, buckets_now, pick_at, pass-picked}
 

@@ -1,6 +1,6 @@
 -- After a move by edition 2 the links stand for the free files in the order in which they then entered. Assumes nothing.
 use mathlib.Core.Path.{◌≡◌, refl, sym, ap, ap₂, subst, ◌∙◌}
-use Prim.Native.Nat.{ℕ, zero, suc, ◌+◌, ◌-◌, ◌*◌, ◌≤◌, ◌<◌}
+use Prim.Native.Nat.{ℕ, suc, ◌+◌, ◌-◌, ◌≤◌, ◌<◌}
 use mathlib.Core.Logic.{◌≢◌, inl, inr}
 use mathlib.Core.Bool.{Bool, true, false, not}
 use mathlib.Core.List.{List, [], ◌∷◌, ◌++◌, map, map-append, append-nil, append_assoc}
@@ -12,8 +12,8 @@ use lib.Dec.{eqb}
 use lib.IntN.{ℤ, pos}
 use borrow.Author.Tests.{le-ltb, eq-eqb, ne_eqb, eqb-true, eqb-false}
 use Rattle.rules.specs.Lists.{onto}
-use Rattle.rules.specs.Job.{Job, file_count, recipe_count, pin_count, view_of, view, views, recipes, Lent, is_read, scratch_for}
-use Rattle.rules.specs.Split.{other, side_of, times, gain}
+use Rattle.rules.specs.Job.{Job, file_count, recipe_count, pin_count, view_of, view, views, recipes, Lent, is_read}
+use Rattle.rules.specs.Split.{other, side_of, gain}
 use Rattle.rules.specs.Move.{State, free, lock_of, moved, Scan, scans_of, scans, Change, changes_by, changes_of, steps_by}
 use Rattle.rules.specs.Fronts.{Buckets, start_buckets, without, reenters, moved_on}
 use Rattle.rules.specs.Theorems.{scans_told}
@@ -25,16 +25,16 @@ use Rattle.rules.proofs.NeverFree.{changes-whole, unread-locked}
 use Rattle.rules.proofs.OneMove.{was_free}
 use Rattle.rules.proofs.Count.{get_d-tabled, length-tabled}
 use Rattle.rules.proofs.Entries.{get_d_past}
-use Rattle.rules.proofs.SoundJob.{recipes-distinct, recipes-length}
+use Rattle.rules.proofs.SoundJob.{recipes-distinct}
 use Rattle.rules.proofs.Steps.{scans-append}
 use Rattle.rules.proofs.Entering.{changes-free, gain-unchanged}
 use Rattle.buckets.specs.StandFor.{◌∈◌, StandFor}
 use Rattle.buckets.proofs.Rows.{those-pass, pass-those}
 use Rattle.choice.specs.declared.window.Window.{Window}
-use Rattle.tables.specs.Zones.{part, state_in}
+use Rattle.tables.specs.Zones.{state_in}
 use Rattle.tables.specs.Ending.{turned}
-use Rattle.split.specs.Moving.{Board, move_one}
-use Rattle.split.specs.Links.{links_at, links_long, shape_of, links_in, followed_by}
+use Rattle.split.specs.Moving.{Board}
+use Rattle.split.specs.Links.{links_long, shape_of, links_in, followed_by}
 use Rattle.split.proofs.Going.{links_from, begins, made, stands, Line, Going}
 use Rattle.split.proofs.ChoiceNow.{gains-long, gains-fresh}
 use Rattle.split.proofs.NextMove.{Next, stands-long}

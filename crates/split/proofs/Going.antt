@@ -1,12 +1,12 @@
 -- A job after the first k of some moves, whoever chose them: what the lists, the scratch and the record in progress then hold. Assumes nothing.
 use mathlib.Core.Path.{◌≡◌, sym, ap, ◌∙◌}
-use Prim.Native.Nat.{ℕ, ◌+◌, ◌-◌, ◌*◌, ◌≤◌}
+use Prim.Native.Nat.{ℕ, ◌+◌, ◌-◌, ◌≤◌}
 use native.Mathlib.Omega.{arith}
 use mathlib.Core.List.{List, map}
 use lib.ListN.{length, take, drop}
 use lib.Seq.{drop-drop}
 use Rattle.rules.specs.Lists.{onto}
-use Rattle.rules.specs.Job.{Job, Limits, file_count, recipe_count, pin_count, views, recipes, Lent, scratch_for}
+use Rattle.rules.specs.Job.{Job, Limits, file_count, recipe_count, pin_count, views, recipes, Lent}
 use Rattle.rules.specs.Split.{cut, size_a}
 use Rattle.rules.specs.Move.{State, start, after, Frees, scans, ends_from, visits}
 use Rattle.rules.specs.Pass.{gains_when, cuts_after, cut_at, keeps, start_gains}

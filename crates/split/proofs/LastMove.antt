@@ -1,14 +1,14 @@
 -- After the last move: the figures are those of a pass with these moves, the sides of the best prefix come back, and with zeros filled in the lists are those it leaves. Assumes nothing.
 use mathlib.Core.Path.{◌≡◌, refl, sym, ap, ap₂, ◌∙◌}
 use Prim.Native.Nat.{ℕ, zero, suc, ◌+◌, ◌-◌, ◌*◌, ◌≤◌, ◌<◌}
-use mathlib.Core.List.{List, ◌++◌, map}
+use mathlib.Core.List.{List, map}
 use native.Mathlib.Nat.{add-zero, add-suc}
 use native.Mathlib.Omega.{arith}
 use lib.IntN.{pos}
-use lib.ListN.{length, get_or, take, drop, replicate, length-map}
+use lib.ListN.{length, get_or, take, length-map}
 use lib.Seq.{take-length}
 use Rattle.rules.specs.Lists.{onto, listed}
-use Rattle.rules.specs.Job.{Job, file_count, recipe_count, views, recipes, Lent, scratch_for}
+use Rattle.rules.specs.Job.{Job, file_count, recipe_count, views, recipes, Lent}
 use Rattle.rules.specs.Split.{size_a}
 use Rattle.rules.specs.Move.{State, Scan, scans, ends_from, visits}
 use Rattle.rules.specs.Pass.{gains_when, cuts_after, cut_at, keeps, gains_after, pass_of, leaves}
@@ -24,7 +24,7 @@ use Rattle.split.proofs.Going.{begins, made, stands, Line, Going}
 use Rattle.tables.specs.Clearing.{cleared}
 use Rattle.split.proofs.NextMove.{Next, next-at, stands-long, stands-binary, made-free, few-moves}
 use Rattle.split.proofs.Bounds.{scans-few}
-use Rattle.split.proofs.LentLists.{listed_of, listed-none}
+use Rattle.split.proofs.LentLists.{listed_of}
 
 -- the moves beyond `best` taken back
 back_to_lem : {job : Job} {ms : List ℕ} → Line job ms → (tried : List ℕ) (best d : ℕ) → best + d ≤ length ms

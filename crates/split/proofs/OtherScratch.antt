@@ -1,13 +1,13 @@
 -- Moves underway, with other numbers behind the counts of the scratch: edition 2's links stand there. Assumes nothing.
-use mathlib.Core.Path.{◌≡◌, refl, sym, ap, ◌∙◌}
-use Prim.Native.Nat.{ℕ, ◌+◌, ◌*◌, ◌≤◌, ◌<◌}
-use mathlib.Core.List.{List, []}
+use mathlib.Core.Path.{◌≡◌, sym, ap, ◌∙◌}
+use Prim.Native.Nat.{ℕ, ◌+◌, ◌*◌, ◌<◌}
+use mathlib.Core.List.{List}
 use native.Mathlib.Omega.{arith}
 use lib.ListN.{length, get_or, take, drop}
 use lib.Seq.{take-take}
 use Rattle.rules.specs.Job.{Job, file_count, recipe_count, pin_count, recipes, Lent}
 use Rattle.choice.specs.declared.window.Window.{Window}
-use Rattle.tables.specs.Zones.{counts_at, side_at, Cells, CountsOf, Counts}
+use Rattle.tables.specs.Zones.{counts_at, side_at, Cells, CountsOf}
 use Rattle.tables.proofs.Parts.{front-entry, front-part}
 use Rattle.tables.proofs.LentParts.{cells_same}
 use Rattle.tables.proofs.Sides.{side-within}

@@ -1,20 +1,17 @@
 -- The moves of a pass by an edition: the choice by the lists is the choice that makes them. Assumes nothing.
-use mathlib.Core.Path.{◌≡◌, refl, sym, ap, subst, ◌∙◌}
-use Prim.Native.Nat.{ℕ, ◌≤◌, ◌<◌}
+use mathlib.Core.Path.{◌≡◌, refl, sym, ap, ◌∙◌}
+use Prim.Native.Nat.{ℕ}
 use mathlib.Core.Bool.{Bool, true, false, cond}
 use mathlib.Core.List.{List}
 use mathlib.Core.Option.{Option, none, some}
-use native.Mathlib.Omega.{arith}
-use lib.ListN.{length, get_or, take}
+use lib.ListN.{length}
 use lib.Seq.{take-length}
-use lib.Dec.{leb, eqb}
-use lib.IntN.{ℤ, pos}
-use borrow.Author.Tests.{eqb-true}
-use Rattle.rules.specs.Job.{Job, Limits, file_count, recipe_count, pin_count, recipes, Lent, scratch_for}
-use Rattle.rules.specs.Split.{side_of, balanced, tolerance, weight}
-use Rattle.rules.specs.Move.{State, moved, after, Frees, legal, size_after, dist_after, choose, moves, moves_by}
+use lib.Dec.{eqb}
+use Rattle.rules.specs.Job.{Job, Limits, file_count}
+use Rattle.rules.specs.Split.{side_of}
+use Rattle.rules.specs.Move.{State, moved, after, Frees, legal, choose, moves}
 use Rattle.rules.specs.Pass.{tries}
-use Rattle.rules.specs.Fronts.{Buckets, start_buckets, moved_on, gain_in, offer, choose_front, front_tries, tries_by}
+use Rattle.rules.specs.Fronts.{Buckets, start_buckets, moved_on, choose_front, front_tries, tries_by}
 use Rattle.rules.specs.FrontsHold.{buckets_at, fronts_at}
 use Rattle.rules.specs.Theorems.{Sound, Chosen}
 use Rattle.rules.proofs.Tests.{clash}
@@ -22,9 +19,6 @@ use Rattle.rules.proofs.Choice.{chosen}
 use Rattle.rules.proofs.MovesEnd.{StateLong, moves_each, pass-end}
 use Rattle.rules.proofs.Proved.{lawful-frees, given-sides}
 use Rattle.rules.proofs.FrontsProved.{editions-hold, pass-holds-fronts, good-at, chosen-front}
-use Rattle.choice.specs.declared.window.Window.{Window}
-use Rattle.choice.specs.declared.edition1.Best.{Best}
-use Rattle.split.specs.Moving.{Board}
 use Rattle.split.proofs.Going.{begins, stands}
 use Rattle.split.proofs.NextMove.{Picked}
 

@@ -1,8 +1,7 @@
 -- The steps of a pass by an edition that touch nothing but edition 2's links: the free files enter, the choice, and what follows a move. Assumes nothing.
 use mathlib.Core.Path.{◌≡◌, refl, sym, ap, subst, ◌∙◌}
 use mathlib.Core.Logic.{◌≢◌}
-use Prim.Native.Nat.{ℕ, zero, suc, ◌+◌, ◌-◌, ◌*◌, ◌≤◌, ◌<◌}
-use mathlib.Core.Bool.{Bool, true, false, cond}
+use Prim.Native.Nat.{ℕ, suc, ◌+◌, ◌-◌, ◌≤◌, ◌<◌}
 use mathlib.Core.List.{List, []}
 use native.Mathlib.Decide.{ℕ_discrete}
 use native.Mathlib.Omega.{arith}
@@ -10,9 +9,9 @@ use lib.ListN.{length, get_or, take, drop, length-append}
 use lib.Seq.{drop-drop}
 use lib.Dec.{eqb}
 use lib.IntN.{ℤ}
-use borrow.Author.Tests.{eq-eqb, ne_eqb}
+use borrow.Author.Tests.{ne_eqb}
 use Rattle.rules.specs.Lists.{those, up_to, AllBelow}
-use Rattle.rules.specs.Job.{Job, Limits, file_count, recipe_count, pin_count, files, recipes, view_of, Lent, scratch_for}
+use Rattle.rules.specs.Job.{Job, file_count, recipe_count, pin_count, files, recipes, view_of, Lent, scratch_for}
 use Rattle.rules.specs.Move.{scans_of, scans, steps_by}
 use Rattle.rules.specs.Fronts.{to_front, entered_first}
 use Rattle.rules.specs.Theorems.{Binary}
@@ -23,12 +22,10 @@ use Rattle.choice.specs.declared.edition1.Best.{Best}
 use Rattle.tables.specs.declared.zones.Extent.{Extent}
 use Rattle.tables.specs.Zones.{extent_of}
 use Rattle.tables.specs.Ending.{turned}
-use Rattle.split.specs.declared.progress.Progress.{Progress}
 use Rattle.split.specs.Scanning.{Treated}
 use Rattle.split.specs.Moving.{Board, counted_on, treat_move, move_one}
-use Rattle.split.specs.Links.{links_at, links_long, shape_of, links_in, HasLinks, entered_by, Picked, picked_is, picked_by, followed_by}
+use Rattle.split.specs.Links.{links_long, shape_of, links_in, HasLinks, entered_by, Picked, picked_is, picked_by, followed_by}
 use Rattle.split.proofs.Going.{links_from, begins, made, stands, Going}
-use Rattle.split.proofs.Treats.{MoveTreated}
 use Rattle.split.proofs.Bounds.{BoardLong, board-long, scans-few}
 use Rattle.split.proofs.NextMove.{stands-binary}
 use Rattle.split.proofs.MoveNow.{recipes-treated, move-goes}

@@ -17,7 +17,7 @@ use Rattle.split.specs.Scanning.{shifted_by}
 
 -- what a call answers is what is read back from it
 pub mag-back : (z : ℤ) → mag z < 2 ^ 31 → to_z w32 (of_z w32 z) ≡ z
-mag-back z h = to_z-of_z (record { sfits = h })
+mag-back z h = let f : SFits w32 z = record { sfits = h } in to_z-of_z f
 
 pub abs-back : (z : ℤ) → abs z < 2 ^ 31 → to_z w32 (of_z w32 z) ≡ z
 abs-back z h = to_z-of_z (abs-fits z h)

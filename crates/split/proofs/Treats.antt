@@ -5,7 +5,7 @@ use mathlib.Core.List.{List, map}
 use lib.ListN.{length, get_or, take, drop}
 use lib.IntN.{pos}
 use Rattle.rules.specs.Lists.{onto}
-use Rattle.rules.specs.Job.{Job, file_count, recipe_count, pin_count, views, recipes, Lent, scratch_for}
+use Rattle.rules.specs.Job.{Job, file_count, recipe_count, pin_count, views, recipes, Lent}
 use Rattle.rules.specs.Split.{side_of, cut, size_of, size_a}
 use Rattle.rules.specs.Move.{scans, visits}
 use Rattle.rules.specs.Pass.{start_gains}
