@@ -15,14 +15,11 @@ use Rattle.job.specs.Parts.{whole_job}
 use Rattle.split.proofs.Unique.{leaves}
 use Rattle.runs.proofs.run.Kinds as kinds
 use Rattle.runs.proofs.run.Reads as run
-use Rattle.runs.proofs.run.⟦Job·MOST-FILES⟧-asked.Lts as files
-use Rattle.runs.proofs.run.⟦Job·MOST-RECIPES⟧-asked.Lts as recipes
-use Rattle.runs.proofs.run.⟦Job·MOST-PINS⟧-asked.Lts as pins
-use Rattle.runs.proofs.run.⟦Job·MOST-DEN⟧-asked.Lts as den
+use Rattle.job.specs.declared.TheConstants.Job.{MOST_FILES, MOST_RECIPES, MOST_PINS, MOST_DEN}
 
 -- the job's own limits, as the contract asks them of the code
 abbrev most : Limits
-most = limits_of (files.answer tt tt) (recipes.answer tt tt) (pins.answer tt tt) (den.answer tt tt)
+most = limits_of MOST_FILES MOST_RECIPES MOST_PINS MOST_DEN
 
 -- what a call is handed: the job, and the other lent lists
 abbrev job_in : (κs : Lfts 13) → Dens κs kinds.ps → Job
