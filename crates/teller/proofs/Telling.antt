@@ -13,7 +13,7 @@ use Rattle.rules.specs.declared.RunFigures.{RunFigures}
 use Rattle.rules.specs.declared.Printed.{Printed}
 use Rattle.rules.specs.Job.{Job, Limits, file_count, Lent}
 use Rattle.rules.specs.Run.{Ended, ended_of, no_run_figures, pass_ends, run_ends}
-use Rattle.rules.specs.Stored.{job_of, read_verdict}
+use Rattle.rules.specs.Stored.{read_verdict}
 use Rattle.rules.specs.Report.{refusal, Printing, printed, into_room, reporting, prints, all_room, all_lent, all_run}
 use Rattle.rules.specs.Trace.{listing, holds_pass, tracing, traces}
 use Rattle.rules.proofs.CutOff.{prints-no, traces-no}
