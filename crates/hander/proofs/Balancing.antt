@@ -14,7 +14,6 @@ use Rattle.rules.specs.Stored.{block_count, job_of, read_verdict}
 use Rattle.rules.specs.Report.{size_line, into_room, all_room, all_lent}
 use Rattle.rules.specs.Writing.{header_for, blocks_of, with_sides}
 use Rattle.rules.specs.Balance.{balance_verdict, Balancing, balancing_of, balancing, balance_lines, balance_reporting, all_balancing, balances}
-use Rattle.rules.proofs.Verdicts.{passes-both}
 use Rattle.rules.proofs.Proved.{accepted, check-writes}
 use Rattle.rules.proofs.Writes.{handed-refused, handed-done}
 use Rattle.rules.proofs.Balancing.{balance-told, balance-answers, answer-verdict, balances-no}

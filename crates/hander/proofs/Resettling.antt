@@ -8,7 +8,7 @@ use native.Mathlib.Decide.{ℕ_discrete}
 use borrow.Author.Tests.{eq-eqb}
 use Rattle.rules.specs.declared.Verdict.{Verdict}
 use Rattle.rules.specs.declared.RunFigures.{RunFigures}
-use Rattle.rules.specs.Job.{Job, Limits, Lent, fits}
+use Rattle.rules.specs.Job.{Job, Limits, Lent}
 use Rattle.rules.specs.Check.{check, check_lent}
 use Rattle.rules.specs.Run.{Ended, ended_of, last_pass, run_ends}
 use Rattle.rules.specs.Stored.{job_of, read_verdict}

@@ -13,6 +13,7 @@ ghost use Rattle.stored.specs.Steps.{job_taken, Held};
 ghost use Rattle.hander.specs.Handing.{refused_out, made_out, run_out, balanced_out, balancing_out, Made};
 
 use job::Job;
+use layout::INPUT_BYTES;
 use rules::{BalanceFigures, Handed, Verdict};
 use stored::TakenUp;
 
@@ -20,7 +21,7 @@ use stored::TakenUp;
 const LINES_BYTES: usize = 256;
 
 // No stored job is longer, its lines behind it.
-pub const ROOM_BYTES: usize = layout::INPUT_BYTES + LINES_BYTES;
+pub const ROOM_BYTES: usize = INPUT_BYTES + LINES_BYTES;
 
 // What is refused is told alone, for standard error.
 fn hand_refusal(verdict: Verdict, room: &mut [u8]) -> Handed
@@ -103,9 +104,9 @@ fn resettle_run(
     bytes: usize,
 ) -> Handed
     requires scratch_value { lent_of gains.old tried.old gained.old cuts.old ends.old recipes.old kinds.old scratch.old ≡ all_lent (limits_of Job.MOST_FILES Job.MOST_RECIPES Job.MOST_PINS Job.MOST_DEN) (whole_job job sizes.now sides.old marks.now bounds.now pins.now) }
-    requires fact { (bytes ≡ 512 * block_count (header_for (whole_job job sizes.now sides.old marks.now bounds.now pins.now))) × (bytes ≤ layout.INPUT_BYTES) }
+    requires fact { (bytes ≡ 512 * block_count (header_for (whole_job job sizes.now sides.old marks.now bounds.now pins.now))) × (bytes ≤ INPUT_BYTES) }
     ensures room_after { handing_of result room.new ≡ hand_into (run_out edition (limits_of Job.MOST_FILES Job.MOST_RECIPES Job.MOST_PINS Job.MOST_DEN) (whole_job job sizes.now sides.old marks.now bounds.now pins.now)) room.old }
-    ensures fact_2 { Answered layout.INPUT_BYTES result.verdict room.old }
+    ensures fact_2 { Answered INPUT_BYTES result.verdict room.old }
 {
     let answer = runs::run(
         edition, job, sizes, sides, marks, bounds, pins, gains, tried, gained, cuts, ends, recipes,
@@ -122,9 +123,9 @@ fn resettle_run(
 // The same of a job that was taken up, with lists of the hander's own.
 fn resettle_job(edition: u16, t: TakenUp, room: &mut [u8], bytes: usize) -> Handed
     requires fact { Held (limits_of Job.MOST_FILES Job.MOST_RECIPES Job.MOST_PINS Job.MOST_DEN) t }
-    requires fact_2 { (bytes ≡ 512 * block_count (header_for (job_taken t))) × (bytes ≤ layout.INPUT_BYTES) }
+    requires fact_2 { (bytes ≡ 512 * block_count (header_for (job_taken t))) × (bytes ≤ INPUT_BYTES) }
     ensures room_after { handing_of result room.new ≡ hand_into (run_out edition (limits_of Job.MOST_FILES Job.MOST_RECIPES Job.MOST_PINS Job.MOST_DEN) (job_taken t)) room.old }
-    ensures fact_3 { Answered layout.INPUT_BYTES result.verdict room.old }
+    ensures fact_3 { Answered INPUT_BYTES result.verdict room.old }
 {
     let read = t.read;
     let h = read.header;
@@ -169,7 +170,7 @@ fn resettle_job(edition: u16, t: TakenUp, room: &mut [u8], bytes: usize) -> Hand
 // The stored job with the sides after its run by an edition, or a refusal's line: what the program `resettle` writes to standard output and to standard error, for every input.
 pub fn resettle(edition: u16, input: &[u8], room: &mut [u8]) -> Handed
     ensures room_after { handing_of result room.new ≡ hand_into (resettles edition (limits_of Job.MOST_FILES Job.MOST_RECIPES Job.MOST_PINS Job.MOST_DEN) input.now) room.old }
-    ensures fact { Answered layout.INPUT_BYTES result.verdict room.old × BothLendable result.output result.errors room.new }
+    ensures fact { Answered INPUT_BYTES result.verdict room.old × BothLendable result.output result.errors room.new }
 {
     let t = stored::take_up(input);
     let read = t.read;
@@ -238,7 +239,7 @@ fn balance_with(
     bytes: usize,
 ) -> Handed
     requires scratch_value { scratch.old ≡ (all_lent (limits_of Job.MOST_FILES Job.MOST_RECIPES Job.MOST_PINS Job.MOST_DEN) (whole_job job sizes.now sides.old marks.now bounds.now pins.now)).scratch }
-    requires fact { (bytes ≡ 512 * block_count (header_for (whole_job job sizes.now sides.old marks.now bounds.now pins.now))) × (bytes ≤ layout.INPUT_BYTES) }
+    requires fact { (bytes ≡ 512 * block_count (header_for (whole_job job sizes.now sides.old marks.now bounds.now pins.now))) × (bytes ≤ INPUT_BYTES) }
     ensures room_after { handing_of result room.new ≡ hand_into (balancing_out (limits_of Job.MOST_FILES Job.MOST_RECIPES Job.MOST_PINS Job.MOST_DEN) (whole_job job sizes.now sides.old marks.now bounds.now pins.now)) room.old }
     ensures answered { Answered ROOM_BYTES result.verdict room.old }
 {
@@ -253,7 +254,7 @@ fn balance_with(
 // The same of a job that was taken up, with a scratch of the hander's own.
 fn balance_job(t: TakenUp, room: &mut [u8], bytes: usize) -> Handed
     requires fact { Held (limits_of Job.MOST_FILES Job.MOST_RECIPES Job.MOST_PINS Job.MOST_DEN) t }
-    requires fact_2 { (bytes ≡ 512 * block_count (header_for (job_taken t))) × (bytes ≤ layout.INPUT_BYTES) }
+    requires fact_2 { (bytes ≡ 512 * block_count (header_for (job_taken t))) × (bytes ≤ INPUT_BYTES) }
     ensures room_after { handing_of result room.new ≡ hand_into (balancing_out (limits_of Job.MOST_FILES Job.MOST_RECIPES Job.MOST_PINS Job.MOST_DEN) (job_taken t)) room.old }
     ensures fact_3 { Answered ROOM_BYTES result.verdict room.old }
 {

@@ -1,0 +1,27 @@
+use mathlib.Core.Path.{ap, ◌∙◌}
+use native.Mathlib.Omega.{arith}
+use Rattle.rules.specs.Job.{Job, limits_of}
+use Rattle.rules.specs.Writing.{HandedOut, hand_into}
+use Rattle.job.specs.Parts.{whole_job}
+use Rattle.hander.proofs.Balancing.{refused-out, made-out, after-made}
+use Rattle.hander.proofs.balance_with.Goals as goal
+
+pub returns-then-verdict-ne0 : goal.returns-then-verdict-ne0
+returns-then-verdict-ne0 c =
+    let a = c.args in
+    let job : Job = whole_job a.job a.sizes.now a.sides.now a.marks.now a.bounds.now a.pins.now in
+    let o = refused-out (limits_of _ _ _ _) job _ _ _ _ c.balance-answer.ensures c.requires.scratch_value c.if-verdict-ne0.true in
+    let h = c.hand_refusal.ensures in record { room_after = h.room_after ∙ ap (λ (x : HandedOut). hand_into x a.room.now) o; answered = λ long. h.answered (omega (arith, long)) }
+
+pub hand_made-requires : goal.hand_made-requires
+hand_made-requires c =
+    let a = c.args in
+    let job : Job = whole_job a.job a.sizes.now a.sides.now a.marks.now a.bounds.now a.pins.now in
+    after-made (limits_of _ _ _ _) job _ _ _ _ c.balance-answer.ensures c.requires.scratch_value c.if-verdict-ne0.false a.bytes c.requires.fact.0
+
+pub returns : goal.returns
+returns c =
+    let a = c.args in
+    let job : Job = whole_job a.job a.sizes.now a.sides.now a.marks.now a.bounds.now a.pins.now in
+    let o = made-out (limits_of _ _ _ _) job _ _ _ _ c.balance-answer.ensures c.requires.scratch_value c.if-verdict-ne0.false in
+    let h = c.hand_made.ensures in record { room_after = h.room_after ∙ ap (λ (x : HandedOut). hand_into x a.room.now) o; answered = λ long. h.answered (omega (arith, long, c.requires.fact.1)) }
