@@ -7,8 +7,9 @@
 ghost use Rattle.std.specs.Prelude.{◌≤◌};
 
 use job::wide;
-use libc::STDOUT_FILENO;
 use rules::{Compared, Difference};
+use std::io;
+use std::io::{BufWriter, Read, Write};
 
 // The most bytes of a stored job.
 const MOST_BYTES: usize = 20000;
@@ -52,38 +53,41 @@ fn compared<'o, 'n>(old: &'o [u8], new: &'n [u8], n: usize) -> Listed
 
 // ---- Writing
 
-fn word(text: &[u8]) {
-    io::write_all(STDOUT_FILENO, text);
+fn word<W: Write>(out: &mut W, text: &[u8]) -> io::Result<()> {
+    out.write_all(text)
 }
 
-fn number(n: usize) {
-    io::print_decimal(STDOUT_FILENO, n as u64);
+fn number<W: Write>(out: &mut W, n: usize) -> io::Result<()> {
+    write!(out, "{n}")
 }
 
 // Four numbers, one space between.
-fn show_four(a: usize, b: usize, c: usize, d: usize) {
-    number(a);
-    word(b" ");
-    number(b);
-    word(b" ");
-    number(c);
-    word(b" ");
-    number(d);
+fn show_four<W: Write>(out: &mut W, a: usize, b: usize, c: usize, d: usize) -> io::Result<()> {
+    number(out, a)?;
+    word(out, b" ")?;
+    number(out, b)?;
+    word(out, b" ")?;
+    number(out, c)?;
+    word(out, b" ")?;
+    number(out, d)
 }
 
-fn show_record(d: Difference) {
-    show_four(wide(d.what), wide(d.number), wide(d.old), wide(d.new));
-    word(b"\n");
+fn show_record<W: Write>(out: &mut W, d: Difference) -> io::Result<()> {
+    show_four(out, wide(d.what), wide(d.number), wide(d.old), wide(d.new))?;
+    word(out, b"\n")
 }
 
-fn show_records(list: [Difference; MOST_LIST], count: usize)
+fn show_records<W: Write>(
+    out: &mut W,
+    list: [Difference; MOST_LIST],
+    count: usize,
+) -> io::Result<()>
     requires { count ≤ MOST_LIST }
 {
-    let mut i = 0;
-    while i < count {
-        show_record(list[i]);
-        i += 1;
+    for i in 0..count {
+        show_record(out, list[i])?;
     }
+    Ok(())
 }
 
 // ---- Comparing
@@ -96,94 +100,95 @@ fn is_filled(d: Difference) -> bool {
 fn is_kept(list: [Difference; MOST_LIST], start: usize, end: usize) -> bool
     requires { end ≤ MOST_LIST }
 {
-    let mut i = start;
-    while i < end {
+    for i in start..end {
         if !is_filled(list[i]) {
             return false;
         }
-        i += 1;
     }
     true
 }
 
-fn show_kept(list: [Difference; MOST_LIST], start: usize) {
+fn show_kept<W: Write>(out: &mut W, list: [Difference; MOST_LIST], start: usize) -> io::Result<()> {
     if is_kept(list, start, MOST_LIST) {
-        word(b"kept\n");
-        return;
+        return word(out, b"kept\n");
     }
-    word(b"changed\n");
+    word(out, b"changed\n")
 }
 
 // ---- A call of the comparing
 
-fn show_done(list: [Difference; MOST_LIST], count: usize) {
-    word(b"done ");
-    number(count);
-    word(b"\n");
+fn show_done<W: Write>(out: &mut W, list: [Difference; MOST_LIST], count: usize) -> io::Result<()> {
+    word(out, b"done ")?;
+    number(out, count)?;
+    word(out, b"\n")?;
     let told = least(count, MOST_LIST);
-    show_records(list, told);
-    show_kept(list, told);
+    show_records(out, list, told)?;
+    show_kept(out, list, told)
 }
 
-fn show_refused(list: [Difference; MOST_LIST], answer: Compared) {
-    word(b"refused ");
+fn show_refused<W: Write>(
+    out: &mut W,
+    list: [Difference; MOST_LIST],
+    answer: Compared,
+) -> io::Result<()> {
+    word(out, b"refused ")?;
     let v = answer.verdict;
-    show_four(answer.job, v.number, v.place, answer.count);
-    word(b" ");
-    show_kept(list, 0);
+    show_four(out, answer.job, v.number, v.place, answer.count)?;
+    word(out, b" ")?;
+    show_kept(out, list, 0)
 }
 
-fn show_answer(listed: Listed) {
+fn show_answer<W: Write>(out: &mut W, listed: Listed) -> io::Result<()> {
     let answer = listed.answer;
     let list = listed.list;
     let v = answer.verdict;
     if v.number == 0 {
-        show_done(list, answer.count);
-        return;
+        return show_done(out, list, answer.count);
     }
-    show_refused(list, answer);
+    show_refused(out, list, answer)
 }
 
-fn show_call() {
+fn show_call<R: Read, W: Write>(reader: &mut R, out: &mut W) -> io::Result<()> {
     let mut old = [0u8; MOST_BYTES];
-    let came = frames::take(&mut old);
+    let came = frames::take(reader, &mut old)?;
     let mut new = [0u8; MOST_BYTES];
-    let got = frames::take(&mut new);
+    let got = frames::take(reader, &mut new)?;
     let mut length = [0u16; 1];
-    frames::take_numbers(&mut length);
+    frames::take_numbers(reader, &mut length)?;
     let n = least(wide(length[0]), MOST_LIST);
-    show_answer(compared(&old[..came], &new[..got], n));
+    show_answer(out, compared(&old[..came], &new[..got], n))
 }
 
 // ---- The cases
 
-fn show_heading() {
+fn show_heading<R: Read, W: Write>(reader: &mut R, out: &mut W) -> io::Result<()> {
     let mut text = [0u8; 255];
-    let got = frames::take(&mut text);
-    word(&text[..got]);
-    word(b"\n");
+    let got = frames::take(reader, &mut text)?;
+    word(out, &text[..got])?;
+    word(out, b"\n")
 }
 
 // Whether there was a case. Its first frame is a letter that says of which kind it is.
-fn show_case() -> bool {
+fn show_case<R: Read, W: Write>(reader: &mut R, out: &mut W) -> io::Result<bool> {
     let mut kind = [0u8; 1];
-    if frames::take(&mut kind) == 0 {
-        return false;
+    if frames::take(reader, &mut kind)? == 0 {
+        return Ok(false);
     }
     match kind[0] {
-        b'c' => show_call(),
-        _ => show_heading(),
+        b'c' => show_call(reader, out)?,
+        _ => show_heading(reader, out)?,
     }
-    true
+    Ok(true)
 }
 
-// A proved loop ends, so this one counts its turns down, from more than there are cases.
-fn main() {
-    let mut turns: usize = 65535;
-    while 0 < turns {
-        if !show_case() {
-            return;
+// A proved loop ends, so this one has more turns than there are cases.
+fn main(rt: HostRuntime) -> io::Result<()> {
+    let mut reader = rt.reader();
+    let mut out = BufWriter::new(rt.alloc(), io::writer(&rt))?;
+    for _ in 0..u16::MAX {
+        if !show_case(&mut reader, &mut out)? {
+            break;
         }
-        turns -= 1;
     }
+    out.flush()
 }

@@ -7,8 +7,9 @@
 
 ghost use Rattle.std.specs.Prelude.{◌<◌};
 
-use libc::STDOUT_FILENO;
 use rules::BalanceFigures;
+use std::io;
+use std::io::{BufWriter, Read, Write};
 
 // Room for one number more than the longest list of a job may have.
 const MOST: usize = job::Job::MOST_PINS + 1;
@@ -25,70 +26,83 @@ fn widened(x: u16) -> usize
 
 // ---- Writing
 
-fn word(text: &[u8]) {
-    io::write_all(STDOUT_FILENO, text);
+fn word<W: Write>(out: &mut W, text: &[u8]) -> io::Result<()> {
+    out.write_all(text)
 }
 
-fn number(n: usize) {
-    io::print_decimal(STDOUT_FILENO, n as u64);
+fn number<W: Write>(out: &mut W, n: usize) -> io::Result<()> {
+    write!(out, "{n}")
 }
 
 // A further number of a line.
-fn next(n: usize) {
-    word(b" ");
-    number(n);
+fn next<W: Write>(out: &mut W, n: usize) -> io::Result<()> {
+    word(out, b" ")?;
+    number(out, n)
 }
 
-fn entries(list: &[u16]) {
-    let mut i = 0;
-    while i < list.len() {
-        next(widened(list[i]));
-        i += 1;
+fn entries<W: Write>(out: &mut W, list: &[u16]) -> io::Result<()> {
+    for x in list {
+        next(out, widened(*x))?;
     }
+    Ok(())
 }
 
-fn show_list(list: &[u16]) {
-    number(list.len());
-    entries(list);
-    word(b"\n");
+fn show_list<W: Write>(out: &mut W, list: &[u16]) -> io::Result<()> {
+    number(out, list.len())?;
+    entries(out, list)?;
+    word(out, b"\n")
 }
 
 // ---- Asking
 
-fn show_answers(v: rules::Verdict, m: rules::Measure) {
-    number(v.number);
-    next(v.place);
+fn show_answers<W: Write>(out: &mut W, v: rules::Verdict, m: rules::Measure) -> io::Result<()> {
+    number(out, v.number)?;
+    next(out, v.place)?;
     let w = m.verdict;
-    next(w.number);
-    next(w.place);
-    next(m.cut);
-    next(m.size as usize);
-    next(m.unread);
-    next(m.holding);
-    word(b"\n");
+    next(out, w.number)?;
+    next(out, w.place)?;
+    next(out, m.cut)?;
+    next(out, m.size as usize)?;
+    next(out, m.unread)?;
+    next(out, m.holding)?;
+    word(out, b"\n")
 }
 
-fn ask(job: job::Job, sizes: &[u16], sides: &[u16], marks: &[u16], bounds: &[u16], pins: &[u16]) {
+fn ask<W: Write>(
+    out: &mut W,
+    job: job::Job,
+    sizes: &[u16],
+    sides: &[u16],
+    marks: &[u16],
+    bounds: &[u16],
+    pins: &[u16],
+) -> io::Result<()> {
     let v = job::check(job, sizes, sides, marks, bounds, pins);
     let m = job::measure(job, sizes, sides, marks, bounds, pins);
-    show_answers(v, m);
+    show_answers(out, v, m)
 }
 
-fn show_balancing(r: BalanceFigures, sides: &[u16], scratch: &[u16]) {
+fn show_balancing<W: Write>(
+    out: &mut W,
+    r: BalanceFigures,
+    sides: &[u16],
+    scratch: &[u16],
+) -> io::Result<()> {
     let v = r.verdict;
-    number(v.number);
-    next(v.place);
-    next(r.moves);
-    next(r.cut);
-    next(r.size as usize);
-    next(r.unread);
-    next(r.holding);
-    word(b"\n");
-    show_list(sides);
-    show_list(scratch);
+    number(out, v.number)?;
+    next(out, v.place)?;
+    next(out, r.moves)?;
+    next(out, r.cut)?;
+    next(out, r.size as usize)?;
+    next(out, r.unread)?;
+    next(out, r.holding)?;
+    word(out, b"\n")?;
+    show_list(out, sides)?;
+    show_list(out, scratch)
 }
 
-fn balance(
+fn balance<W: Write>(
+    out: &mut W,
     job: job::Job,
     sizes: &[u16],
     sides: &mut [u16],
@@ -96,33 +110,34 @@ fn balance(
     bounds: &[u16],
     pins: &[u16],
     scratch: &mut [u16],
-) {
+) -> io::Result<()> {
     let r = split::balance(job, sizes, sides, marks, bounds, pins, scratch);
-    show_balancing(r, sides, scratch);
+    show_balancing(out, r, sides, scratch)
 }
 
-fn take_job() -> job::Job {
+fn take_job<R: Read>(reader: &mut R) -> io::Result<job::Job> {
     let mut figures = [0u16; 4];
-    frames::take_numbers(&mut figures);
-    job::Job::new(figures[0], figures[1], figures[2], figures[3])
+    frames::take_numbers(reader, &mut figures)?;
+    Ok(job::Job::new(figures[0], figures[1], figures[2], figures[3]))
 }
 
-fn show_job(balanced: bool) {
-    let job = take_job();
+fn show_job<R: Read, W: Write>(reader: &mut R, out: &mut W, balanced: bool) -> io::Result<()> {
+    let job = take_job(reader)?;
     let mut sizes = [0u16; MOST];
-    let s = frames::take_numbers(&mut sizes);
+    let s = frames::take_numbers(reader, &mut sizes)?;
     let mut sides = [0u16; MOST];
-    let d = frames::take_numbers(&mut sides);
+    let d = frames::take_numbers(reader, &mut sides)?;
     let mut marks = [0u16; MOST];
-    let m = frames::take_numbers(&mut marks);
+    let m = frames::take_numbers(reader, &mut marks)?;
     let mut bounds = [0u16; MOST];
-    let b = frames::take_numbers(&mut bounds);
+    let b = frames::take_numbers(reader, &mut bounds)?;
     let mut pins = [0u16; MOST];
-    let p = frames::take_numbers(&mut pins);
+    let p = frames::take_numbers(reader, &mut pins)?;
     if balanced {
         let mut scratch = [0u16; MOST_SCRATCH];
-        let z = frames::take_numbers(&mut scratch);
-        balance(
+        let z = frames::take_numbers(reader, &mut scratch)?;
+        return balance(
+            out,
             job,
             &sizes[..s],
             &mut sides[..d],
@@ -131,64 +146,65 @@ fn show_job(balanced: bool) {
             &pins[..p],
             &mut scratch[..z],
         );
-        return;
     }
     ask(
+        out,
         job,
         &sizes[..s],
         &sides[..d],
         &marks[..m],
         &bounds[..b],
         &pins[..p],
-    );
+    )
 }
 
 // A recipe's number may take all eight bytes.
-fn take_recipe() -> usize {
+fn take_recipe<R: Read>(reader: &mut R) -> io::Result<usize> {
     let mut j = [0u16; 4];
-    frames::take_numbers(&mut j);
-    widened(j[0]) + 65536 * (widened(j[1]) + 65536 * (widened(j[2]) + 65536 * widened(j[3])))
+    frames::take_numbers(reader, &mut j)?;
+    Ok(widened(j[0]) + 65536 * (widened(j[1]) + 65536 * (widened(j[2]) + 65536 * widened(j[3]))))
 }
 
-fn show_view() {
-    let j = take_recipe();
+fn show_view<R: Read, W: Write>(reader: &mut R, out: &mut W) -> io::Result<()> {
+    let j = take_recipe(reader)?;
     let mut bounds = [0u16; MOST];
-    let b = frames::take_numbers(&mut bounds);
+    let b = frames::take_numbers(reader, &mut bounds)?;
     let mut pins = [0u16; MOST];
-    let p = frames::take_numbers(&mut pins);
+    let p = frames::take_numbers(reader, &mut pins)?;
     let view = job::view(&bounds[..b], &pins[..p], j);
-    show_list(view);
+    show_list(out, view)
 }
 
-fn show_heading() {
+fn show_heading<R: Read, W: Write>(reader: &mut R, out: &mut W) -> io::Result<()> {
     let mut text = [0u8; 255];
-    let got = frames::take(&mut text);
-    word(&text[..got]);
-    word(b"\n");
+    let got = frames::take(reader, &mut text)?;
+    word(out, &text[..got])?;
+    word(out, b"\n")
 }
 
 // Whether there was a case. Its first frame is a letter that says of which kind it is.
-fn show_case() -> bool {
+fn show_case<R: Read, W: Write>(reader: &mut R, out: &mut W) -> io::Result<bool> {
     let mut kind = [0u8; 1];
-    if frames::take(&mut kind) == 0 {
-        return false;
+    if frames::take(reader, &mut kind)? == 0 {
+        return Ok(false);
     }
     match kind[0] {
-        b'j' => show_job(false),
-        b'b' => show_job(true),
-        b'v' => show_view(),
-        _ => show_heading(),
+        b'j' => show_job(reader, out, false)?,
+        b'b' => show_job(reader, out, true)?,
+        b'v' => show_view(reader, out)?,
+        _ => show_heading(reader, out)?,
     }
-    true
+    Ok(true)
 }
 
-// A proved loop ends, so this one counts its turns down, from more than there are cases.
-fn main() {
-    let mut turns: usize = 65535;
-    while 0 < turns {
-        if !show_case() {
-            return;
+// A proved loop ends, so this one has more turns than there are cases.
+fn main(rt: HostRuntime) -> io::Result<()> {
+    let mut reader = rt.reader();
+    let mut out = BufWriter::new(rt.alloc(), io::writer(&rt))?;
+    for _ in 0..u16::MAX {
+        if !show_case(&mut reader, &mut out)? {
+            break;
         }
-        turns -= 1;
     }
+    out.flush()
 }

@@ -8,8 +8,9 @@
 ghost use Rattle.std.specs.Prelude.{◌≤◌, ◌<◌, length};
 
 use job::Job;
-use libc::STDOUT_FILENO;
 use rules::{Figures, RunFigures};
+use std::io;
+use std::io::{BufWriter, Read, Write};
 
 // Room for one number more than the longest list of a job may have.
 const MOST: usize = Job::MOST_PINS + 1;
@@ -23,36 +24,35 @@ const MOST_SCRATCH: usize = tables::MOST_NUMBERS + 16;
 
 // ---- Writing
 
-fn word(text: &[u8]) {
-    io::write_all(STDOUT_FILENO, text);
+fn word<W: Write>(out: &mut W, text: &[u8]) -> io::Result<()> {
+    out.write_all(text)
 }
 
-fn number(n: u64) {
-    io::print_decimal(STDOUT_FILENO, n);
+fn number<W: Write>(out: &mut W, n: u64) -> io::Result<()> {
+    write!(out, "{n}")
 }
 
 // A further number of a line.
-fn next(n: u64) {
-    word(b" ");
-    number(n);
+fn next<W: Write>(out: &mut W, n: u64) -> io::Result<()> {
+    word(out, b" ")?;
+    number(out, n)
 }
 
-fn next_entry(x: u16) {
-    next(x as u64);
+fn next_entry<W: Write>(out: &mut W, x: u16) -> io::Result<()> {
+    next(out, x as u64)
 }
 
-fn entries(list: &[u16]) {
-    let mut i = 0;
-    while i < list.len() {
-        next_entry(list[i]);
-        i += 1;
+fn entries<W: Write>(out: &mut W, list: &[u16]) -> io::Result<()> {
+    for x in list {
+        next_entry(out, *x)?;
     }
+    Ok(())
 }
 
-fn show_list(list: &[u16]) {
-    number(list.len() as u64);
-    entries(list);
-    word(b"\n");
+fn show_list<W: Write>(out: &mut W, list: &[u16]) -> io::Result<()> {
+    number(out, list.len() as u64)?;
+    entries(out, list)?;
+    word(out, b"\n")
 }
 
 // At eight bytes, where the least gain has its opposite too.
@@ -65,27 +65,26 @@ fn magnitude(gain: i32) -> u64 {
     wide as u64
 }
 
-fn next_gain(gain: i32) {
+fn next_gain<W: Write>(out: &mut W, gain: i32) -> io::Result<()> {
     if gain < 0 {
-        word(b" -");
+        word(out, b" -")?;
     } else {
-        word(b" ");
+        word(out, b" ")?;
     }
-    number(magnitude(gain));
+    number(out, magnitude(gain))
 }
 
-fn gain_entries(list: &[i32]) {
-    let mut i = 0;
-    while i < list.len() {
-        next_gain(list[i]);
-        i += 1;
+fn gain_entries<W: Write>(out: &mut W, list: &[i32]) -> io::Result<()> {
+    for x in list {
+        next_gain(out, *x)?;
     }
+    Ok(())
 }
 
-fn show_gains(list: &[i32]) {
-    number(list.len() as u64);
-    gain_entries(list);
-    word(b"\n");
+fn show_gains<W: Write>(out: &mut W, list: &[i32]) -> io::Result<()> {
+    number(out, list.len() as u64)?;
+    gain_entries(out, list)?;
+    word(out, b"\n")
 }
 
 // Where the stretch of equal numbers that begins at `from` ends.
@@ -104,35 +103,36 @@ fn stretch_end(list: &[u16], from: usize) -> usize
     i
 }
 
-fn stretches(list: &[u16]) {
+fn stretches<W: Write>(out: &mut W, list: &[u16]) -> io::Result<()> {
     let mut i = 0;
     while i < list.len() {
         let end = stretch_end(list, i);
-        next((end - i) as u64);
-        next_entry(list[i]);
+        next(out, (end - i) as u64)?;
+        next_entry(out, list[i])?;
         i = end;
     }
+    Ok(())
 }
 
-fn show_scratch(list: &[u16]) {
-    number(list.len() as u64);
-    stretches(list);
-    word(b"\n");
+fn show_scratch<W: Write>(out: &mut W, list: &[u16]) -> io::Result<()> {
+    number(out, list.len() as u64)?;
+    stretches(out, list)?;
+    word(out, b"\n")
 }
 
-fn show_figures(f: Figures) {
+fn show_figures<W: Write>(out: &mut W, f: Figures) -> io::Result<()> {
     let v = f.verdict;
-    number(v.number as u64);
-    next(v.place as u64);
-    next(f.before as u64);
-    next(f.cut as u64);
-    next(f.size);
-    next(f.tried as u64);
-    next(f.kept as u64);
-    next(f.scans);
-    next(f.visits);
-    next(f.unread as u64);
-    next(f.holding as u64);
+    number(out, v.number as u64)?;
+    next(out, v.place as u64)?;
+    next(out, f.before as u64)?;
+    next(out, f.cut as u64)?;
+    next(out, f.size)?;
+    next(out, f.tried as u64)?;
+    next(out, f.kept as u64)?;
+    next(out, f.scans)?;
+    next(out, f.visits)?;
+    next(out, f.unread as u64)?;
+    next(out, f.holding as u64)
 }
 
 // ---- Asking
@@ -173,32 +173,34 @@ fn ask(
     }
 }
 
-fn show_answer(run: bool, r: RunFigures) {
-    show_figures(r.figures);
+fn show_answer<W: Write>(out: &mut W, run: bool, r: RunFigures) -> io::Result<()> {
+    show_figures(out, r.figures)?;
     if run {
-        next(r.passes);
-        next(r.settled as u64);
+        next(out, r.passes)?;
+        next(out, r.settled as u64)?;
     }
-    word(b"\n");
+    word(out, b"\n")
 }
 
-fn show_scans(
+fn show_scans<W: Write>(
+    out: &mut W,
     gained: &[i32],
     cuts: &[u16],
     ends: &[u16],
     recipes: &[u16],
     kinds: &[u16],
     scratch: &[u16],
-) {
-    show_gains(gained);
-    show_list(cuts);
-    show_list(ends);
-    show_list(recipes);
-    show_list(kinds);
-    show_scratch(scratch);
+) -> io::Result<()> {
+    show_gains(out, gained)?;
+    show_list(out, cuts)?;
+    show_list(out, ends)?;
+    show_list(out, recipes)?;
+    show_list(out, kinds)?;
+    show_scratch(out, scratch)
 }
 
-fn call(
+fn call<W: Write>(
+    out: &mut W,
     run: bool,
     short: bool,
     edition: u16,
@@ -216,18 +218,19 @@ fn call(
     recipes: &mut [u16],
     kinds: &mut [u16],
     scratch: &mut [u16],
-) {
+) -> io::Result<()> {
     let answer = ask(
         run, edition, job, sizes, sides, marks, bounds, pins, gains, tried, gained, cuts, ends,
         recipes, kinds, scratch,
     );
-    show_answer(run, answer);
-    show_list(sides);
-    show_gains(gains);
-    show_list(tried);
-    if !short {
-        show_scans(gained, cuts, ends, recipes, kinds, scratch);
+    show_answer(out, run, answer)?;
+    show_list(out, sides)?;
+    show_gains(out, gains)?;
+    show_list(out, tried)?;
+    if short {
+        return Ok(());
     }
+    show_scans(out, gained, cuts, ends, recipes, kinds, scratch)
 }
 
 // A length that was read, as far as there is room.
@@ -242,20 +245,25 @@ fn at_most(n: u16, most: usize) -> usize
 }
 
 // Every entry that is lent beside the job is 7 before the call.
-fn show_call(run: bool, short: bool) {
+fn show_call<R: Read, W: Write>(
+    reader: &mut R,
+    out: &mut W,
+    run: bool,
+    short: bool,
+) -> io::Result<()> {
     let mut figures = [0u16; 13];
-    frames::take_numbers(&mut figures);
+    frames::take_numbers(reader, &mut figures)?;
     let job = Job::new(figures[1], figures[2], figures[3], figures[4]);
     let mut sizes = [0u16; MOST];
-    let s = frames::take_numbers(&mut sizes);
+    let s = frames::take_numbers(reader, &mut sizes)?;
     let mut sides = [0u16; MOST];
-    let d = frames::take_numbers(&mut sides);
+    let d = frames::take_numbers(reader, &mut sides)?;
     let mut marks = [0u16; MOST];
-    let m = frames::take_numbers(&mut marks);
+    let m = frames::take_numbers(reader, &mut marks)?;
     let mut bounds = [0u16; MOST];
-    let b = frames::take_numbers(&mut bounds);
+    let b = frames::take_numbers(reader, &mut bounds)?;
     let mut pins = [0u16; MOST];
-    let p = frames::take_numbers(&mut pins);
+    let p = frames::take_numbers(reader, &mut pins)?;
     let gains_long = at_most(figures[5], MOST_MOVES);
     let tried_long = at_most(figures[6], MOST_MOVES);
     let gained_long = at_most(figures[7], MOST_MOVES);
@@ -273,6 +281,7 @@ fn show_call(run: bool, short: bool) {
     let mut kinds = [7u16; MOST_SCANS];
     let mut scratch = [7u16; MOST_SCRATCH];
     call(
+        out,
         run,
         short,
         figures[0],
@@ -290,38 +299,39 @@ fn show_call(run: bool, short: bool) {
         &mut recipes[..recipes_long],
         &mut kinds[..kinds_long],
         &mut scratch[..scratch_long],
-    );
+    )
 }
 
-fn show_heading() {
+fn show_heading<R: Read, W: Write>(reader: &mut R, out: &mut W) -> io::Result<()> {
     let mut text = [0u8; 255];
-    let got = frames::take(&mut text);
-    word(&text[..got]);
-    word(b"\n");
+    let got = frames::take(reader, &mut text)?;
+    word(out, &text[..got])?;
+    word(out, b"\n")
 }
 
 // Whether there was a case. Its first frame is a letter that says of which kind it is.
-fn show_case() -> bool {
+fn show_case<R: Read, W: Write>(reader: &mut R, out: &mut W) -> io::Result<bool> {
     let mut kind = [0u8; 1];
-    if frames::take(&mut kind) == 0 {
-        return false;
+    if frames::take(reader, &mut kind)? == 0 {
+        return Ok(false);
     }
     match kind[0] {
-        b'p' => show_call(false, false),
-        b'r' => show_call(true, false),
-        b's' => show_call(true, true),
-        _ => show_heading(),
+        b'p' => show_call(reader, out, false, false)?,
+        b'r' => show_call(reader, out, true, false)?,
+        b's' => show_call(reader, out, true, true)?,
+        _ => show_heading(reader, out)?,
     }
-    true
+    Ok(true)
 }
 
-// A proved loop ends, so this one counts its turns down, from more than there are cases.
-fn main() {
-    let mut turns: usize = 65535;
-    while 0 < turns {
-        if !show_case() {
-            return;
+// A proved loop ends, so this one has more turns than there are cases.
+fn main(rt: HostRuntime) -> io::Result<()> {
+    let mut reader = rt.reader();
+    let mut out = BufWriter::new(rt.alloc(), io::writer(&rt))?;
+    for _ in 0..u16::MAX {
+        if !show_case(&mut reader, &mut out)? {
+            break;
         }
-        turns -= 1;
     }
+    out.flush()
 }

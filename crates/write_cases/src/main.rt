@@ -8,8 +8,9 @@
 ghost use Rattle.std.specs.Prelude.{◌<◌, ◌≤◌};
 
 use job::wide;
-use libc::STDOUT_FILENO;
 use rules::Verdict;
+use std::io;
+use std::io::{BufWriter, Read, Write};
 
 // Room for one number more than the longest list of a job may have.
 const MOST: usize = job::Job::MOST_PINS + 1;
@@ -30,19 +31,19 @@ fn least(a: usize, b: usize) -> usize
 
 // ---- Writing
 
-fn word(text: &[u8]) {
-    io::write_all(STDOUT_FILENO, text);
+fn word<W: Write>(out: &mut W, text: &[u8]) -> io::Result<()> {
+    out.write_all(text)
 }
 
-fn number(n: usize) {
-    io::print_decimal(STDOUT_FILENO, n as u64);
+fn number<W: Write>(out: &mut W, n: usize) -> io::Result<()> {
+    write!(out, "{n}")
 }
 
-fn show_refusal(v: Verdict) {
-    word(b"refused ");
-    number(v.number);
-    word(b" ");
-    number(v.place);
+fn show_refusal<W: Write>(out: &mut W, v: Verdict) -> io::Result<()> {
+    word(out, b"refused ")?;
+    number(out, v.number)?;
+    word(out, b" ")?;
+    number(out, v.place)
 }
 
 fn digit(n: u8) -> u8
@@ -73,119 +74,102 @@ fn put_digits(bytes: &[u8], text: &mut [u8; 1024]) {
     }
 }
 
-fn show_text(text: &[u8; 1024]) {
-    word(text);
-    word(b"\n");
+fn show_text<W: Write>(out: &mut W, text: &[u8; 1024]) -> io::Result<()> {
+    word(out, text)?;
+    word(out, b"\n")
 }
 
-fn show_line(bytes: &[u8]) {
+fn show_line<W: Write>(out: &mut W, bytes: &[u8]) -> io::Result<()> {
     let mut text = [b'0'; 1024];
     put_digits(bytes, &mut text);
-    show_text(&text);
+    show_text(out, &text)
 }
 
-fn show_blocks(bytes: &[u8]) {
+fn show_blocks<W: Write>(out: &mut W, bytes: &[u8]) -> io::Result<()> {
     let mut at = 0;
     while at < bytes.len() {
-        show_line(&bytes[at..]);
+        show_line(out, &bytes[at..])?;
         if bytes.len() - at <= 512 {
-            return;
+            return Ok(());
         }
         at += 512;
     }
+    Ok(())
 }
 
 // ---- Comparing
 
-fn is_kept(out: &[u8]) -> bool {
-    let mut i = 0;
-    while i < out.len() {
-        if out[i] != FILLED {
-            return false;
-        }
-        i += 1;
-    }
-    true
+fn is_kept(list: &[u8]) -> bool {
+    list.iter().all(|x| *x == FILLED)
 }
 
 fn is_same(a: &[u8], b: &[u8]) -> bool {
-    if a.len() != b.len() {
-        return false;
-    }
-    let mut i = 0;
-    while i < a.len() {
-        if a[i] != b[i] {
-            return false;
-        }
-        i += 1;
-    }
-    true
+    a == b
 }
 
 // ---- A call of the writer
 
-fn show_answer(v: Verdict, out: &[u8]) {
+fn show_answer<W: Write>(out: &mut W, v: Verdict, list: &[u8]) -> io::Result<()> {
     if v.number == 0 {
-        word(b"done\n");
-        show_blocks(out);
-        return;
+        word(out, b"done\n")?;
+        return show_blocks(out, list);
     }
-    show_refusal(v);
-    if is_kept(out) {
-        word(b" kept\n");
-        return;
+    show_refusal(out, v)?;
+    if is_kept(list) {
+        return word(out, b" kept\n");
     }
-    word(b" changed\n");
+    word(out, b" changed\n")
 }
 
-fn ask(
+fn ask<W: Write>(
+    out: &mut W,
     job: job::Job,
     sizes: &[u16],
     sides: &[u16],
     marks: &[u16],
     bounds: &[u16],
     pins: &[u16],
-    out: &mut [u8],
-) {
-    let v = writer::write(job, sizes, sides, marks, bounds, pins, out);
-    show_answer(v, out);
+    list: &mut [u8],
+) -> io::Result<()> {
+    let v = writer::write(job, sizes, sides, marks, bounds, pins, list);
+    show_answer(out, v, list)
 }
 
-fn show_call() {
+fn show_call<R: Read, W: Write>(reader: &mut R, out: &mut W) -> io::Result<()> {
     let mut figures = [0u16; 5];
-    frames::take_numbers(&mut figures);
+    frames::take_numbers(reader, &mut figures)?;
     let job = job::Job::new(figures[0], figures[1], figures[2], figures[3]);
     let length = least(wide(figures[4]), MOST_OUT);
     let mut sizes = [0u16; MOST];
-    let s = frames::take_numbers(&mut sizes);
+    let s = frames::take_numbers(reader, &mut sizes)?;
     let mut sides = [0u16; MOST];
-    let d = frames::take_numbers(&mut sides);
+    let d = frames::take_numbers(reader, &mut sides)?;
     let mut marks = [0u16; MOST];
-    let m = frames::take_numbers(&mut marks);
+    let m = frames::take_numbers(reader, &mut marks)?;
     let mut bounds = [0u16; MOST];
-    let b = frames::take_numbers(&mut bounds);
+    let b = frames::take_numbers(reader, &mut bounds)?;
     let mut pins = [0u16; MOST];
-    let p = frames::take_numbers(&mut pins);
-    let mut out = [FILLED; MOST_OUT];
+    let p = frames::take_numbers(reader, &mut pins)?;
+    let mut list = [FILLED; MOST_OUT];
     ask(
+        out,
         job,
         &sizes[..s],
         &sides[..d],
         &marks[..m],
         &bounds[..b],
         &pins[..p],
-        &mut out[..length],
-    );
+        &mut list[..length],
+    )
 }
 
 // ---- A stored job, read and written back
 
-fn show_back(v: Verdict, bytes: &[u8], out: &[u8]) {
-    if (v.number == 0) & (v.place == 0) & is_same(bytes, out) {
-        word(b"same\n");
-        return;
+fn show_back<W: Write>(out: &mut W, v: Verdict, bytes: &[u8], list: &[u8]) -> io::Result<()> {
+    if (v.number == 0) & (v.place == 0) & is_same(bytes, list) {
+        return word(out, b"same\n");
     }
-    word(b"other\n");
+    word(out, b"other\n")
 }
 
 // The first x + more numbers of a list, or all of it where there are not so many.
@@ -196,7 +180,8 @@ fn first<'a>(list: &'a [u16], x: u16, more: usize) -> &'a [u16]
     &list[..n]
 }
 
-fn write_back(
+fn write_back<W: Write>(
+    out: &mut W,
     figures: rules::ReadFigures,
     sizes: &[u16],
     sides: &[u16],
@@ -204,13 +189,12 @@ fn write_back(
     bounds: &[u16],
     pins: &[u16],
     bytes: &[u8],
-    out: &mut [u8],
-) {
+    list: &mut [u8],
+) -> io::Result<()> {
     let v = figures.verdict;
     if v.number != 0 {
-        show_refusal(v);
-        word(b"\n");
-        return;
+        show_refusal(out, v)?;
+        return word(out, b"\n");
     }
     let h = figures.header;
     let job = job::Job::new(h.num, h.den, h.cap, h.k);
@@ -221,75 +205,78 @@ fn write_back(
         first(marks, h.files, 0),
         first(bounds, h.recipes, 1),
         first(pins, h.pins, 0),
-        out,
+        list,
     );
-    show_back(w, bytes, out);
+    show_back(out, w, bytes, list)
 }
 
-fn read_back(
+fn read_back<W: Write>(
+    out: &mut W,
     bytes: &[u8],
     sizes: &mut [u16],
     sides: &mut [u16],
     marks: &mut [u16],
     bounds: &mut [u16],
     pins: &mut [u16],
-    out: &mut [u8],
-) {
+    list: &mut [u8],
+) -> io::Result<()> {
     let figures = stored::read(bytes, sizes, sides, marks, bounds, pins);
-    write_back(figures, sizes, sides, marks, bounds, pins, bytes, out);
+    write_back(out, figures, sizes, sides, marks, bounds, pins, bytes, list)
 }
 
-fn show_stored() {
+fn show_stored<R: Read, W: Write>(reader: &mut R, out: &mut W) -> io::Result<()> {
     let mut bytes = [0u8; 65535];
-    let got = frames::take(&mut bytes);
+    let got = frames::take(reader, &mut bytes)?;
     let length = least(got, 65535);
     let mut sizes = [0u16; MOST];
     let mut sides = [0u16; MOST];
     let mut marks = [0u16; MOST];
     let mut bounds = [0u16; MOST];
     let mut pins = [0u16; MOST];
-    let mut out = [FILLED; 65535];
+    let mut list = [FILLED; 65535];
     read_back(
+        out,
         &bytes[..got],
         &mut sizes,
         &mut sides,
         &mut marks,
         &mut bounds,
         &mut pins,
-        &mut out[..length],
-    );
+        &mut list[..length],
+    )
 }
 
 // ---- The cases
 
-fn show_heading() {
+fn show_heading<R: Read, W: Write>(reader: &mut R, out: &mut W) -> io::Result<()> {
     let mut text = [0u8; 255];
-    let got = frames::take(&mut text);
-    word(&text[..got]);
-    word(b"\n");
+    let got = frames::take(reader, &mut text)?;
+    word(out, &text[..got])?;
+    word(out, b"\n")
 }
 
 // Whether there was a case. Its first frame is a letter that says of which kind it is.
-fn show_case() -> bool {
+fn show_case<R: Read, W: Write>(reader: &mut R, out: &mut W) -> io::Result<bool> {
     let mut kind = [0u8; 1];
-    if frames::take(&mut kind) == 0 {
-        return false;
+    if frames::take(reader, &mut kind)? == 0 {
+        return Ok(false);
     }
     match kind[0] {
-        b'w' => show_call(),
-        b'b' => show_stored(),
-        _ => show_heading(),
+        b'w' => show_call(reader, out)?,
+        b'b' => show_stored(reader, out)?,
+        _ => show_heading(reader, out)?,
     }
-    true
+    Ok(true)
 }
 
-// A proved loop ends, so this one counts its turns down, from more than there are cases.
-fn main() {
-    let mut turns: usize = 65535;
-    while 0 < turns {
-        if !show_case() {
-            return;
+// A proved loop ends, so this one has more turns than there are cases.
+fn main(rt: HostRuntime) -> io::Result<()> {
+    let mut reader = rt.reader();
+    let mut out = BufWriter::new(rt.alloc(), io::writer(&rt))?;
+    for _ in 0..u16::MAX {
+        if !show_case(&mut reader, &mut out)? {
+            break;
         }
-        turns -= 1;
     }
+    out.flush()
 }
