@@ -2,23 +2,23 @@
 // argument, and 1 without.
 #![tactic(auto)]
 
-use libc::{STDERR_FILENO, STDOUT_FILENO};
+use std::io;
+use std::io::Write;
 
-fn main() {
-    let mut word = io::buffer();
-    let length = os::arg(1, &mut word);
-    let edition = teller::edition_named(os::arg_count(), &word[..length], 1);
+fn main(rt: HostRuntime) -> io::Result<()> {
+    let mut word = [0u8; 4096];
+    let length = arguments::put(&rt, 1, &mut word);
+    let edition = teller::edition_named(arguments::count(&rt), &word[..length], 1);
     let mut room = [0u8; layout::INPUT_BYTES];
     if edition == 0 {
         let refusal = teller::refuse_edition(&mut room);
-        io::write_all(STDERR_FILENO, &room[..refusal.bytes]);
-        return;
+        return rt.stderr().write_all(&room[..refusal.bytes]);
     }
     let mut input = [0u8; layout::INPUT_BYTES];
-    let got = blocks::take(&mut input, layout::input_bytes());
+    let got = blocks::take(&rt, &mut input, layout::input_bytes())?;
     let handed = hander::resettle(edition, &input[..got], &mut room);
     let output = handed.output;
     let end = output + handed.errors;
-    io::write_all(STDOUT_FILENO, &room[..output]);
-    io::write_all(STDERR_FILENO, &room[output..end]);
+    rt.write_all(&room[..output])?;
+    rt.stderr().write_all(&room[output..end])
 }
