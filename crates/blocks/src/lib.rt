@@ -50,7 +50,7 @@ pub fn take_from<R: Read>(reader: &mut R, room: &mut [u8], most: usize) -> io::R
 pub fn take(rt: &impl Input, room: &mut [u8], most: usize) -> io::Result<usize>
     ensures prefix_len { IfOk result (λ n. IsPrefixLen n room.new × (n ≤ most)) }
     ensures room_unchanged { IfOk result (λ n. drop n room.new ≡ drop n room.old) }
-    ensures failed { OnErr result (drop most room.new ≡ drop most room.old) }
+    ensures failed { OnErr result ((n : ℕ) × (n ≤ most) × (drop n room.new ≡ drop n room.old)) }
 {
     take_from(&mut rt.reader(), room, most)
 }

@@ -9,7 +9,7 @@ ghost use Rattle.std.specs.Prelude.{◌<◌};
 
 use rules::BalanceFigures;
 use std::io;
-use std::io::{BufWriter, Read, Write};
+use std::io::{Read, Write};
 
 // Room for one number more than the longest list of a job may have.
 const MOST: usize = job::Job::MOST_PINS + 1;
@@ -200,11 +200,11 @@ fn show_case<R: Read, W: Write>(reader: &mut R, out: &mut W) -> io::Result<bool>
 // A proved loop ends, so this one has more turns than there are cases.
 fn main(rt: HostRuntime) -> io::Result<()> {
     let mut reader = rt.reader();
-    let mut out = BufWriter::new(rt.alloc(), io::writer(&rt))?;
+    let mut out = io::writer(&rt);
     for _ in 0..u16::MAX {
         if !show_case(&mut reader, &mut out)? {
             break;
         }
     }
-    out.flush()
+    Ok(())
 }
