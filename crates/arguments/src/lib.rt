@@ -16,7 +16,7 @@ pub fn count(rt: &impl Env) -> usize {
     usize::MAX
 }
 
-// The bytes of word i, at the room's start. How many they are: none where there is no such word, or the room does not hold it.
+// The bytes of word i, at the room's start. How many they are: none where there is no such word, or the room does not hold it. No `Option`: an empty word names as little.
 pub fn put(rt: &impl Env, i: usize, room: &mut [u8]) -> usize
     ensures { IsPrefixLen result room.new }
 {

@@ -36,6 +36,7 @@ pub fn take_from<R: Read>(reader: &mut R, room: &mut [u8], most: usize) -> io::R
 {
     let end = most.min(room.len());
     let mut at = 0;
+    // No walk: a read brings as many bytes as it likes.
     while at < end {
         let got = take_block(reader, room, at, end)?;
         if got == 0 {

@@ -10,7 +10,7 @@ use native.Mathlib.Omega.{arith}
 use lib.ListN.{get_or}
 use lib.Dec.{eqb}
 use lib.IntN.{ℤ, pos}
-use borrow.Author.Tests.{eqb-true, eq-eqb, ne_eqb}
+use borrow.Author.Tests.{eqb-true, eq-eqb, ne_eqb, le-ltb}
 use Rattle.rules.specs.Lists.{those, diff}
 use Rattle.rules.specs.Split.{side_of, on_side}
 use Rattle.rules.specs.Fronts.{equal, front_or, front_below}
@@ -20,8 +20,11 @@ use Rattle.rules.proofs.First.{some_inj, no-some}
 use Rattle.choice.specs.Choosing.{file_or}
 use Rattle.buckets.specs.declared.slots.Shape.{Shape}
 use Rattle.buckets.specs.Slots.{levels, level_of, vault_at, slot_in, top_at}
-use Rattle.buckets.specs.Links.{highest_in}
-use Rattle.buckets.specs.Offers.{front_at, front_in}
+use Rattle.std.specs.Prelude.{Option as Option', Some, None, MatchOption, IfSome}
+use native.Mathlib.Numerals.{add-one}
+use Rattle.buckets.specs.declared.links.Bucket.{Bucket}
+use Rattle.buckets.specs.Links.{highest_in, as_top}
+use Rattle.buckets.specs.Offers.{front_at, front_in, if_file}
 use Rattle.buckets.specs.StandFor.{◌∈◌, in_slot, first_or, Linked, StandFor}
 use Rattle.buckets.proofs.Rows.{those-pass, those-same, those-none}
 use Rattle.buckets.proofs.Linking.{names-front}
@@ -41,10 +44,11 @@ module _ (nil from : ℕ) (z : List ℕ) where
   pub goes_on : (k : ℕ) → 0 < k → get_or z (from + (k - 1)) 0 ≡ nil → highest_in nil from z k ≡ highest_in nil from z (k - 1)
   goes_on k h e = rw (eq-eqb (get_or z (from + (k - 1)) 0) nil e) at (step k h)
 
-  -- the file that the head just below k names
-  pub front-is : (k : ℕ) → k ≢ 0 → get_or z (from + (k - 1)) 0 ≡ front_at nil from z k
-  front-is zero n = absurd (n refl)
-  front-is (suc k) n = let e : suc k - 1 ≡ k = omega arith in rw e refl
+  -- the file that the head just below the top names, where the top stands above that bucket
+  pub front-file : (bucket : Option' Bucket) (front r : Option' ℕ) → IfSome bucket (λ b. b.front ≡ get_or z (from + b.level) 0)
+      → MatchOption bucket (front ≡ None) (λ b. front ≡ Some b.front) → MatchOption front (r ≡ None) (λ f. r ≡ if_file nil f) → r ≡ if_file nil (front_at nil from z (as_top bucket))
+  front-file None front r h e f = rw (le-ltb nil nil (omega arith)) (rw e at f)
+  front-file (Some b) front r h e f = rw (add-one b.level) (rw (e, h) at f)
 
 -- ---- the file found
 

@@ -1,60 +1,21 @@
 -- A gain and its level; a vault's slots among all. Assumes nothing.
-use mathlib.Core.Path.{◌≡◌, refl, sym, ap, ap₂, ◌∙◌}
-use Prim.Native.Nat.{ℕ, suc, ◌+◌, ◌-◌, ◌*◌, ◌≤◌, ◌<◌}
+use mathlib.Core.Path.{◌≡◌, refl, sym, ap₂, ◌∙◌}
+use Prim.Native.Nat.{ℕ, suc, ◌+◌, ◌*◌, ◌≤◌, ◌<◌}
 use mathlib.Core.Bool.{Bool, true, false, not, cond, ◌&&◌}
 use native.Mathlib.Decide.{dec_lt}
 use native.Mathlib.Omega.{arith}
 use lib.Dec.{eqb, ltb}
 use lib.IntN.{ℤ, pos, negsuc, ◌+ℤ◌}
-use lib.Signed.{mag, lt_z}
-use mir.Syntax.{w32, w64}
-use mir.Val.{SFits, to_z, of_z}
-use mir.Facts.{to_z-of_z, to_z_pos}
-use borrow.Author.Tests.{eqb-true, eqb-false, ltb-true, ltb-false, eq-eqb, ne_eqb, lt-ltb, le-ltb}
+use lib.Signed.{lt_z}
+use borrow.Author.Tests.{eqb-true, eqb-false, eq-eqb, ne_eqb, lt-ltb, le-ltb}
 use Rattle.rules.specs.Lists.{diff}
 use Rattle.rules.specs.Fronts.{equal}
 use Rattle.rules.proofs.Signed.{up, down, abs, ltb-same, lt_z-key, diff-key}
-use Rattle.rules.proofs.Machine.{wide_is}
 use Rattle.buckets.specs.Slots.{levels, slots, cut_off, level_of, vault_at, slot_of}
 
--- ---- the sum, at eight bytes
-
-mag-raised : (g : ℤ) (p : ℕ) → mag (g +ℤ pos p) ≤ mag g + p
-mag-raised (pos n) p = omega arith
-mag-raised (negsuc n) p = go (ltb p (suc n))
-  where
-    go : (t : Bool) → mag (cond t (negsuc (suc n - suc p)) (pos (p - suc n))) ≤ n + p
-    go true = omega arith
-    go false = omega arith
-
-module _ (p : ℕ) (g : ℤ) (h : levels p < 65536) (f : SFits w32 g) where
-  abbrev sum : ℤ
-  sum = to_z w64 (of_z w64 (to_z w32 (of_z w32 g))) +ℤ to_z w64 p
-
-  sum_is : sum ≡ g +ℤ pos p
-  sum_is = ap₂ ◌+ℤ◌ (wide_is g f) (to_z_pos w64 {n = p} (omega arith))
-
-  pub sum_fits : SFits w64 sum
-  sum_fits = rw sum_is (record { sfits = omega (arith, mag-raised g p, f.sfits) })
-
-  pub sum_back : to_z w64 (of_z w64 sum) ≡ g +ℤ pos p
-  sum_back = to_z-of_z sum_fits ∙ sum_is
-
--- ---- the level by the sum, as the code tests it
+-- ---- the level
 
 module _ (top : ℕ) where
-  pub too-low : (s : ℤ) → lt_z s (pos 0) ≡ true → 0 ≡ cut_off top s
-  too-low (pos n) e = absurd (omega (arith, ltb-true n 0 e))
-  too-low (negsuc n) e = refl
-
-  pub too-high : (s : ℤ) → lt_z (pos top) s ≡ true → top ≡ cut_off top s
-  too-high (pos n) e = omega (arith, ltb-true top n e)
-  too-high (negsuc n) e = cc
-
-  pub within : (s : ℤ) → lt_z s (pos 0) ≡ false → lt_z (pos top) s ≡ false → s ≡ pos (cut_off top s)
-  within (pos n) e f = let q : n ≡ cut_off top (pos n) = omega (arith, ltb-false top n f) in ap pos q
-  within (negsuc n) e f = cc
-
   cut_most : (s : ℤ) → cut_off top s ≤ top
   cut_most (pos n) = omega arith
   cut_most (negsuc n) = omega arith

@@ -1,33 +1,38 @@
 -- The promise of each public call settles what it answers and leaves: any two results that meet it, of the same arguments, are the same.
 -- The promises cited are those that the check reads from the contracts in src/. Assumes nothing.
-use mathlib.Core.List.{List}
-use Prim.Native.Nat.{ℕ}
-use contract.Lifetimes.{Lfts}
-use denote.Triple.Clauses.{AtExit}
-use borrow.Fn.Kinds.{res_t, ended_of}
+use Rattle.std.proofs.Common.{◌≡◌, ℕ, List, Option, ap, ap₂}
 use Rattle.rules.proofs.Settling.{Settles, both}
-use Rattle.buckets.specs.Offers.{Chosen, chosen_is}
-use Rattle.buckets.proofs.fronts.choose_front.Kinds as choose-kinds
-use Rattle.buckets.proofs.fronts.choose_front.Reads as choose
-use Rattle.buckets.proofs.order.enter_all.Kinds as enter-kinds
-use Rattle.buckets.proofs.order.enter_all.Reads as enter
-use Rattle.buckets.proofs.order.take_out.Kinds as take-kinds
-use Rattle.buckets.proofs.order.take_out.Reads as take
-use Rattle.buckets.proofs.order.to_front.Kinds as front-kinds
-use Rattle.buckets.proofs.order.to_front.Reads as front
+use Rattle.choice.specs.declared.edition1.Best.{Best}
+use Rattle.choice.proofs.CasesOne.{as_best-one}
+use Rattle.buckets.specs.declared.slots.Shape.{Shape}
+use Rattle.buckets.specs.Offers.{Chosen}
+use Rattle.buckets.proofs.slots.Buckets.choose_front.Kinds as choose-kinds
+use Rattle.buckets.proofs.slots.Buckets.choose_front.Reads as choose
+use Rattle.buckets.proofs.slots.Buckets.enter_all.Kinds as enter-kinds
+use Rattle.buckets.proofs.slots.Buckets.enter_all.Reads as enter
+use Rattle.buckets.proofs.slots.Buckets.take_out.Kinds as take-kinds
+use Rattle.buckets.proofs.slots.Buckets.take_out.Reads as take
+use Rattle.buckets.proofs.slots.Buckets.to_front.Kinds as front-kinds
+use Rattle.buckets.proofs.slots.Buckets.to_front.Reads as front
 
-pub enter-all-settled : Settles 4 enter-kinds.ps enter-kinds.r (List ℕ) (λ κs x e. e.0.now) enter.Post
-enter-all-settled κs a x y e f p q = both p q
+-- what is left of the buckets: their links and their shape
+abbrev Left : Type 0
+Left = List ℕ × Shape
 
-pub take-out-settled : Settles 1 take-kinds.ps take-kinds.r (List ℕ) (λ κs x e. e.0.now) take.Post
-take-out-settled κs a x y e f p q = both p q
+pair : {A B : Type 0} {a b : A} {c d : B} → a ≡ b → c ≡ d → ◌≡◌ {A = A × B} (a, c) (b, d)
+pair p q = ap₂ (λ x y. (x, y)) p q
 
-pub to-front-settled : Settles 1 front-kinds.ps front-kinds.r (List ℕ) (λ κs x e. e.0.now) front.Post
-to-front-settled κs a x y e f p q = both p q
+pub enter-all-settled : Settles _ enter-kinds.ps enter-kinds.r Left (λ κs x e. (e.0.now.links.now, e.0.now.shape)) enter.Post
+enter-all-settled κs a x y e f p q = pair (both p.1 q.1) (both p.0.shape q.0.shape)
 
--- the answer, and the links
-abbrev leaves : (κs : Lfts 4) → (res_t choose-kinds.r κs).Denot → AtExit (ended_of 4 choose-kinds.ps choose-kinds.r) κs → Chosen
-leaves κs x e = chosen_is x e.0.now
+pub take-out-settled : Settles _ take-kinds.ps take-kinds.r Left (λ κs x e. (e.0.now.links.now, e.0.now.shape)) take.Post
+take-out-settled κs a x y e f p q = pair (both p.1 q.1) (both p.0.shape q.0.shape)
 
-pub choose-front-settled : Settles 4 choose-kinds.ps choose-kinds.r Chosen leaves choose.Post
-choose-front-settled κs a x y e f p q = both p q
+pub to-front-settled : Settles _ front-kinds.ps front-kinds.r Left (λ κs x e. (e.0.now.links.now, e.0.now.shape)) front.Post
+to-front-settled κs a x y e f p q = pair (both p.1 q.1) (both p.0.shape q.0.shape)
+
+-- the answer, and the buckets
+pub choose-front-settled : Settles _ choose-kinds.ps choose-kinds.r (Option Best × (List ℕ × Shape)) (λ κs x e. (x, (e.0.now.links.now, e.0.now.shape))) choose.Post
+choose-front-settled κs a x y e f p q =
+    let chosen = both p.1.0 q.1.0 in
+    pair (as_best-one _ x y p.1.1 q.1.1 (ap (λ (c : Chosen). c.best) chosen)) (pair (ap (λ (c : Chosen). c.links) chosen) (both p.0.shape q.0.shape))

@@ -3,3 +3,4 @@ pub mod Links
 pub mod Entries
 pub mod Offers
 pub mod StandFor
+pub mod Lent

@@ -1,5 +1,6 @@
 -- What the code does to the list of links. A place that is not there is read as 0 and not written. Assumes nothing.
-use Rattle.std.specs.Prelude.{ℕ, zero, suc, ◌+◌, cond, List, get_or, set, eqb}
+use Rattle.std.specs.Prelude.{ℕ, zero, suc, ◌+◌, cond, List, get_or, set, eqb, Option, Some, None}
+use Rattle.buckets.specs.declared.links.Bucket.{Bucket}
 
 -- u names v, and v's previous is u
 unfoldable pub joined : ℕ → ℕ → ℕ → List ℕ → List ℕ
@@ -22,3 +23,8 @@ left back f z = joined back (get_or z (back + f) 0) (get_or z f 0) z
 unfoldable pub highest_in : ℕ → ℕ → List ℕ → ℕ → ℕ
 highest_in none from z zero = zero
 highest_in none from z (suc k) = cond (eqb (get_or z (from + k) 0) none) (highest_in none from z k) (suc k)
+
+-- where a top stands, by the highest bucket that holds a file
+abbrev pub as_top : Option Bucket → ℕ
+as_top None = 0
+as_top (Some bucket) = bucket.level + 1

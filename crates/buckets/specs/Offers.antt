@@ -1,5 +1,6 @@
 -- Edition 2 of the choice, as the code makes it on the list of links. Assumes nothing.
-use Rattle.std.specs.Prelude.{ℕ, zero, suc, ◌+◌, not, cond, ◌&&◌, ◌||◌, List, get_or, set, leb, ltb, eqb, ℤ, pos}
+use Rattle.std.specs.Prelude.{ℕ, zero, suc, ◌+◌, not, cond, ◌&&◌, ◌||◌, List, get_or, set, leb, ltb, eqb, ℤ, pos, Option, Some, None}
+use Rattle.std.specs.Int.Signed.{lt_z}
 use Rattle.choice.specs.declared.window.Window.{Window}
 use Rattle.choice.specs.declared.edition1.Best.{Best}
 use Rattle.choice.specs.Choosing.{dist_in}
@@ -64,3 +65,20 @@ chosen_front shape w size sizes sides gains z =
     cond (fits_in shape)
     (chosen_is (first_of n (offer_of w size sizes sides gains n (front_a shape z).file) (offer_of w size sizes sides gains n (front_b shape z).file)) (front_b shape z).links)
     (chosen_is (no_best n) z)
+
+-- ---- the same as src/ has it, where none is no number
+
+-- what is in place of a file is one of n, or none
+abbrev pub if_file : ℕ → ℕ → Option ℕ
+if_file n f = cond (ltb f n) (Some f) None
+
+-- the move of this front file, if it is legal
+abbrev pub offered : Window → ℕ → List ℕ → List ℕ → List ℤ → ℕ → Option Best
+offered w size sizes sides gains f =
+    cond (leb (dist_in w size sizes sides f) w.span) (Some (best_is f (get_or gains f (pos 0)) (dist_in w size sizes sides f))) None
+
+-- of two offers the one from A, unless the other goes before it
+abbrev pub first_offered : Option Best → Option Best → Option Best
+first_offered None b = b
+first_offered (Some a) None = Some a
+first_offered (Some a) (Some b) = cond (lt_z a.gain b.gain || (not (lt_z b.gain a.gain) && ltb b.dist a.dist)) (Some b) (Some a)

@@ -6,6 +6,4 @@ mod links;
 mod order;
 mod slots;
 
-pub use fronts::choose_front;
-pub use order::{enter_all, take_out, to_front};
-pub use slots::Shape;
+pub use slots::{Buckets, Shape};

@@ -1,86 +1,100 @@
-// Linked lists of files in the list of links. A next or a head names a file, or the number of files, which is none.
+// Linked lists of files in the list of links. A next or a head names a file, or the number of files, which is none: the list that is lent is all the
+// memory there is, and it holds numbers alone.
 // A previous is the place of the next or head that names its file.
 // So no call asks which bucket a file is in, nor whether it is the first or the last there, and what is not there is neither read nor written.
-ghost use Rattle.std.specs.Prelude.{◌≡◌, ◌<◌, max, get_or, set};
-ghost use Rattle.buckets.specs.Links.{joined, emptied, entered, left, highest_in};
+ghost use Rattle.std.specs.Prelude.{◌≡◌, ◌+◌, ◌<◌, IfSome, max, get_or, set};
+ghost use Rattle.buckets.specs.Links.{joined, emptied, entered, left, highest_in, as_top};
+ghost use Rattle.buckets.specs.Lent.{SameBuckets};
 
+use super::slots::Buckets;
 use job::entry_at;
 
-// Entry `at` becomes x; nothing where there is none.
-pub(crate) fn put(links: &mut [u16], at: usize, x: u16)
-    ensures { links.new ≡ set links.old at x }
-{
-    if links.len() <= at {
-        return;
+// A bucket that holds a file: its level, and its front file.
+#[derive(Clone, Copy)]
+pub(crate) struct Bucket {
+    pub(crate) level: u16,
+    pub(crate) front: u16,
+}
+
+impl Buckets<'_> {
+    // Entry `at`, 0 where there is none.
+    pub(crate) fn entry(&self, at: usize) -> u16
+        ensures { result ≡ get_or self.now.links.now at 0 }
+    {
+        entry_at(self.links, at)
     }
-    links[at] = x;
-}
 
-// The next or head at this place names the file, or none; the previouses begin at back.
-fn join(links: &mut [u16], back: u16, at: u16, file: u16)
-    ensures { links.new ≡ joined back at file links.old }
-{
-    put(links, at as usize, file);
-    put(links, (back as usize) + (file as usize), at);
-}
-
-// The heads name none, so many of them.
-pub(crate) fn empty(links: &mut [u16], none: u16, slots: usize)
-    requires { slots < 65536 }
-    ensures { links.new ≡ emptied none links.old slots }
-{
-    let mut s = 0;
-    while s < slots {
-        put(links, (none as usize) + s, none);
-        s += 1;
-    }
-}
-
-// The file enters the front of the bucket whose head stands at this place.
-pub(crate) fn enter(links: &mut [u16], back: u16, head: u16, file: u16)
-    ensures { links.new ≡ entered back head file links.old }
-{
-    let first = entry_at(links, head as usize);
-    join(links, back, file, first);
-    join(links, back, head, file);
-}
-
-// The file leaves its bucket.
-pub(crate) fn leave(links: &mut [u16], back: u16, file: u16)
-    ensures { links.new ≡ left back file links.old }
-{
-    let next = entry_at(links, file as usize);
-    let before = entry_at(links, (back as usize) + (file as usize));
-    join(links, back, before, next);
-}
-
-fn higher(a: u16, b: u16) -> u16
-    ensures { result ≡ max a b }
-{
-    if a < b {
-        return b;
-    }
-    a
-}
-
-// The top at this place is no less than this.
-pub(crate) fn raise(links: &mut [u16], at: usize, top: u16)
-    ensures { links.new ≡ set links.old at (max (get_or links.old at 0) top) }
-{
-    let risen = higher(entry_at(links, at), top);
-    put(links, at, risen);
-}
-
-// One more than the highest of the heads from here on that names a file, of those below the top; 0 where none does.
-pub(crate) fn highest(links: &[u16], none: u16, from: u16, top: u16) -> u16
-    ensures { result ≡ highest_in none from links.now top }
-{
-    let mut k = top;
-    while 0 < k {
-        if entry_at(links, (from as usize) + ((k - 1) as usize)) != none {
-            return k;
+    // Entry `at` becomes x; nothing where there is none.
+    pub(crate) fn put(&mut self, at: usize, x: u16)
+        ensures same_lists { SameBuckets self.old self.new }
+        ensures value { self.new.links.now ≡ set self.old.links.now at x }
+    {
+        if at < self.links.len() {
+            self.links[at] = x;
         }
-        k -= 1;
     }
-    0
+
+    // The next or head at this place names the file, or none; the previouses begin at back.
+    fn join(&mut self, back: u16, at: u16, file: u16)
+        ensures same_lists { SameBuckets self.old self.new }
+        ensures value { self.new.links.now ≡ joined back at file self.old.links.now }
+    {
+        self.put(usize::from(at), file);
+        self.put(usize::from(back) + usize::from(file), at);
+    }
+
+    // The heads name none, so many of them.
+    pub(crate) fn empty(&mut self, none: u16, slots: usize)
+        requires { slots < 65536 }
+        ensures same_lists { SameBuckets self.old self.new }
+        ensures value { self.new.links.now ≡ emptied none self.old.links.now slots }
+    {
+        // No `fill` of a range: a list that ends within the heads is filled up to its end.
+        for s in 0..slots {
+            self.put(usize::from(none) + s, none);
+        }
+    }
+
+    // The file enters the front of the bucket whose head stands at this place.
+    pub(crate) fn enter(&mut self, back: u16, head: u16, file: u16)
+        ensures same_lists { SameBuckets self.old self.new }
+        ensures value { self.new.links.now ≡ entered back head file self.old.links.now }
+    {
+        let first = self.entry(usize::from(head));
+        self.join(back, file, first);
+        self.join(back, head, file);
+    }
+
+    // The file leaves its bucket.
+    pub(crate) fn leave(&mut self, back: u16, file: u16)
+        ensures same_lists { SameBuckets self.old self.new }
+        ensures value { self.new.links.now ≡ left back file self.old.links.now }
+    {
+        let next = self.entry(usize::from(file));
+        let before = self.entry(usize::from(back) + usize::from(file));
+        self.join(back, before, next);
+    }
+
+    // The top at this place is no less than this.
+    pub(crate) fn raise(&mut self, at: usize, top: u16)
+        ensures same_lists { SameBuckets self.old self.new }
+        ensures value { self.new.links.now ≡ set self.old.links.now at (max (get_or self.old.links.now at 0) top) }
+    {
+        let risen = self.entry(at).max(top);
+        self.put(at, risen);
+    }
+
+    // The highest bucket that holds a file, of those whose heads stand from here on and below the top.
+    pub(crate) fn highest(&self, none: u16, from: u16, top: u16) -> Option<Bucket>
+        ensures value { as_top result ≡ highest_in none from self.now.links.now top }
+        ensures bucket { IfSome result (λ bucket. (bucket.level < top) × (bucket.front ≡ get_or self.now.links.now (from + bucket.level) 0)) }
+    {
+        for level in (0..top).rev() {
+            let front = self.entry(usize::from(from) + usize::from(level));
+            if front != none {
+                return Some(Bucket { level, front });
+            }
+        }
+        None
+    }
 }

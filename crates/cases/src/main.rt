@@ -8,8 +8,8 @@ fn show_report<R: Read, W: Write>(reader: &mut R, out: &mut W) -> io::Result<()>
     let mut input = [0u8; layout::INPUT_BYTES];
     let got = frames::take(reader, &mut input)?;
     let mut text = [0u8; teller::TEXT_BYTES];
-    let printed = teller::night(1, &input[..got], &mut text);
-    out.write_all(&text[..printed.bytes])
+    let bytes = teller::night(1, &input[..got], &mut text).unwrap();
+    out.write_all(&text[..bytes])
 }
 
 // Whether there was a case: every name has a letter.

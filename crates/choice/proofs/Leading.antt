@@ -1,85 +1,48 @@
 -- The walk of the balancing's choice over the files: the leader is the greatest of the files passed. Assumes nothing.
 use mathlib.Core.Path.{◌≡◌, refl, sym, ap, ◌∙◌}
-use mathlib.Core.Logic.{◌≢◌}
-use Prim.Native.Nat.{ℕ, ◌+◌, ◌*◌, ◌≤◌, ◌<◌}
+use Prim.Native.Nat.{ℕ, ◌+◌, ◌≤◌, ◌<◌}
 use native.Mathlib.Numerals.{add-one}
 use native.Mathlib.Omega.{arith}
-use mathlib.Core.Bool.{Bool, true, false, not, cond, ◌&&◌, ◌||◌}
+use mathlib.Core.Bool.{Bool, true, false, cond, ◌&&◌, ◌||◌}
 use mathlib.Core.List.{List}
 use mathlib.Core.Option.{Option, none, some}
 use lib.Dec.{eqb}
 use lib.IntN.{ℤ}
-use lib.ListN.{length, get_or, take}
-use lib.Seq.{get_or-take}
-use borrow.Author.Tests.{le-leb, lt-leb, lt-ltb, le-ltb, eq-eqb, ne_eqb}
-use Rattle.rules.specs.Move.{distance, greater, challenge, first_below}
+use lib.ListN.{length, take}
+use borrow.Author.Tests.{eq-eqb, ne_eqb}
+use Rattle.std.specs.Prelude.{Option as Option', Some, None, IfSome, IsSomeAnd}
+use Rattle.rules.specs.Move.{greater, challenge, first_below}
+use Rattle.rules.proofs.Tests.{and-false}
 use Rattle.rules.proofs.First.{first-ok}
-use Rattle.choice.specs.declared.window.Window.{Window}
 use Rattle.choice.specs.Choosing.{fit_files, file_or}
-use Rattle.choice.specs.Heavy.{heavy_in, free_in, gain_in, leader_in, greatest_in, greatest_file}
+use Rattle.choice.specs.Heavy.{free_in, gain_in, leader_in, greatest_in, greatest_file}
+use Rattle.choice.specs.Cases.{as_file}
 use Rattle.choice.proofs.Fitting.{lengths-fit}
 
--- ---- the side to move from, by the tests of the code; d is the distance that it works out
+-- ---- one file against the leader so far, one of n files or none
 
-module _ (w : Window) (size d : ℕ) (e : d ≡ distance (w.den * size) w.aim) where
-  pub heavy-none : d ≤ w.span → 2 ≡ heavy_in w size
-  heavy-none h = rw (← e, le-leb d w.span h) refl
+module _ (u : ℕ) (sides locks : List ℕ) (gains : List ℤ) (n f : ℕ) where
+  abbrev now : Option' ℕ → ℕ
+  now best = leader_in u sides locks gains n (as_file n best) f
 
-  pub heavy-from-A : w.span < d → w.aim < w.den * size → 0 ≡ heavy_in w size
-  heavy-from-A h l = rw (← e, lt-leb d w.span h, lt-ltb w.aim (w.den * size) l) refl
-
-  pub heavy-from-B : w.span < d → w.den * size ≤ w.aim → 1 ≡ heavy_in w size
-  heavy-from-B h l = rw (← e, lt-leb d w.span h, le-ltb w.aim (w.den * size) l) refl
-
--- ---- one file against the leader, by the tests of the code
-
-stays-behind : (f best : ℕ) (a b x : Bool) → (not a || not b) ≡ true → best ≡ cond ((a && b) && x) f best
-stays-behind f best true true x h = cc
-stays-behind f best true false x h = refl
-stays-behind f best false b x h = refl
-
-goes-ahead : (f best : ℕ) (a b x : Bool) → (not a || not b) ≡ false → x ≡ true → f ≡ cond ((a && b) && x) f best
-goes-ahead f best true true x h e = rw e refl
-goes-ahead f best true false x h e = cc
-goes-ahead f best false b x h e = cc
-
-falls-behind : (f best : ℕ) (a : Bool) → best ≡ cond (a && false) f best
-falls-behind f best true = refl
-falls-behind f best false = refl
-
-module _ (u : ℕ) (sides scratch : List ℕ) (gains : List ℤ) (best f : ℕ) (h : f < length sides) where
-  -- its lock and its side, as the code reads them
-  abbrev free : Bool
-  free = eqb (get_or scratch f 0) 0
-
-  abbrev here : Bool
-  here = eqb (get_or sides f 0) u
-
-  abbrev first : Bool
-  first = eqb best (length sides) || greater (gain_in gains) f best
-
-  abbrev now : ℕ
-  now = leader_in u sides (take (length sides) scratch) gains (length sides) best f
-
-  tests : now ≡ cond ((free && here) && first) f best
-  unfolding leader_in
-  tests = rw (get_or-take (length sides) scratch f 0 h) refl
+  abbrev Ahead : Bool → ℕ → Type 0
+  Ahead t best = greater (gain_in gains) f best ≡ t
 
   -- it is locked, or on the other side
-  pub leader-stays : (not free || not here) ≡ true → best ≡ now
-  leader-stays e = stays-behind f best free here first e ∙ sym tests
+  pub leader-stays : (best : Option' ℕ) → free_in u sides locks f ≡ false → as_file n best ≡ now best
+  unfolding leader_in
+  leader-stays best e = rw e refl
 
   -- it is the first of its kind, or has the greater gain
-  pub leader-first : (not free || not here) ≡ false → best ≡ length sides → f ≡ now
-  leader-first e q = goes-ahead f best free here first e (rw (eq-eqb best (length sides) q) refl) ∙ sym tests
+  pub leader-goes : (best : Option' ℕ) → IfSome best (λ best. best < n) → free_in u sides locks f ≡ true → IfSome best (Ahead true) → f ≡ now best
+  unfolding leader_in
+  leader-goes None h e g = rw (e, eq-eqb n n refl) refl
+  leader-goes (Some best) h e g = rw (e, g, ne_eqb best n (λ q. omega arith)) refl
 
-  pub leader-goes : (not free || not here) ≡ false → best ≢ length sides → greater (gain_in gains) f best ≡ true → f ≡ now
-  leader-goes e n g = goes-ahead f best free here first e (rw (ne_eqb best (length sides) n) g) ∙ sym tests
-
-  pub leader-keeps : best ≢ length sides → greater (gain_in gains) f best ≡ false → best ≡ now
-  leader-keeps n g =
-      let lost : first ≡ false = rw (ne_eqb best (length sides) n) g in
-      falls-behind f best (free && here) ∙ sym (ap (λ (x : Bool). cond ((free && here) && x) f best) lost) ∙ sym tests
+  pub leader-keeps : (best : Option' ℕ) → IfSome best (λ best. best < n) → IsSomeAnd best (Ahead false) → as_file n best ≡ now best
+  unfolding leader_in
+  leader-keeps None h g = absurd g
+  leader-keeps (Some best) h g = rw (ne_eqb best n (λ q. omega arith), g, and-false (free_in u sides locks f)) refl
 
 -- ---- the walk
 
@@ -97,10 +60,6 @@ lead-on ok goes n (some g) f h = rw (ne_eqb g n (λ e. absurd (omega (arith, h g
     go true = refl
     go false = refl
 
-or-few : (n : ℕ) (o : Option ℕ) → ((g : ℕ) → o ≡ some g → g < n) → file_or n o ≤ n
-or-few n none h = omega arith
-or-few n (some g) h = omega (arith, h g refl)
-
 -- the files below f are passed, and best leads them
 pub record Led (u : ℕ) (sides locks : List ℕ) (gains : List ℤ) (n f best : ℕ) : Type 0 where
   pub few : f ≤ n
@@ -117,9 +76,6 @@ module _ {u : ℕ} {sides locks : List ℕ} {gains : List ℤ} {n : ℕ} where
   led-none = record { few = omega arith; leads = refl }
 
   module _ {f best : ℕ} (l : Led u sides locks gains n f best) where
-    pub led-few : best ≤ n
-    led-few = rw l.leads (or-few n (greatest_in u sides locks gains f) (λ g e. omega (arith, greatest-below u sides locks gains f g e, l.few)))
-
     pub led-more : {best' : ℕ} → f < n → best' ≡ leader_in u sides locks gains n best f → Led u sides locks gains n (f + 1) best'
     unfolding leader_in greatest_in first_below
     led-more h e = record {

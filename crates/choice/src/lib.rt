@@ -8,4 +8,4 @@ mod window;
 
 pub use edition1::{Best, choose};
 pub use heavy::{greatest_on, heavy_side};
-pub use window::{Window, dist_after, size_after};
+pub use window::{Standing, Window, size_after};

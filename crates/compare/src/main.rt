@@ -38,6 +38,6 @@ fn main(rt: HostRuntime) -> io::Result<()> {
     let mut new = [0u8; layout::INPUT_BYTES];
     let got = take_file(&rt, 2, &mut new)?;
     let mut text = text_room();
-    let printed = comparer::tell(&old[..came], &new[..got], &mut text);
-    rt.write_all(&text[..printed.bytes])
+    let bytes = comparer::tell(&old[..came], &new[..got], &mut text).unwrap();
+    rt.write_all(&text[..bytes])
 }

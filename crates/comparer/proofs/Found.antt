@@ -1,175 +1,158 @@
 -- What is found of two stored jobs: a refusal, or their differences; and what that makes of a lent list. Assumes nothing.
-use mathlib.Core.Path.{◌≡◌, refl, sym, ap, ap₂, subst, ◌∙◌}
-use mathlib.Core.Logic.{◌≢◌}
-use Prim.Native.Nat.{ℕ, ◌+◌, ◌*◌, ◌≤◌, ◌<◌}
-use mathlib.Core.List.{List}
+use Rattle.std.proofs.Common.{◌≡◌, ◌≢◌, refl, sym, ap, ap₂, ◌∙◌, ℕ, ◌≤◌, ◌<◌, List, length, eq-eqb, ne_eqb, arith}
 use native.Mathlib.Decide.{ℕ_discrete}
-use native.Mathlib.Omega.{arith}
-use lib.ListN.{length, take}
-use lib.Seq.{length-take-le}
-use borrow.Author.Tests.{eq-eqb, ne_eqb}
+use Rattle.std.specs.Prelude.{Result, Ok, Err, IfOk, IsErrAnd, MatchResult}
+use Rattle.std.proofs.lemmas.Result.{err_from_is_err_and, IfOk-at_ok}
 use Rattle.rules.specs.declared.Verdict.{Verdict}
-use Rattle.rules.specs.declared.Header.{Header}
+use Rattle.rules.specs.declared.refusal.Refusal.{Refusal}
 use Rattle.rules.specs.declared.Difference.{Difference}
-use Rattle.rules.specs.declared.Compared.{Compared}
+use Rattle.rules.specs.Numbers.{verdict_of, Compared}
 use Rattle.rules.specs.Lists.{up_to, onto}
-use Rattle.rules.specs.Job.{Job, Limits}
-use Rattle.rules.specs.Check.{done, check_contents}
-use Rattle.rules.specs.Stored.{Room, job_of, layout_verdict}
-use Rattle.rules.specs.Report.{all_room}
+use Rattle.rules.specs.Job.{Limits}
+use Rattle.rules.specs.Check.{done}
+use Rattle.rules.specs.Stored.{job_of}
 use Rattle.rules.specs.Compare.{differences, read_for, compared, comparing_of, comparing}
-use Rattle.rules.proofs.Verdicts.{zero_of, Plain, plain-chain}
-use Rattle.rules.proofs.Refusals.{read-chain}
-use Rattle.rules.proofs.Proved.{plain-contents}
+use Rattle.rules.proofs.Exits.{not-done}
 use Rattle.rules.proofs.Comparing.{compare-holds}
-use Rattle.stored.specs.Room.{room_of, taking_up, lists_of}
-use Rattle.stored.specs.Steps.{job_taken, Held}
-use Rattle.stored.specs.declared.TakenUp.{TakenUp}
-use Rattle.stored.proofs.JobTaken.{verdict-read, number_read, job_read}
+use Rattle.stored.specs.declared.taken.TakenUp.{TakenUp}
+use Rattle.stored.specs.Room.{taking_up, lists_of, as_taken}
+use Rattle.stored.specs.Steps.{job_taken}
+use Rattle.stored.proofs.JobTaken.{refused-read, zero_read, job_read}
 use Rattle.report.specs.Comparison.{records_in}
-use Rattle.comparer.specs.Finding.{Noted, Exact, answer_of, Found, Fits}
+use Rattle.comparer.specs.declared.NotCompared.{NotCompared}
+use Rattle.comparer.specs.declared.NotCompared.TheVariants.{Refused}
+use Rattle.comparer.specs.Cases.{as_compared}
+use Rattle.comparer.specs.Finding.{Noted, as_found, answer_of}
 
--- ---- a job that was read
+-- ---- an answer whose refusal is made another
 
--- reading that lets through has place 0 too
-plain-read : (most : Limits) (bytes : List ℕ) → Plain (read_for most bytes)
-plain-read most bytes z =
-    let e = read-chain most bytes (all_room most) in
-    e ∙ plain-chain (layout_verdict most bytes (all_room most)) (check_contents (job_of bytes)) (plain-contents (job_of bytes)) (zero_of e z)
+module _ {A E F : Type 0} where
+  -- m is t with its refusal e as f e
+  abbrev pub Remade : (E → F) → Result A E → Result A F → Type 0
+  Remade f t m = MatchResult t (λ x. m ≡ Ok x) (λ e. IsErrAnd m (λ y. y ≡ f e))
 
--- its entries alone
-abbrev pub entries_of : Header → Room → Room
-entries_of h r = room_of (take h.files r.sizes) (take h.files r.sides) (take h.files r.marks) (take (h.recipes + 1) r.bounds) (take h.pins r.pins)
+  -- refused, it leaves by a `?`
+  pub remade-err : {B : Type 0} (f : E → F) (t : Result A E) (m : Result A F) (p : F) (r : Result B F) → Remade f t m → m ≡ Err p → IsErrAnd r (λ y. y ≡ p)
+      → (e : E) × (t ≡ Err e) × (r ≡ Err (f e))
+  remade-err f (Ok x) m p r h q w = absurd (let e : Ok x ≡ Err p = sym h ∙ q in cc)
+  remade-err f (Err e) m p r h q w =
+      let a = err_from_is_err_and m h in
+      let b = err_from_is_err_and r w in
+      (e, refl, (let same : r ≡ Err (f e) = (let k : Err a.0 ≡ Err p = sym a.1 ∙ q in cc) in same))
 
--- ---- the answer and what it holds
+  pub remade-ok : (f : E → F) (t : Result A E) (m : Result A F) (x : A) → Remade f t m → m ≡ Ok x → t ≡ Ok x
+  remade-ok f (Ok y) m x h q = let k : Ok y ≡ Ok x = sym h ∙ q in let same : y ≡ x = cc in ap Ok same
+  remade-ok f (Err e) m x h q = absurd (let a = err_from_is_err_and m h in let k : Err a.0 ≡ Ok x = sym a.1 ∙ q in cc)
 
--- a refusal holds nothing
-found-refused : (old new : Job) (a : Compared) (numbers : List ℕ) → a.verdict.number ≢ 0 → Found old new a numbers
-found-refused old new a numbers n = record { held = λ z. absurd (n z); records = λ z. absurd (n z) }
+-- ---- what is found
 
-found-noted : (old new : Job) (v : Verdict) (count : ℕ) (before after : List ℕ) → Noted 0 before (differences old new) count after → 4 * count ≤ length after
-    → Found old new (compared 0 v count) after
-unfolding records_in up_to
-found-noted old new v count before after w room = record { held = λ _. room; records = λ _. w.noted }
+-- a refusal of a job, as `compare` answers it
+abbrev pub refused : ℕ × Refusal → NotCompared
+refused p = Refused p.0 p.1
+
+-- a stored job was taken up
+pub record Took (most : Limits) (bytes : List ℕ) (t : TakenUp) : Type 0 where
+  pub read : as_taken (Ok t) ≡ (taking_up most bytes).answer
+  pub lists : lists_of t ≡ (taking_up most bytes).room
+
+pub took_up : (most : Limits) (bytes : List ℕ) (f : Refusal → ℕ × Refusal) (t : Result TakenUp Refusal) (m : Result TakenUp (ℕ × Refusal)) (x : TakenUp) → Remade f t m → m ≡ Ok x
+    → as_taken t ≡ (taking_up most bytes).answer → IfOk t (λ y. lists_of y ≡ (taking_up most bytes).room) → Took most bytes x
+took_up most bytes f t m x made was read lists =
+    let e = remade-ok f t m x made was in
+    record { read = ap as_taken (sym e) ∙ read; lists = IfOk-at_ok (λ y. lists_of y ≡ (taking_up most bytes).room) e lists }
 
 module _ (most : Limits) (old new : List ℕ) where
-  of-first : (read_for most old).number ≢ 0 → answer_of most old new ≡ compared 1 (read_for most old) 0
+  pub of-first : (read_for most old).number ≢ 0 → answer_of most old new ≡ compared 1 (read_for most old) 0
   of-first n = rw (ne_eqb (read_for most old).number 0 n) refl
 
-  of-second : (read_for most old).number ≡ 0 → (read_for most new).number ≢ 0 → answer_of most old new ≡ compared 2 (read_for most new) 0
+  pub of-second : (read_for most old).number ≡ 0 → (read_for most new).number ≢ 0 → answer_of most old new ≡ compared 2 (read_for most new) 0
   of-second z n = rw (eq-eqb (read_for most old).number 0 z, ne_eqb (read_for most new).number 0 n) refl
 
-  of-both : (read_for most old).number ≡ 0 → (read_for most new).number ≡ 0 → answer_of most old new ≡ compared 0 done (length (differences (job_of old) (job_of new)))
+  pub of-both : (read_for most old).number ≡ 0 → (read_for most new).number ≡ 0 → answer_of most old new ≡ compared 0 done (length (differences (job_of old) (job_of new)))
   of-both z w = rw (eq-eqb (read_for most old).number 0 z, eq-eqb (read_for most new).number 0 w) refl
 
--- ---- a job that was taken up, its entries alone
+  -- of a refusal of job 1, which leaves by a `?`
+  pub first-exit : (t : Result TakenUp Refusal) (m : Result TakenUp (ℕ × Refusal)) (p : ℕ × Refusal) (r : Result ℕ (ℕ × Refusal))
+      → Remade (λ e. (1, e)) t m → m ≡ Err p → IsErrAnd r (λ y. y ≡ p) → as_taken t ≡ (taking_up most old).answer → as_found r ≡ answer_of most old new
+  first-exit t m p r made was exit read =
+      let e = remade-err (λ (x : Refusal). (1, x)) t m p r made was exit in
+      let v : verdict_of e.0 ≡ read_for most old = refused-read most old e.0 (ap as_taken (sym e.1) ∙ read) in
+      ap as_found e.2 ∙ ap (λ (w : Verdict). compared 1 w 0) v ∙ sym (of-first (λ z. not-done e.0 (ap (λ (w : Verdict). w.number) v ∙ z)))
 
-module _ (most : Limits) (t : TakenUp) (w : Held most t) where
-  abbrev entries : Room
-  entries = entries_of t.read.header (lists_of t)
+  module _ {first : TakenUp} (took : Took most old first) where
+    -- and of job 2
+    pub second-exit : (t : Result TakenUp Refusal) (m : Result TakenUp (ℕ × Refusal)) (p : ℕ × Refusal) (r : Result ℕ (ℕ × Refusal))
+        → Remade (λ e. (2, e)) t m → m ≡ Err p → IsErrAnd r (λ y. y ≡ p) → as_taken t ≡ (taking_up most new).answer → as_found r ≡ answer_of most old new
+    second-exit t m p r made was exit read =
+        let e = remade-err (λ (x : Refusal). (2, x)) t m p r made was exit in
+        let v : verdict_of e.0 ≡ read_for most new = refused-read most new e.0 (ap as_taken (sym e.1) ∙ read) in
+        ap as_found e.2
+        ∙ ap (λ (w : Verdict). compared 2 w 0) v
+        ∙ sym (of-second (zero_read most old first took.read took.lists) (λ z. not-done e.0 (ap (λ (w : Verdict). w.number) v ∙ z)))
 
-  -- they are as many as the header says
-  pub counts-taken : (t.read.header.files ≡ length entries.sizes) × (t.read.header.files ≡ length entries.sides) × (t.read.header.files ≡ length entries.marks)
-      × (t.read.header.recipes + 1 ≡ length entries.bounds) × (t.read.header.pins ≡ length entries.pins)
-  counts-taken =
-      let is : (n : ℕ) (l : List ℕ) → n ≤ length l → n ≡ length (take n l) = λ n l g. sym (length-take-le n l g) in
-      let h = t.read.header in (
-        is h.files t.sizes w.enough.sizes,
-        is h.files t.sides w.enough.sides,
-        is h.files t.marks w.enough.marks,
-        is (h.recipes + 1) t.bounds w.enough.bounds,
-        is h.pins t.pins w.enough.pins,
-      )
+    module _ {second : TakenUp} (took' : Took most new second) {count : ℕ} {before after : List ℕ}
+        (w : Noted 0 before (differences (job_taken first) (job_taken second)) count after) where
+      same : differences (job_taken first) (job_taken second) ≡ differences (job_of old) (job_of new)
+      same = ap₂ differences (job_read most old first took.read took.lists) (job_read most new second took'.read took'.lists)
 
-  pub exact-taken : Exact most t.read.header entries
-  exact-taken =
-      let k = counts-taken in
-      record { files = sym k.0; recipes = sym k.3; pins = sym k.4; few_files = w.few_files; few_recipes = w.few_recipes; few_pins = w.few_pins }
+      pub both-found : compared 0 done count ≡ answer_of most old new
+      both-found =
+          let many : count ≡ length (differences (job_of old) (job_of new)) = omega (arith, w.many, ap length same) in
+          ap (compared 0 done) many ∙ sym (of-both (zero_read most old first took.read took.lists) (zero_read most new second took'.read took'.lists))
 
--- ---- the two stored jobs
+      pub both-noted : records_in count after ≡ differences (job_of old) (job_of new)
+      unfolding records_in up_to
+      both-noted = w.noted ∙ same
 
-module _ (most : Limits) (old new : List ℕ) (t : TakenUp) (e : t.read ≡ (taking_up most old).answer) (f : lists_of t ≡ (taking_up most old).room) where
-  pub first-refused : t.read.verdict.number ≢ 0 → (a : Compared) (numbers : List ℕ) → a ≡ compared 1 t.read.verdict 0 → (a ≡ answer_of most old new) × Found (job_of old) (job_of new) a numbers
-  first-refused n a numbers q = (
-    q ∙ ap (λ (v : Verdict). compared 1 v 0) (verdict-read most old t e f) ∙ sym (of-first most old new (λ z. n (number_read most old t e f ∙ z))),
-    found-refused (job_of old) (job_of new) a numbers (λ z. n (sym (ap (λ (x : Compared). x.verdict.number) q) ∙ z)),
-  )
+  -- the two jobs that were read
+  pub both_read : {a : Compared} → a ≡ answer_of most old new → a.verdict.number ≡ 0 → ((read_for most old).number ≡ 0) × ((read_for most new).number ≡ 0)
+  both_read found z = elim (ℕ_discrete (read_for most old).number 0) [
+    | no p ↦ absurd (p (sym (ap (λ (x : Compared). x.verdict.number) (found ∙ of-first p)) ∙ z))
+    | yes ok ↦ elim (ℕ_discrete (read_for most new).number 0) [
+      | no p ↦ absurd (p (sym (ap (λ (x : Compared). x.verdict.number) (found ∙ of-second ok p)) ∙ z))
+      | yes fine ↦ (ok, fine)
+    ]
+  ]
 
-  module _ (z : t.read.verdict.number ≡ 0) (u : TakenUp) (g : u.read ≡ (taking_up most new).answer) (h : lists_of u ≡ (taking_up most new).room) where
-    first-through : (read_for most old).number ≡ 0
-    first-through = sym (number_read most old t e f) ∙ z
+  -- ---- what that makes of a lent list
 
-    pub second-refused : u.read.verdict.number ≢ 0 → (a : Compared) (numbers : List ℕ) → a ≡ compared 2 u.read.verdict 0 → (a ≡ answer_of most old new) × Found (job_of old) (job_of new) a numbers
-    second-refused n a numbers q = (
-      q ∙ ap (λ (v : Verdict). compared 2 v 0) (verdict-read most new u g h) ∙ sym (of-second most old new first-through (λ w. n (number_read most new u g h ∙ w))),
-      found-refused (job_of old) (job_of new) a numbers (λ w. n (sym (ap (λ (x : Compared). x.verdict.number) q) ∙ w)),
-    )
-
-    pub both_read : u.read.verdict.number ≡ 0 → (count : ℕ) (before after : List ℕ) → Noted 0 before (differences (job_taken t) (job_taken u)) count after → 4 * count ≤ length after
-        → (compared 0 u.read.verdict count ≡ answer_of most old new) × Found (job_of old) (job_of new) (compared 0 u.read.verdict count) after
-    both_read y count before after w room =
-        let second-through : (read_for most new).number ≡ 0 = sym (number_read most new u g h) ∙ y in
-        let same : differences (job_taken t) (job_taken u) ≡ differences (job_of old) (job_of new) = ap₂ differences (job_read most old t e f z) (job_read most new u g h y) in
-        let noted : Noted 0 before (differences (job_of old) (job_of new)) count after = subst (λ (ds : List Difference). Noted 0 before ds count after) same w in
-        let v : u.read.verdict ≡ done = verdict-read most new u g h ∙ plain-read most new second-through in
-        let k : count ≡ length (differences (job_of old) (job_of new)) = omega (arith, noted.many) in (
-          (λ i. compared 0 (v i) (k i)) ∙ sym (of-both most old new first-through second-through),
-          found-noted (job_of old) (job_of new) u.read.verdict count before after noted room,
-        )
-
--- ---- what that makes of a lent list
-
--- with nothing to store the list stays
-onto-none : (numbers : List ℕ) (room : List Difference) → onto (records_in 0 numbers) room ≡ room
-unfolding records_in up_to onto
-onto-none numbers room = refl
-
-module _ (most : Limits) (old new : List ℕ) (n : ℕ) (a : Compared) (numbers : List ℕ) (e : a ≡ answer_of most old new) (w : Found (job_of old) (job_of new) a numbers) where
-  abbrev found : List Difference
-  found = differences (job_of old) (job_of new)
-
-  pub fits_refused : a.verdict.number ≢ 0 → Fits most old new n a 0 numbers
-  fits_refused m = record { short = omega arith; held = omega arith; makes = λ room _. ap (comparing_of a) (onto-none numbers room) ∙ refusal room }
-    where
-      refusal : (room : List Difference) → comparing_of a room ≡ comparing most old new room
-      refusal room = elim (ℕ_discrete (read_for most old).number 0) [
-        | no p ↦ ap (λ (x : Compared). comparing_of x room) (e ∙ of-first most old new p) ∙ sym ((compare-holds most old new room).first p)
-        | yes ok ↦ elim (ℕ_discrete (read_for most new).number 0) [
-          | no p ↦
-              ap (λ (x : Compared). comparing_of x room) (e ∙ of-second most old new ok p)
-              ∙ sym ((compare-holds most old new room).second ok p)
-          | yes fine ↦ absurd (m (ap (λ (x : Compared). x.verdict.number) (e ∙ of-both most old new ok fine)))
-        ]
-      ]
-
-  module _ (z : a.verdict.number ≡ 0) where
-    both : ((read_for most old).number ≡ 0) × ((read_for most new).number ≡ 0)
-    both = elim (ℕ_discrete (read_for most old).number 0) [
-      | no p ↦ absurd (p (sym (ap (λ (x : Compared). x.verdict.number) (e ∙ of-first most old new p)) ∙ z))
+  module _ (room : List Difference) (found : Result ℕ (ℕ × Refusal)) (answer : as_found found ≡ answer_of most old new)
+      (made : Result ℕ NotCompared) (remade : Remade refused found made) where
+    -- refused, the list stays
+    stays : (a : Compared) → a ≡ answer_of most old new → a.verdict.number ≢ 0 → comparing_of a room ≡ comparing most old new room
+    stays a e m = elim (ℕ_discrete (read_for most old).number 0) [
+      | no p ↦ ap (λ (x : Compared). comparing_of x room) (e ∙ of-first p) ∙ sym ((compare-holds most old new room).first p)
       | yes ok ↦ elim (ℕ_discrete (read_for most new).number 0) [
-        | no p ↦ absurd (p (sym (ap (λ (x : Compared). x.verdict.number) (e ∙ of-second most old new ok p)) ∙ z))
-        | yes fine ↦ (ok, fine)
+        | no p ↦ ap (λ (x : Compared). comparing_of x room) (e ∙ of-second ok p) ∙ sym ((compare-holds most old new room).second ok p)
+        | yes fine ↦ absurd (m (ap (λ (x : Compared). x.verdict.number) (e ∙ of-both ok fine)))
       ]
     ]
 
-    answered : a ≡ compared 0 done (length found)
-    answered = e ∙ of-both most old new both.0 both.1
+    pub list-stays : (p : NotCompared) (r : Result ℕ NotCompared) → made ≡ Err p → IsErrAnd r (λ y. y ≡ p) → comparing_of (as_compared r) room ≡ comparing most old new room
+    list-stays p r was exit =
+        let e = remade-err refused found made p r remade was exit in
+        ap (λ (x : Result ℕ NotCompared). comparing_of (as_compared x) room) e.2 ∙ stays (as_found (Err e.0)) (ap as_found (sym e.1) ∙ answer) (not-done e.0.1)
 
-    many : a.count ≡ length found
-    many = ap (λ (x : Compared). x.count) answered
+    module _ {count : ℕ} (was : made ≡ Ok count) where
+      done-found : compared 0 done count ≡ answer_of most old new
+      done-found = ap as_found (sym (remade-ok refused found made count remade was)) ∙ answer
 
-    pub fits-short : n < a.count → Fits most old new n (compared 0 (record { number = 30; place = 0 }) a.count) 0 numbers
-    fits-short h = record {
-      short = omega arith;
-      held = omega arith;
-      makes = λ room l.
-          (λ i. comparing_of (compared 0 (record { number = 30; place = 0 }) (many i)) (onto-none numbers room i))
-          ∙ sym ((compare-holds most old new room).short both.0 both.1 (omega (arith, many)));
-    }
+      both : ((read_for most old).number ≡ 0) × ((read_for most new).number ≡ 0)
+      both = both_read done-found refl
 
-    pub fits-made : a.count ≤ n → Fits most old new n a a.count numbers
-    fits-made h = record {
-      short = h;
-      held = w.held z;
-      makes = λ room l. (λ i. comparing_of (answered i) (onto (w.records z i) room)) ∙ sym ((compare-holds most old new room).made both.0 both.1 (omega (arith, many)));
-    }
+      many : count ≡ length (differences (job_of old) (job_of new))
+      many = ap (λ (a : Compared). a.count) (done-found ∙ of-both both.0 both.1)
+
+      pub list-short : length room < count → comparing_of (compared 0 (record { number = 30; place = 0 }) count) room ≡ comparing most old new room
+      list-short h =
+          ap (λ (n : ℕ). comparing_of (compared 0 (record { number = 30; place = 0 }) n) room) many
+          ∙ sym ((compare-holds most old new room).short both.0 both.1 (omega (arith, many)))
+
+      pub list-made : (records : ℕ → List Difference) {after : List Difference} → IfOk found (λ n. records n ≡ differences (job_of old) (job_of new))
+          → after ≡ onto (records count) room → count ≤ length room → comparing_of (compared 0 done count) after ≡ comparing most old new room
+      list-made records w e h =
+          let is : records count ≡ differences (job_of old) (job_of new) =
+          IfOk-at_ok (λ n. records n ≡ differences (job_of old) (job_of new)) (remade-ok refused found made count remade was) w in
+          ap (comparing_of (compared 0 done count)) e
+          ∙ ap₂ (λ (n : ℕ) (ds : List Difference). comparing_of (compared 0 done n) (onto ds room)) many is
+          ∙ sym ((compare-holds most old new room).made both.0 both.1 (omega (arith, many)))

@@ -1,11 +1,12 @@
--- The records of a list of numbers: how many, one more behind, and what stays and what is made where numbers are set. Assumes nothing.
-use mathlib.Core.Path.{◌≡◌, refl, ap₂, ◌∙◌}
+-- The records of a list of numbers: how many, one more behind, and what stays and what is made where one is put. Assumes nothing.
+use mathlib.Core.Path.{◌≡◌, refl, sym, ap, ap₂, ◌∙◌}
 use Prim.Native.Nat.{ℕ, zero, suc, ◌+◌, ◌*◌, ◌≤◌, ◌<◌}
 use mathlib.Core.List.{List, [], ◌∷◌, ◌++◌}
 use native.Mathlib.Numerals.{add-one}
 use native.Mathlib.Omega.{arith}
-use lib.ListN.{length, get_or, set, length-set}
-use lib.Seq.{get_or-set_same, get_or-set_other}
+use lib.ListN.{length, get_or, take, length-append, length-drop, get_or-append}
+use lib.Seq.{length-take-le, get_or-take, get_or-append-add}
+use borrow.Rule.Slice.PartMut.{put_mid}
 use Rattle.rules.specs.declared.Difference.{Difference}
 use Rattle.rules.specs.Lists.{up_to}
 use Rattle.rules.specs.Compare.{difference}
@@ -32,54 +33,40 @@ records-suc n numbers = rw (add-one n) at (records-more n numbers)
 pub records-same : (n : ℕ) (before after : List ℕ) → ((i : ℕ) → i < n → record_at after i ≡ record_at before i) → records_in n after ≡ records_in n before
 records-same zero before after same = rw (records-none after, records-none before) refl
 records-same (suc n) before after same =
-    rw (records-suc n after, records-suc n before) (ap₂ (λ (ds : List Difference) (d : Difference). ds ++ (d ∷ [])) (records-same n before after (λ i h. same i (omega arith))) (same n (omega arith)))
+    rw (records-suc n after, records-suc n before)
+    (ap₂ (λ (ds : List Difference) (d : Difference). ds ++ (d ∷ [])) (records-same n before after (λ i h. same i (omega arith))) (same n (omega arith)))
 
--- a number that is set leaves those before it
-earlier : (numbers : List ℕ) (place v i : ℕ) → i < place → get_or (set numbers place v) i 0 ≡ get_or numbers i 0
-earlier numbers place v i h = get_or-set_other numbers place i v 0 (λ e. omega arith)
+-- ---- the four numbers of a record, put at its place
 
--- so, set from 4·n on, it leaves the first n records
-pub records-stay : (n : ℕ) (numbers : List ℕ) (place v : ℕ) → 4 * n ≤ place → records_in n (set numbers place v) ≡ records_in n numbers
-records-stay n numbers place v h = records-same n numbers (set numbers place v) (λ i l k. difference (stays (4 * i) (omega arith) k) (stays (4 * i + 1) (omega arith) k) (stays (4 * i + 2) (omega arith) k) (stays (4 * i + 3) (omega arith) k))
-  where
-    stays : (i : ℕ) → i < 4 * n → get_or (set numbers place v) i 0 ≡ get_or numbers i 0
-    stays i l = earlier numbers place v i (omega arith)
+module _ (n : ℕ) (d : Difference) (numbers : List ℕ) (room : 4 * (n + 1) ≤ length numbers) where
+  abbrev four : List ℕ
+  four = d.what ∷ d.number ∷ d.old ∷ d.new ∷ []
 
--- ---- the four numbers of a record, set at its place
+  abbrev after : List ℕ
+  after = put_mid (4 * n) 4 numbers four
 
-abbrev pub with_record : ℕ → Difference → List ℕ → List ℕ
-with_record n d numbers = set (set (set (set numbers (4 * n) d.what) (4 * n + 1) d.number) (4 * n + 2) d.old) (4 * n + 3) d.new
+  long : length (take (4 * n) numbers) ≡ 4 * n
+  long = length-take-le (4 * n) numbers (omega arith)
 
-module _ (n : ℕ) (d : Difference) (numbers : List ℕ) where
-  abbrev one : List ℕ
-  one = set numbers (4 * n) d.what
+  pub put-length : length after ≡ length numbers
+  put-length = simp (length-append, length-drop, long) (omega arith)
 
-  abbrev two : List ℕ
-  two = set one (4 * n + 1) d.number
+  earlier : (i : ℕ) → i < 4 * n → get_or after i 0 ≡ get_or numbers i 0
+  earlier i h = get_or-append (take (4 * n) numbers) _ 0 i (omega (arith, long)) ∙ get_or-take (4 * n) numbers i 0 h
 
-  abbrev three : List ℕ
-  three = set two (4 * n + 2) d.old
+  placed : (i j : ℕ) → i ≡ 4 * n + j → j < 4 → get_or after i 0 ≡ get_or four j 0
+  placed i j e h =
+      ap (λ (k : ℕ). get_or after k 0) (e ∙ ap (λ (k : ℕ). k + j) (sym long))
+      ∙ get_or-append-add (take (4 * n) numbers) _ j 0
+      ∙ get_or-append four _ 0 j h
 
-  pub record-stay : records_in n (with_record n d numbers) ≡ records_in n numbers
+  pub record-stay : records_in n after ≡ records_in n numbers
   record-stay =
-      records-stay n three (4 * n + 3) d.new (omega arith) ∙ records-stay n two (4 * n + 2) d.old (omega arith)
-      ∙ records-stay n one (4 * n + 1) d.number (omega arith) ∙ records-stay n numbers (4 * n) d.what (omega arith)
+      let stays : (i j : ℕ) → i < n → j < 4 → get_or after (4 * i + j) 0 ≡ get_or numbers (4 * i + j) 0 = λ i j h l. earlier (4 * i + j) (omega arith) in
+      records-same n numbers after
+      (λ i h k. difference (earlier (4 * i) (omega arith) k) (stays i 1 h (omega arith) k) (stays i 2 h (omega arith) k) (stays i 3 h (omega arith) k))
 
-  pub record-made : 4 * (n + 1) ≤ length numbers → record_at (with_record n d numbers) n ≡ d
-  record-made room = λ k. difference (what k) (number k) (old k) (new k)
-    where
-      what : get_or (with_record n d numbers) (4 * n) 0 ≡ d.what
-      what =
-          earlier three (4 * n + 3) d.new (4 * n) (omega arith) ∙ earlier two (4 * n + 2) d.old (4 * n) (omega arith)
-          ∙ earlier one (4 * n + 1) d.number (4 * n) (omega arith) ∙ get_or-set_same numbers (4 * n) d.what 0 (omega arith)
-
-      number : get_or (with_record n d numbers) (4 * n + 1) 0 ≡ d.number
-      number =
-          earlier three (4 * n + 3) d.new (4 * n + 1) (omega arith) ∙ earlier two (4 * n + 2) d.old (4 * n + 1) (omega arith)
-          ∙ get_or-set_same one (4 * n + 1) d.number 0 (simp length-set (omega arith))
-
-      old : get_or (with_record n d numbers) (4 * n + 2) 0 ≡ d.old
-      old = earlier three (4 * n + 3) d.new (4 * n + 2) (omega arith) ∙ get_or-set_same two (4 * n + 2) d.old 0 (simp length-set (omega arith))
-
-      new : get_or (with_record n d numbers) (4 * n + 3) 0 ≡ d.new
-      new = get_or-set_same three (4 * n + 3) d.new 0 (simp length-set (omega arith))
+  pub record-made : record_at after n ≡ d
+  record-made = λ k.
+      difference (placed (4 * n) 0 (omega arith) (omega arith) k) (placed (4 * n + 1) 1 refl (omega arith) k) (placed (4 * n + 2) 2 refl (omega arith) k)
+      (placed (4 * n + 3) 3 refl (omega arith) k)

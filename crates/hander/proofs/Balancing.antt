@@ -6,7 +6,7 @@ use mathlib.Core.Bool.{true}
 use mathlib.Core.List.{List}
 use borrow.Author.Tests.{eq-eqb}
 use Rattle.rules.specs.declared.Verdict.{Verdict}
-use Rattle.rules.specs.declared.BalanceFigures.{BalanceFigures}
+use Rattle.rules.specs.Numbers.{BalanceFigures}
 use Rattle.rules.specs.Job.{Job, Limits, files}
 use Rattle.rules.specs.Check.{check}
 use Rattle.rules.specs.Split.{size_on}
@@ -17,10 +17,14 @@ use Rattle.rules.specs.Balance.{balance_verdict, Balancing, balancing_of, balanc
 use Rattle.rules.proofs.Proved.{accepted, check-writes}
 use Rattle.rules.proofs.Writes.{handed-refused, handed-done}
 use Rattle.rules.proofs.Balancing.{balance-told, balance-answers, answer-verdict, balances-no}
-use Rattle.stored.specs.declared.TakenUp.{TakenUp}
-use Rattle.stored.specs.Room.{taking_up, lists_of}
+use Rattle.std.specs.Prelude.{Ok, Err}
+use Rattle.rules.specs.declared.refusal.Refusal.{Refusal}
+use Rattle.rules.specs.Numbers.{verdict_of}
+use Rattle.rules.proofs.Exits.{not-done}
+use Rattle.stored.specs.declared.taken.TakenUp.{TakenUp}
+use Rattle.stored.specs.Room.{taking_up, lists_of, as_taken}
 use Rattle.stored.specs.Steps.{job_taken}
-use Rattle.stored.proofs.JobTaken.{verdict-read, number_read, job_read}
+use Rattle.stored.proofs.JobTaken.{refused-read, zero_read, job_read}
 use Rattle.hander.specs.Handing.{refused_out, balanced_out, answer_out, balancing_out, Made}
 
 -- the lines know no more of the job's sides than those they are told
@@ -70,9 +74,11 @@ balances-read : (most : Limits) (bytes : List ℕ) → (read_verdict most bytes 
 unfolding balances
 balances-read most bytes z = rw (eq-eqb (read_verdict most bytes (all_room most)).number 0 z, balances) refl
 
-module _ (most : Limits) (bytes : List ℕ) (t : TakenUp) (e : t.read ≡ (taking_up most bytes).answer) (f : lists_of t ≡ (taking_up most bytes).room) where
-  pub balance-refused : t.read.verdict.number ≢ 0 → refused_out t.read.verdict ≡ balances most bytes
-  balance-refused n = ap refused_out (verdict-read most bytes t e f) ∙ sym (balances-no most bytes (λ z. n (number_read most bytes t e f ∙ z)))
+module _ (most : Limits) (bytes : List ℕ) where
+  pub balance-refused : (r : Refusal) → as_taken (Err r) ≡ (taking_up most bytes).answer → refused_out (verdict_of r) ≡ balances most bytes
+  balance-refused r e =
+      let v = refused-read most bytes r e in
+      ap refused_out v ∙ sym (balances-no most bytes (λ z. not-done r (ap (λ (x : Verdict). x.number) v ∙ z)))
 
-  pub balance-read : t.read.verdict.number ≡ 0 → balancing_out most (job_taken t) ≡ balances most bytes
-  balance-read z = ap (balancing_out most) (job_read most bytes t e f z) ∙ sym (balances-read most bytes (sym (number_read most bytes t e f) ∙ z))
+  pub balance-read : (t : TakenUp) → as_taken (Ok t) ≡ (taking_up most bytes).answer → lists_of t ≡ (taking_up most bytes).room → balancing_out most (job_taken t) ≡ balances most bytes
+  balance-read t e f = ap (balancing_out most) (job_read most bytes t e f) ∙ sym (balances-read most bytes (zero_read most bytes t e f))

@@ -11,9 +11,15 @@ use lib.Dec.{leb}
 use borrow.Rule.Slice.PartMut.{mid_of, put_mid}
 use borrow.Author.Tests.{le-leb, lt-leb}
 use Rattle.rules.specs.declared.Verdict.{Verdict}
-use Rattle.rules.specs.declared.BalanceFigures.{BalanceFigures}
-use Rattle.rules.specs.declared.Printed.{Printed}
-use Rattle.rules.specs.declared.Handed.{Handed}
+use Rattle.rules.specs.Numbers.{BalanceFigures}
+use Rattle.rules.specs.Numbers.{Printed}
+use Rattle.rules.specs.Numbers.{Handed}
+use Rattle.std.specs.Prelude.{IfOk, IsOk, Result, Ok, Err}
+use Rattle.rules.specs.declared.refusal.Refusal.{Refusal}
+use Rattle.rules.specs.declared.HandedOut.{HandedOut as Answer}
+use Rattle.rules.specs.Cases.{as_handed}
+use Rattle.rules.proofs.CasesOne.{as_handed-one}
+use Rattle.rules.proofs.Exits.{not-done}
 use Rattle.rules.specs.Lists.{onto}
 use Rattle.rules.specs.Job.{Job, Limits}
 use Rattle.rules.specs.Check.{done, refuse_if}
@@ -166,3 +172,18 @@ module _ (most : Limits) (answer : BalanceFigures) (job : Job) (n : ℕ) (w : Ma
               ∙ both-whole (blocks_of job) lines room (omega (arith, t.2, length-drop n room, blocks-long, fits)),
           ap (λ (x : Writing). x.verdict.number) all,
         )
+
+-- ---- the same of what a call of src/ answers
+
+pub result-both-lendable : (h : HandedOut) (room room' : List ℕ) (r : Result Answer Refusal) → handing_of (as_handed r) room' ≡ hand_into h room → IfOk r (λ handed. BothLendable handed.output handed.errors room')
+result-both-lendable h room room' (Ok a) e = both-lendable h room room' (as_handed (Ok a)) e
+result-both-lendable h room room' (Err r) e = tt
+
+-- room that is enough is never refused
+pub handed-ok : (r : Result Answer Refusal) → (as_handed r).verdict.number ≡ 0 → IsOk r
+handed-ok (Ok a) z = refl
+handed-ok (Err r) z = absurd (not-done r z)
+
+-- what was handed out settles the answer and the room
+pub handed-one : (r s : Result Answer Refusal) (room room' : List ℕ) → handing_of (as_handed r) room ≡ handing_of (as_handed s) room' → ◌≡◌ {A = Result Answer Refusal × List ℕ} (r, room) (s, room')
+handed-one r s room room' e = λ i. (as_handed-one r s (ap (λ (h : Handing). h.answer) e) i, (e i).room)

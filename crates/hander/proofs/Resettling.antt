@@ -7,7 +7,7 @@ use mathlib.Core.List.{List, []}
 use native.Mathlib.Decide.{ℕ_discrete}
 use borrow.Author.Tests.{eq-eqb}
 use Rattle.rules.specs.declared.Verdict.{Verdict}
-use Rattle.rules.specs.declared.RunFigures.{RunFigures}
+use Rattle.rules.specs.Numbers.{RunFigures}
 use Rattle.rules.specs.Job.{Job, Limits, Lent}
 use Rattle.rules.specs.Check.{check, check_lent}
 use Rattle.rules.specs.Run.{Ended, ended_of, last_pass, run_ends}
@@ -19,10 +19,14 @@ use Rattle.rules.proofs.Proved.{check-writes, lent-passes, answers}
 use Rattle.rules.proofs.CutOff.{resettles-no}
 use Rattle.rules.proofs.Resettling.{resettled-holds}
 use Rattle.rules.proofs.Writes.{handed-refused, handed-done}
-use Rattle.stored.specs.declared.TakenUp.{TakenUp}
-use Rattle.stored.specs.Room.{taking_up, lists_of}
+use Rattle.std.specs.Prelude.{Ok, Err}
+use Rattle.rules.specs.declared.refusal.Refusal.{Refusal}
+use Rattle.rules.specs.Numbers.{verdict_of}
+use Rattle.rules.proofs.Exits.{not-done}
+use Rattle.stored.specs.declared.taken.TakenUp.{TakenUp}
+use Rattle.stored.specs.Room.{taking_up, lists_of, as_taken}
 use Rattle.stored.specs.Steps.{job_taken}
-use Rattle.stored.proofs.JobTaken.{verdict-read, number_read, job_read}
+use Rattle.stored.proofs.JobTaken.{refused-read, zero_read, job_read}
 use Rattle.hander.specs.Handing.{refused_out, made_out, end_out, run_out}
 
 module _ (edition : ℕ) (most : Limits) (job : Job) (r : RunFigures) (sides : List ℕ) (own lent : Lent) (e : ended_of r sides lent ≡ run_ends edition most job own) (q : own ≡ all_lent most job) where
@@ -58,9 +62,11 @@ resettles-read : (edition : ℕ) (most : Limits) (bytes : List ℕ) → (read_ve
 unfolding resettles
 resettles-read edition most bytes z = rw (eq-eqb (read_verdict most bytes (all_room most)).number 0 z, resettles) refl
 
-module _ (edition : ℕ) (most : Limits) (bytes : List ℕ) (t : TakenUp) (e : t.read ≡ (taking_up most bytes).answer) (f : lists_of t ≡ (taking_up most bytes).room) where
-  pub resettle-refused : t.read.verdict.number ≢ 0 → refused_out t.read.verdict ≡ resettles edition most bytes
-  resettle-refused n = ap refused_out (verdict-read most bytes t e f) ∙ sym (resettles-no edition most bytes (λ z. n (number_read most bytes t e f ∙ z)))
+module _ (edition : ℕ) (most : Limits) (bytes : List ℕ) where
+  pub resettle-refused : (r : Refusal) → as_taken (Err r) ≡ (taking_up most bytes).answer → refused_out (verdict_of r) ≡ resettles edition most bytes
+  resettle-refused r e =
+      let v = refused-read most bytes r e in
+      ap refused_out v ∙ sym (resettles-no edition most bytes (λ z. not-done r (ap (λ (x : Verdict). x.number) v ∙ z)))
 
-  pub resettle-read : t.read.verdict.number ≡ 0 → run_out edition most (job_taken t) ≡ resettles edition most bytes
-  resettle-read z = ap (run_out edition most) (job_read most bytes t e f z) ∙ sym (resettles-read edition most bytes (sym (number_read most bytes t e f) ∙ z))
+  pub resettle-read : (t : TakenUp) → as_taken (Ok t) ≡ (taking_up most bytes).answer → lists_of t ≡ (taking_up most bytes).room → run_out edition most (job_taken t) ≡ resettles edition most bytes
+  resettle-read t e f = ap (run_out edition most) (job_read most bytes t e f) ∙ sym (resettles-read edition most bytes (zero_read most bytes t e f))

@@ -1,8 +1,8 @@
 -- What is handed out of a job. Assumes nothing.
 use Rattle.std.specs.Prelude.{◌≡◌, ℕ, ◌*◌, true, List, [], length}
 use Rattle.rules.specs.declared.Verdict.{Verdict}
-use Rattle.rules.specs.declared.RunFigures.{RunFigures}
-use Rattle.rules.specs.declared.BalanceFigures.{BalanceFigures}
+use Rattle.rules.specs.Numbers.{RunFigures}
+use Rattle.rules.specs.Numbers.{BalanceFigures}
 use Rattle.rules.specs.Job.{Job, Limits}
 use Rattle.rules.specs.Run.{Ended}
 use Rattle.rules.specs.Stored.{block_count}

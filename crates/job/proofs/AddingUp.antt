@@ -1,9 +1,9 @@
 -- A loop that adds the files up. Assumes nothing.
-use mathlib.Core.Path.{◌≡◌, refl, sym, ap, ◌∙◌}
+use mathlib.Core.Path.{◌≡◌, sym, ap, ◌∙◌}
 use Prim.Native.Nat.{ℕ, suc, ◌+◌, ◌*◌, ◌≤◌, ◌<◌}
 use mathlib.Core.Bool.{Bool, not, ◌&&◌, ◌||◌}
 use native.Mathlib.Omega.{arith}
-use native.Mathlib.Nat.{max-le, mul-le-mul}
+use native.Mathlib.Nat.{max-le}
 use native.Mathlib.Numerals.{add-one}
 use lib.Dec.{eqb}
 use lib.ListN.{get_or}
@@ -15,10 +15,6 @@ use Rattle.rules.proofs.Readable.{not-not}
 use Rattle.job.specs.declared.figures.Totals.{Totals}
 use Rattle.job.specs.Totals.{totals_of, with_file, Within, Added}
 
--- a two-byte number times a total
-pub product : {b : ℕ} (x y : ℕ) → x ≤ 65535 → y ≤ b → x * y ≤ 65535 * b
-product x y h l = mul-le-mul h l
-
 same-totals : (t u : Totals) → t.weight ≡ u.weight → t.largest ≡ u.largest → t.size ≡ u.size → t.least ≡ u.least → t.most ≡ u.most → t.free ≡ u.free → t.unread ≡ u.unread → t ≡ u
 same-totals t u p q r l m s n = λ i. record { weight = p i; largest = q i; size = r i; least = l i; most = m i; free = s i; unread = n i }
 
@@ -27,11 +23,12 @@ pub record Walked (job : Job) (n i : ℕ) (t : Totals) : Type 0 where
   pub stop : i ≤ n
   pub added : Added job i t
 
-pub walked_none : (job : Job) (n : ℕ) → Walked job n 0 (record { weight = 0; largest = 0; size = 0; least = 0; most = 0; free = 0; unread = 0 })
-walked_none job n = record {
+pub walked_none : (job : Job) (n : ℕ) {t : Totals}
+    → (t.weight ≡ 0) × ((t.largest ≡ 0) × ((t.size ≡ 0) × ((t.least ≡ 0) × ((t.most ≡ 0) × ((t.free ≡ 0) × (t.unread ≡ 0)))))) → Walked job n 0 t
+walked_none job n {t} (w, (l, (s, (a, (b, (f, u)))))) = record {
   stop = omega arith;
   added = record {
-    is = unfold totals_of total count largest up_to in refl;
+    is = unfold totals_of total count largest up_to in same-totals t (totals_of job 0) w l s a b f u;
     within = record { weight = omega arith; largest = omega arith; size = omega arith; least = omega arith; most = omega arith; free = omega arith; unread = omega arith };
   };
 }

@@ -82,15 +82,15 @@ pub record RecipePassed (files : ℕ) (pins : List ℕ) (a e : ℕ) (table₀ ta
   pub length-stays : length table ≡ length table₀
 
 pub recipe-end : {files : ℕ} {pins : List ℕ} {a e : ℕ} {table₀ table : List ℕ} {k : ℕ} → RecipePassed files pins a e table₀ table k → e ≤ k
-    → (e ≡ lowest (onwards a (bad_from files pins a)) e) × Held files pins e table × (length table ≡ length table₀)
-recipe-end {e = e} {k = k} w h = let q : k ≡ e = omega (arith, w.search.passed.stop) in (onwards-end w.search h, rw (← q) w.held, w.length-stays)
+    → (e ≡ lowest (onwards a (bad_from files pins a)) e) × Held files pins e table
+recipe-end {e = e} {k = k} w h = let q : k ≡ e = omega (arith, w.search.passed.stop) in (onwards-end w.search h, rw (← q) w.held)
 
 module _ {files : ℕ} {pins : List ℕ} {a e : ℕ} {table₀ table : List ℕ} {k : ℕ} (w : RecipePassed files pins a e table₀ table k) (l : k < e) (f : ℕ) (p : f ≡ get_or pins k 0) {bad : Bool} (q : bad ≡ (leb files f || ltb a (get_or table f 0))) where
   there : bad ≡ bad_from files pins a k
   there = q ∙ held-bad w.held a f p
 
-  pub recipe-hit : bad ≡ true → (k ≡ lowest (onwards a (bad_from files pins a)) e) × Held files pins k table × (length table ≡ length table₀)
-  recipe-hit t = (onwards-hit w.search l (sym there ∙ t), w.held, w.length-stays)
+  pub recipe-hit : bad ≡ true → k ≡ lowest (onwards a (bad_from files pins a)) e
+  recipe-hit t = onwards-hit w.search l (sym there ∙ t)
 
   pub recipe-file : bad ≡ false → f < files
   recipe-file t = omega (arith, leb-false files f (or_no (leb files f) (ltb a (get_or table f 0)) (sym q ∙ t)).0)

@@ -14,7 +14,7 @@ use Rattle.rules.specs.Job.{Job, file_count, recipe_count, pin_count, bound, pin
 use Rattle.rules.specs.Check.{repeats_in, bad_pin}
 use Rattle.rules.proofs.Tests.{and-false}
 use Rattle.rules.proofs.Views.{bounds-rise}
-use Rattle.rules.proofs.Searches.{lowest-le, some_at, Passed, passed_none, passed-end}
+use Rattle.rules.proofs.Searches.{some_at, Passed, passed_none, passed-end}
 use Rattle.job.specs.Pins.{onwards, bad_from, Held}
 use Rattle.job.proofs.HoldsOf.{held-since, held_none}
 use Rattle.job.proofs.Search.{part_end, part-hit}
@@ -79,23 +79,21 @@ module _ {job : Job} {table₀ table : List ℕ} {j : ℕ} (x : PinsPassed job t
     pub pins-part : (a ≤ e) × (e ≤ pin_count job) × Held (file_count job) job.pins a table
     pins-part = (omega (arith, next, x.rising.two j h), omega (arith, next, x.rising.last, rising job x.rising (suc j) (recipe_count job) h (omega arith)), rw p x.held)
 
-    module _ (r : ℕ) (table' : List ℕ) (s : (r ≡ lowest (onwards a (bad_from (file_count job) job.pins a)) e) × Held (file_count job) job.pins r table' × (length table' ≡ length table)) where
+    module _ (r : ℕ) (s : r ≡ lowest (onwards a (bad_from (file_count job) job.pins a)) e) where
       agree : (k : ℕ) → bound job j ≤ k → k < e → bad_pin job k ≡ bad_from (file_count job) job.pins (bound job j) k
       agree k l g = bad-there job x.rising j k h l (omega (arith, next))
 
       found : r ≡ lowest (onwards (bound job j) (bad_from (file_count job) job.pins (bound job j))) e
-      found = s.0 ∙ ap (λ (i : ℕ). lowest (onwards i (bad_from (file_count job) job.pins i)) e) p
+      found = s ∙ ap (λ (i : ℕ). lowest (onwards i (bad_from (file_count job) job.pins i)) e) p
 
-      pub pins-hit : r < e → r ≡ lowest (bad_pin job) (pin_count job)
-      pins-hit = part-hit x.passed e r pins-part.1 agree found
+      pub pins-hit : r < e → (r < pin_count job) × (r ≡ lowest (bad_pin job) (pin_count job))
+      pins-hit l = (omega (arith, pins-part.1), part-hit x.passed e r pins-part.1 agree found l)
 
-      pub pins-more : e ≤ r → PinsPassed job table₀ table' (j + 1)
-      pins-more l =
-          let z : r ≡ e = omega (arith, s.0, lowest-le (onwards a (bad_from (file_count job) job.pins a)) e) in
-          record {
-            among = omega arith;
-            rising = x.rising;
-            passed = rw (← q) (part_end x.passed e r pins-part.1 agree found l);
-            held = rw (← q, ← z) s.1;
-            length-stays = s.2 ∙ x.length-stays;
-          }
+      pub pins-more : (table' : List ℕ) → r ≡ e → Held (file_count job) job.pins e table' → length table' ≡ length table → PinsPassed job table₀ table' (j + 1)
+      pins-more table' z held long = record {
+        among = omega arith;
+        rising = x.rising;
+        passed = rw (← q) (part_end x.passed e r pins-part.1 agree found (omega (arith, z)));
+        held = rw (← q) held;
+        length-stays = long ∙ x.length-stays;
+      }

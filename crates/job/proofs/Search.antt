@@ -5,10 +5,11 @@ use mathlib.Core.Bool.{Bool, true, false, ◌&&◌}
 use native.Mathlib.Decide.{dec_lt}
 use native.Mathlib.Omega.{arith}
 use borrow.Author.Tests.{le-leb, lt-leb}
+use Rattle.std.specs.Prelude.{Option, Some, None, MatchOption}
 use Rattle.rules.specs.Lists.{lowest}
 use Rattle.rules.proofs.Tests.{clash}
-use Rattle.rules.proofs.Searches.{lowest-le, lowest-passes, below-lowest, lowest-is, Passed, passed-more, passed-hit, passed-end}
-use Rattle.job.specs.Pins.{onwards}
+use Rattle.rules.proofs.Searches.{lowest-le, lowest-passes, below-lowest, lowest-is, lowest-none, Passed, passed-more, passed-hit, passed-end}
+use Rattle.job.specs.Pins.{onwards, IsFirst}
 
 pub onwards-below : (a : ℕ) (p : ℕ → Bool) (k : ℕ) → k < a → onwards a p k ≡ false
 onwards-below a p k l = ap (λ (b : Bool). b && p k) (lt-leb a k l)
@@ -54,3 +55,10 @@ module _ {p q : ℕ → Bool} {n i : ℕ} (x : Passed p n i) (m r : ℕ) (room :
       let hit : onwards i q r ≡ true = ap (onwards i q) e ∙ lowest-passes (onwards i q) m l' in
       let le : i ≤ r = elim (dec_lt r i) [ yes h ↦ clash (sym hit ∙ onwards-below i q r h) | no h ↦ omega arith ] in
       sym (lowest-is p n r (omega arith) (agree r le l ∙ sym (onwards-from i q r le) ∙ hit) miss-to)
+
+-- ---- a search by `find` over the numbers below n
+
+pub find-first : (p : ℕ → Bool) (n : ℕ) (r : Option ℕ)
+    → MatchOption r ((k : ℕ) → 0 ≤ k → k < n → p k ≡ false) (λ i. (0 ≤ i) × (i < n) × (p i ≡ true) × ((k : ℕ) → 0 ≤ k → k < i → p k ≡ false)) → IsFirst p n r
+find-first p n (Some i) (z, l, e, m) = (l, sym (lowest-is p n i l e (λ k h. m k (omega arith) h)))
+find-first p n None m = sym (lowest-none p n (λ k h. m k (omega arith) h))

@@ -3,17 +3,18 @@ use mathlib.Core.Path.{◌≡◌, sym, ap, ◌∙◌}
 use Prim.Native.Nat.{ℕ, ◌+◌, ◌≤◌, ◌<◌}
 use mathlib.Core.Bool.{Bool, not, ◌&&◌}
 use mathlib.Core.List.{List}
-use lib.Dec.{eqb}
+use lib.Dec.{eqb, ltb}
 use lib.ListN.{length, get_or}
 use Rattle.rules.specs.Lists.{bit}
-use Rattle.rules.specs.Job.{is_read}
-use Rattle.rules.specs.Split.{on_side, count_on}
+use Rattle.rules.specs.Job.{is_read, read_in}
+use Rattle.rules.specs.Split.{on_side, count_on, is_cut}
 use Rattle.rules.specs.Move.{locked_on}
 use Rattle.rules.proofs.Count.{bit_le, Summed, summed-none, summed-more, summed-entries}
-use Rattle.rules.proofs.Readable.{count-those}
+use Rattle.rules.proofs.Readable.{count-those, cut-read}
 use Rattle.job.specs.Parts.{of_marks}
 use Rattle.job.specs.declared.holds.Held.{Held}
-use Rattle.job.specs.Holds.{held_on, with_pin}
+use Rattle.job.specs.declared.holds.Vaults.{Vaults}
+use Rattle.job.specs.Holds.{held_on, tally_of, with_pin}
 
 module _ (sides marks recipe : List ℕ) (u : ℕ) where
   -- the file is on side u, and locked besides
@@ -32,8 +33,8 @@ module _ (sides marks recipe : List ℕ) (u : ℕ) where
     pub locked : Summed (λ i. bit (read stuck (get_or recipe i 0))) 1 (length recipe) k h.locked
 
 module _ {sides marks recipe : List ℕ} {u : ℕ} where
-  pub counted_none : Counted sides marks recipe u 0 (record { all = 0; locked = 0 })
-  counted_none = record { all = summed-none; locked = summed-none }
+  pub counted_none : {h : Held} → h.all ≡ 0 → h.locked ≡ 0 → Counted sides marks recipe u 0 h
+  counted_none a l = record { all = rw a summed-none; locked = rw l summed-none }
 
   pub counted-more : {k : ℕ} {h r : Held} → Counted sides marks recipe u k h → k < length recipe
       → r ≡ with_pin h (get_or marks (get_or recipe k 0) 0) (on_side sides u (get_or recipe k 0)) → Counted sides marks recipe u (k + 1) r
@@ -50,3 +51,8 @@ module _ {sides marks recipe : List ℕ} {u : ℕ} where
       let all = summed-entries _ recipe c.all l ∙ sym (count-those (there sides marks recipe u) (is_read (of_marks marks)) recipe) in
       let locked = summed-entries _ recipe c.locked l ∙ sym (count-those (stuck sides marks recipe u) (is_read (of_marks marks)) recipe) in
       λ i. record { all = all i; locked = locked i }
+
+-- whether a recipe is cut, by what the vaults hold of it
+pub cut_tally : (sides marks recipe : List ℕ) (t : Vaults) → t ≡ tally_of sides marks recipe → is_cut sides (read_in (of_marks marks) recipe) ≡ (ltb 0 t.a.all && ltb 0 t.b.all)
+unfolding is_cut
+cut_tally sides marks recipe t e = rw e (cut-read (of_marks marks) sides recipe)

@@ -3,3 +3,4 @@ pub mod Holds
 pub mod Pins
 pub mod Totals
 pub mod Survey
+pub mod Given

@@ -1,5 +1,16 @@
--- A search that begins late, and check 5 within one recipe. Assumes nothing.
-use Rattle.std.specs.Prelude.{ℕ, zero, suc, ◌≤◌, ◌<◌, ◌≡◌, Bool, cond, ◌&&◌, ◌||◌, List, length, get_or, leb, ltb, eqb}
+-- What a search finds, a search that begins late, and check 5 within one recipe. Assumes nothing.
+use Rattle.std.specs.Prelude.{ℕ, zero, suc, ◌≤◌, ◌<◌, ◌≡◌, Bool, cond, ◌&&◌, ◌||◌, List, length, get_or, leb, ltb, eqb, Option, Some, None}
+use Rattle.rules.specs.Lists.{lowest}
+
+-- what a search finds: the lowest number below n that passes the test, or none
+abbrev pub IsFirst : (ℕ → Bool) → ℕ → Option ℕ → Type 0
+IsFirst p n (Some i) = (i < n) × (i ≡ lowest p n)
+IsFirst p n None = n ≡ lowest p n
+
+-- what is found, or the end of the search
+abbrev pub or_end : Option ℕ → ℕ → ℕ
+or_end (Some i) n = i
+or_end None n = n
 
 -- the test, from a on
 abbrev pub onwards : ℕ → (ℕ → Bool) → ℕ → Bool

@@ -2,16 +2,16 @@
 ghost use Rattle.std.specs.Prelude.{◌≡◌, ◌<◌, ◌^◌};
 ghost use Rattle.job.specs.Holds.{with_pin, tally_of};
 
-use crate::numbers::{bit, entry_at, wide};
+use crate::numbers::{bit, entry_at};
 
 // The readable files in a vault, and those of them that are locked.
-#[derive(Clone, Copy)]
+#[derive(Clone, Copy, Default)]
 pub struct Held {
     pub all: usize,
     pub locked: usize,
 }
 
-#[derive(Clone, Copy)]
+#[derive(Clone, Copy, Default)]
 pub struct Vaults {
     pub a: Held,
     pub b: Held,
@@ -32,16 +32,13 @@ fn with_pin(held: Held, mark: u16, there: bool) -> Held
 pub fn tally(recipe: &[u16], sides: &[u16], marks: &[u16]) -> Vaults
     ensures { result ≡ tally_of sides.now marks.now recipe.now }
 {
-    let mut a = Held { all: 0, locked: 0 };
-    let mut b = Held { all: 0, locked: 0 };
-    let mut k = 0;
-    while k < recipe.len() {
-        let f = wide(recipe[k]);
+    let mut held = Vaults::default();
+    for pin in recipe {
+        let f = *pin as usize;
         let side = entry_at(sides, f);
         let mark = entry_at(marks, f);
-        a = with_pin(a, mark, side == 0);
-        b = with_pin(b, mark, side == 1);
-        k += 1;
+        held.a = with_pin(held.a, mark, side == 0);
+        held.b = with_pin(held.b, mark, side == 1);
     }
-    Vaults { a, b }
+    held
 }

@@ -1,28 +1,33 @@
 // The kind of job of document 01: its figures and limits, the view of a recipe, the check, the measure and the survey.
 #![tactic(auto)]
 
-mod bounds;
+mod book;
 mod figures;
 mod files;
 mod holds;
+mod lent;
 mod numbers;
 mod pins;
+mod placed;
 mod verdict;
+mod weighed;
 
-ghost use Rattle.std.specs.Prelude.{◌≡◌, true};
-ghost use Rattle.rules.specs.Job.{limits_of, view_of};
-ghost use Rattle.job.specs.Parts.{whole_job};
+ghost use Rattle.std.specs.Prelude.{◌≡◌, ◌≤◌};
+ghost use Rattle.rules.specs.Cases.{as_verdict, as_measure};
 ghost use Rattle.rules.specs.Check.{check_job, «measure»};
-ghost use Rattle.job.specs.Survey.{survey_of};
+ghost use Rattle.job.specs.Given.{the_limits, the_job};
+ghost use Rattle.job.specs.Survey.{survey_of, as_survey};
 
-pub use bounds::recipe_count;
-pub use figures::{Survey, count_on};
-use figures::{cut, holding, tolerance, totals_of};
+pub use book::{Book, Files, Recipes};
+pub use figures::{Surveyed, count_on};
+use figures::{cut, holding, totals_of};
 pub use holds::{Held, Vaults, tally};
-pub use numbers::{bit, entry_at, wide};
-use rules::{Measure, Verdict};
-use verdict::check_rest;
-pub use verdict::{bad_k, check_counts, check_sound, or_else, refuse_if};
+pub use lent::{Lent, Moves, Scans};
+pub use numbers::{bit, entry_at};
+use rules::{Measured, Refusal};
+use verdict::sound;
+pub use verdict::{bad_k, check_counts, check_sound, refuse_if};
+use weighed::Weighed;
 
 // What a job has besides its lists: the ratio num/den for A, the cap, and k of the tolerance.
 #[derive(Clone, Copy)]
@@ -51,118 +56,47 @@ impl Job {
     }
 }
 
-// Recipe j's own part of the pins, or an empty part.
-pub fn view<'a, 'b>(bounds: &'b [u16], pins: &'a [u16], j: usize) -> &'a [u16]
-    ensures { result.now ≡ view_of bounds.now pins.now j }
-{
-    if recipe_count(bounds) <= j {
-        return &pins[0..0];
-    }
-    let a = wide(bounds[j]);
-    let b = wide(bounds[j + 1]);
-    if b < a {
-        return &pins[0..0];
-    }
-    if pins.len() < b {
-        return &pins[0..0];
-    }
-    &pins[a..b]
-}
-
 // 1 to 10.
-pub fn check(
-    job: Job,
-    sizes: &[u16],
-    sides: &[u16],
-    marks: &[u16],
-    bounds: &[u16],
-    pins: &[u16],
-) -> Verdict
-    ensures { result ≡ check_job (limits_of Job.MOST_FILES Job.MOST_RECIPES Job.MOST_PINS Job.MOST_DEN) (whole_job job sizes.now sides.now marks.now bounds.now pins.now) }
+pub fn check(job: Job, book: Book, sides: &[u16]) -> Result<(), Refusal>
+    ensures { as_verdict result ≡ check_job the_limits (the_job job book.entry sides.now) }
 {
-    let v = check_sound(sizes, sides, marks, bounds, pins, true);
-    if v.number != 0 {
-        return v;
-    }
-    check_rest(job, totals_of(sizes, sides, marks), false)
+    Weighed::new(job, sound(book, sides, true)?).check_rest(false)
 }
 
 // 1 to 6, else the cut, |A| and what could not be read.
-pub fn measure(
-    job: Job,
-    sizes: &[u16],
-    sides: &[u16],
-    marks: &[u16],
-    bounds: &[u16],
-    pins: &[u16],
-) -> Measure
-    ensures { result ≡ «measure» (limits_of Job.MOST_FILES Job.MOST_RECIPES Job.MOST_PINS Job.MOST_DEN) (whole_job job sizes.now sides.now marks.now bounds.now pins.now) }
+pub fn measure(job: Job, book: Book, sides: &[u16]) -> Result<Measured, Refusal>
+    ensures { as_measure result ≡ «measure» the_limits (the_job job book.entry sides.now) }
 {
-    let verdict = check_sound(sizes, sides, marks, bounds, pins, true);
-    if verdict.number != 0 {
-        return Measure {
-            verdict,
-            cut: 0,
-            size: 0,
-            unread: 0,
-            holding: 0,
-        };
-    }
-    let t = totals_of(sizes, sides, marks);
-    Measure {
-        verdict,
-        cut: cut(sides, marks, bounds, pins),
+    let placed = sound(book, sides, true)?;
+    let t = totals_of(placed);
+    Ok(Measured {
+        cut: cut(placed),
         size: t.size,
         unread: t.unread,
-        holding: holding(t.unread, marks, bounds, pins),
-    }
+        holding: holding(book, t.unread),
+    })
 }
 
 // 1 to 10, where `lent` says that the lent lists have the right lengths and `balancing` whose 9 it is, and the figures that a pass, a run or the balancing starts from.
 pub fn survey(
     job: Job,
-    sizes: &[u16],
+    book: Book,
     sides: &[u16],
-    marks: &[u16],
-    bounds: &[u16],
-    pins: &[u16],
     lent: bool,
     balancing: bool,
-) -> Survey
-    ensures { result ≡ survey_of balancing (limits_of Job.MOST_FILES Job.MOST_RECIPES Job.MOST_PINS Job.MOST_DEN) (whole_job job sizes.now sides.now marks.now bounds.now pins.now) lent }
+) -> Result<Surveyed, Refusal>
+    ensures { as_survey result ≡ survey_of balancing the_limits (the_job job book.entry sides.now) lent }
 {
-    let v = check_sound(sizes, sides, marks, bounds, pins, lent);
-    if v.number != 0 {
-        return Survey {
-            verdict: v,
-            weight: 0,
-            tolerance: 0,
-            size: 0,
-            cut: 0,
-            unread: 0,
-            holding: 0,
-        };
-    }
-    let t = totals_of(sizes, sides, marks);
-    let verdict = check_rest(job, t, balancing);
-    if verdict.number != 0 {
-        return Survey {
-            verdict,
-            weight: 0,
-            tolerance: 0,
-            size: 0,
-            cut: 0,
-            unread: 0,
-            holding: 0,
-        };
-    }
-    Survey {
-        verdict,
+    let placed = sound(book, sides, lent)?;
+    let weighed = Weighed::new(job, placed);
+    weighed.check_rest(balancing)?;
+    let t = weighed.totals;
+    Ok(Surveyed {
         weight: t.weight,
-        tolerance: tolerance(job, t),
+        tolerance: weighed.tolerance(),
         size: t.size,
-        cut: cut(sides, marks, bounds, pins),
+        cut: cut(placed),
         unread: t.unread,
-        holding: holding(t.unread, marks, bounds, pins),
-    }
+        holding: holding(book, t.unread),
+    })
 }

@@ -5,206 +5,152 @@
 // The line of a list, as of a view: how many entries it has, then the entries.
 #![tactic(auto)]
 
-ghost use Rattle.std.specs.Prelude.{◌<◌};
-
-use rules::BalanceFigures;
+use frames::Numbers;
+use job::{Book, Files, Job, Recipes};
+use rules::{Balanced, Measured, Refusal, Verdict};
 use std::io;
 use std::io::{Read, Write};
 
 // Room for one number more than the longest list of a job may have.
-const MOST: usize = job::Job::MOST_PINS + 1;
+const MOST: usize = Job::MOST_PINS + 1;
 
 // Room for some numbers more than the largest job asks.
 const MOST_SCRATCH: usize = tables::MOST_NUMBERS + 16;
 
-// That it is small is what the sum of take_recipe needs.
-fn widened(x: u16) -> usize
-    ensures { result < 65536 }
-{
-    x as usize
-}
+// All other numbers of a refused answer are 0.
+const NOTHING_MEASURED: Measured = Measured {
+    cut: 0,
+    size: 0,
+    unread: 0,
+    holding: 0,
+};
+
+const NOTHING_BALANCED: Balanced = Balanced {
+    moves: 0,
+    cut: 0,
+    size: 0,
+    unread: 0,
+    holding: 0,
+};
 
 // ---- Writing
 
-fn word<W: Write>(out: &mut W, text: &[u8]) -> io::Result<()> {
-    out.write_all(text)
-}
-
-fn number<W: Write>(out: &mut W, n: usize) -> io::Result<()> {
-    write!(out, "{n}")
-}
-
-// A further number of a line.
-fn next<W: Write>(out: &mut W, n: usize) -> io::Result<()> {
-    word(out, b" ")?;
-    number(out, n)
-}
-
-fn entries<W: Write>(out: &mut W, list: &[u16]) -> io::Result<()> {
-    for x in list {
-        next(out, widened(*x))?;
-    }
-    Ok(())
-}
-
 fn show_list<W: Write>(out: &mut W, list: &[u16]) -> io::Result<()> {
-    number(out, list.len())?;
-    entries(out, list)?;
-    word(out, b"\n")
+    write!(out, "{}", list.len())?;
+    for x in list {
+        write!(out, " {x}")?;
+    }
+    out.write_all(b"\n")
+}
+
+// A refusal's number and place; of what is done 0 and 0.
+fn show_verdict<W: Write>(out: &mut W, refused: Option<Refusal>) -> io::Result<()> {
+    let v = match refused {
+        Some(refusal) => Verdict::from(refusal),
+        None => Verdict {
+            number: 0,
+            place: 0,
+        },
+    };
+    write!(out, "{} {}", v.number, v.place)
 }
 
 // ---- Asking
 
-fn show_answers<W: Write>(out: &mut W, v: rules::Verdict, m: rules::Measure) -> io::Result<()> {
-    number(out, v.number)?;
-    next(out, v.place)?;
-    let w = m.verdict;
-    next(out, w.number)?;
-    next(out, w.place)?;
-    next(out, m.cut)?;
-    next(out, m.size as usize)?;
-    next(out, m.unread)?;
-    next(out, m.holding)?;
-    word(out, b"\n")
+fn show_measure<W: Write>(out: &mut W, m: Measured) -> io::Result<()> {
+    writeln!(out, " {} {} {} {}", m.cut, m.size, m.unread, m.holding)
 }
 
-fn ask<W: Write>(
-    out: &mut W,
-    job: job::Job,
-    sizes: &[u16],
-    sides: &[u16],
-    marks: &[u16],
-    bounds: &[u16],
-    pins: &[u16],
-) -> io::Result<()> {
-    let v = job::check(job, sizes, sides, marks, bounds, pins);
-    let m = job::measure(job, sizes, sides, marks, bounds, pins);
-    show_answers(out, v, m)
+fn ask<W: Write>(out: &mut W, job: Job, book: Book, sides: &[u16]) -> io::Result<()> {
+    show_verdict(out, job::check(job, book, sides).err())?;
+    out.write_all(b" ")?;
+    let measured = job::measure(job, book, sides);
+    show_verdict(out, measured.err())?;
+    show_measure(out, measured.unwrap_or(NOTHING_MEASURED))
 }
 
-fn show_balancing<W: Write>(
-    out: &mut W,
-    r: BalanceFigures,
-    sides: &[u16],
-    scratch: &[u16],
-) -> io::Result<()> {
-    let v = r.verdict;
-    number(out, v.number)?;
-    next(out, v.place)?;
-    next(out, r.moves)?;
-    next(out, r.cut)?;
-    next(out, r.size as usize)?;
-    next(out, r.unread)?;
-    next(out, r.holding)?;
-    word(out, b"\n")?;
-    show_list(out, sides)?;
-    show_list(out, scratch)
+fn show_balanced<W: Write>(out: &mut W, b: Balanced) -> io::Result<()> {
+    writeln!(
+        out,
+        " {} {} {} {} {}",
+        b.moves, b.cut, b.size, b.unread, b.holding
+    )
 }
 
 fn balance<W: Write>(
     out: &mut W,
-    job: job::Job,
-    sizes: &[u16],
+    job: Job,
+    book: Book,
     sides: &mut [u16],
-    marks: &[u16],
-    bounds: &[u16],
-    pins: &[u16],
     scratch: &mut [u16],
 ) -> io::Result<()> {
-    let r = split::balance(job, sizes, sides, marks, bounds, pins, scratch);
-    show_balancing(out, r, sides, scratch)
+    let balanced = split::balance(job, book, sides, scratch);
+    show_verdict(out, balanced.err())?;
+    show_balanced(out, balanced.unwrap_or(NOTHING_BALANCED))?;
+    show_list(out, sides)?;
+    show_list(out, scratch)
 }
 
-fn take_job<R: Read>(reader: &mut R) -> io::Result<job::Job> {
-    let mut figures = [0u16; 4];
-    frames::take_numbers(reader, &mut figures)?;
-    Ok(job::Job::new(figures[0], figures[1], figures[2], figures[3]))
+fn take_job<R: Read>(reader: &mut R) -> io::Result<Job> {
+    let figures = Numbers::<4>::take(reader)?.list;
+    Ok(Job::new(figures[0], figures[1], figures[2], figures[3]))
 }
 
 fn show_job<R: Read, W: Write>(reader: &mut R, out: &mut W, balanced: bool) -> io::Result<()> {
     let job = take_job(reader)?;
-    let mut sizes = [0u16; MOST];
-    let s = frames::take_numbers(reader, &mut sizes)?;
-    let mut sides = [0u16; MOST];
-    let d = frames::take_numbers(reader, &mut sides)?;
-    let mut marks = [0u16; MOST];
-    let m = frames::take_numbers(reader, &mut marks)?;
-    let mut bounds = [0u16; MOST];
-    let b = frames::take_numbers(reader, &mut bounds)?;
-    let mut pins = [0u16; MOST];
-    let p = frames::take_numbers(reader, &mut pins)?;
-    if balanced {
-        let mut scratch = [0u16; MOST_SCRATCH];
-        let z = frames::take_numbers(reader, &mut scratch)?;
-        return balance(
-            out,
-            job,
-            &sizes[..s],
-            &mut sides[..d],
-            &marks[..m],
-            &bounds[..b],
-            &pins[..p],
-            &mut scratch[..z],
-        );
+    let sizes = Numbers::<MOST>::take(reader)?;
+    let mut sides = Numbers::<MOST>::take(reader)?;
+    let marks = Numbers::<MOST>::take(reader)?;
+    let bounds = Numbers::<MOST>::take(reader)?;
+    let pins = Numbers::<MOST>::take(reader)?;
+    let book = Book {
+        files: Files {
+            sizes: sizes.all(),
+            marks: marks.all(),
+        },
+        recipes: Recipes {
+            bounds: bounds.all(),
+            pins: pins.all(),
+        },
+    };
+    if !balanced {
+        return ask(out, job, book, sides.all());
     }
-    ask(
-        out,
-        job,
-        &sizes[..s],
-        &sides[..d],
-        &marks[..m],
-        &bounds[..b],
-        &pins[..p],
-    )
+    let mut scratch = Numbers::<MOST_SCRATCH>::take(reader)?;
+    let (d, z) = (sides.len, scratch.len);
+    balance(out, job, book, &mut sides.list[..d], &mut scratch.list[..z])
 }
 
 // A recipe's number may take all eight bytes.
 fn take_recipe<R: Read>(reader: &mut R) -> io::Result<usize> {
-    let mut j = [0u16; 4];
-    frames::take_numbers(reader, &mut j)?;
-    Ok(widened(j[0]) + 65536 * (widened(j[1]) + 65536 * (widened(j[2]) + 65536 * widened(j[3]))))
+    let j = Numbers::<4>::take(reader)?.list;
+    Ok(j[0] as usize + 65536 * (j[1] as usize + 65536 * (j[2] as usize + 65536 * (j[3] as usize))))
 }
 
 fn show_view<R: Read, W: Write>(reader: &mut R, out: &mut W) -> io::Result<()> {
     let j = take_recipe(reader)?;
-    let mut bounds = [0u16; MOST];
-    let b = frames::take_numbers(reader, &mut bounds)?;
-    let mut pins = [0u16; MOST];
-    let p = frames::take_numbers(reader, &mut pins)?;
-    let view = job::view(&bounds[..b], &pins[..p], j);
-    show_list(out, view)
+    let bounds = Numbers::<MOST>::take(reader)?;
+    let pins = Numbers::<MOST>::take(reader)?;
+    let recipes = Recipes {
+        bounds: bounds.all(),
+        pins: pins.all(),
+    };
+    show_list(out, recipes.view(j))
 }
 
-fn show_heading<R: Read, W: Write>(reader: &mut R, out: &mut W) -> io::Result<()> {
-    let mut text = [0u8; 255];
-    let got = frames::take(reader, &mut text)?;
-    word(out, &text[..got])?;
-    word(out, b"\n")
-}
-
-// Whether there was a case. Its first frame is a letter that says of which kind it is.
-fn show_case<R: Read, W: Write>(reader: &mut R, out: &mut W) -> io::Result<bool> {
-    let mut kind = [0u8; 1];
-    if frames::take(reader, &mut kind)? == 0 {
-        return Ok(false);
+fn show_case<R: Read, W: Write>(reader: &mut R, out: &mut W, kind: u8) -> io::Result<()> {
+    match kind {
+        b'j' => show_job(reader, out, false),
+        b'b' => show_job(reader, out, true),
+        b'v' => show_view(reader, out),
+        _ => frames::show_heading(reader, out),
     }
-    match kind[0] {
-        b'j' => show_job(reader, out, false)?,
-        b'b' => show_job(reader, out, true)?,
-        b'v' => show_view(reader, out)?,
-        _ => show_heading(reader, out)?,
-    }
-    Ok(true)
 }
 
-// A proved loop ends, so this one has more turns than there are cases.
 fn main(rt: HostRuntime) -> io::Result<()> {
-    let mut reader = rt.reader();
-    let mut out = io::writer(&rt);
-    for _ in 0..u16::MAX {
-        if !show_case(&mut reader, &mut out)? {
-            break;
-        }
-    }
-    Ok(())
+    frames::show_each(
+        &mut rt.reader(),
+        &mut io::writer(&rt),
+        |reader, out, kind| { show_case(reader, out, kind) },
+    )
 }

@@ -1,6 +1,10 @@
 -- The promise of each public call settles what it returns: any two results that meet it, of the same arguments, are equal.
 -- The promises cited are those that the check reads from the contracts in src/. Assumes nothing.
-use Prim.Native.Nat.{ℕ}
+use Rattle.std.proofs.Common.{◌≡◌, ℕ, cond, eqb, refl}
+use Rattle.layout.specs.declared.kinds.Kind.{Kind}
+use Rattle.layout.specs.declared.kinds.Kind.TheVariants.{Header, Files, Bounds, Pins}
+use Rattle.layout.specs.Kinds.{kind_number}
+use Rattle.rules.proofs.CasesOne.{undone}
 use Rattle.rules.proofs.Settling.{Settles, both}
 use Rattle.layout.proofs.block.check_of.Kinds as check-of-kinds
 use Rattle.layout.proofs.block.check_of.Reads as check-of
@@ -46,8 +50,18 @@ pins-at-settled κs a x y e f p q = both p q
 pub block-count-settled : Settles 0 block-count-kinds.ps block-count-kinds.r ℕ (λ κs x _. x) block-count.Post
 block-count-settled κs a x y e f p q = both p q
 
-pub kind-of-settled : Settles 0 kind-of-kinds.ps kind-of-kinds.r ℕ (λ κs x _. x) kind-of.Post
-kind-of-settled κs a x y e f p q = both p q
+-- the number of a kind tells the kind
+abbrev kind_of_number : ℕ → Kind
+kind_of_number n = cond (eqb n 1) Header (cond (eqb n 2) Files (cond (eqb n 3) Bounds Pins))
+
+kind-back : (k : Kind) → kind_of_number (kind_number k) ≡ k
+kind-back Header = refl
+kind-back Files = refl
+kind-back Bounds = refl
+kind-back Pins = refl
+
+pub kind-of-settled : Settles 0 kind-of-kinds.ps kind-of-kinds.r Kind (λ κs x _. x) kind-of.Post
+kind-of-settled κs a x y e f p q = undone kind_number kind_of_number kind-back x y (both p q)
 
 pub held-in-settled : Settles 0 held-in-kinds.ps held-in-kinds.r ℕ (λ κs x _. x) held_in.Post
 held-in-settled κs a x y e f p q = both p q

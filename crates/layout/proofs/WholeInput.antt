@@ -1,14 +1,13 @@
 -- No stored job is as long as the input that the programs take up. Assumes nothing.
-use Prim.Native.Nat.{ℕ, ◌<◌}
-use native.Mathlib.Omega.{arith}
-use Rattle.rules.specs.Job.{Limits, limits_of}
+use Rattle.std.proofs.Common.{ℕ, ◌<◌, arith}
+use Rattle.rules.specs.Job.{Limits}
 use Rattle.rules.specs.Theorems.{most_bytes}
 use Rattle.layout.specs.declared.kinds.TheConstants.{INPUT_BYTES}
-use Rattle.job.specs.declared.TheConstants.Job.{MOST_FILES, MOST_RECIPES, MOST_PINS, MOST_DEN}
+use Rattle.job.specs.Given.{the_limits}
 
 -- the job's own limits and the input's bytes, as the code has them
 abbrev pub most : Limits
-most = limits_of MOST_FILES MOST_RECIPES MOST_PINS MOST_DEN
+most = the_limits
 
 abbrev pub input_bytes : ℕ
 input_bytes = INPUT_BYTES

@@ -1,24 +1,6 @@
 // A block of 512 bytes: its check and its values.
-ghost use Rattle.std.specs.Prelude.{◌≡◌, ◌<◌, get_or};
+ghost use Rattle.std.specs.Prelude.{◌≡◌};
 ghost use Rattle.rules.specs.Stored.{block_check, word, value_in};
-
-use job::wide;
-
-pub(crate) fn byte(x: u8) -> usize
-    ensures { (result ≡ x) × (result < 256) }
-{
-    x as usize
-}
-
-// Byte i, 0 where there is none.
-fn byte_at(bytes: &[u8], i: usize) -> usize
-    ensures { (result ≡ get_or bytes.now i 0) × (result < 256) }
-{
-    if bytes.len() <= i {
-        return 0;
-    }
-    byte(bytes[i])
-}
 
 // The check over the first 510 bytes by running sums, from the last byte back: byte i is in i + 1 of them.
 pub fn check_of(block: &[u8; 512]) -> u16
@@ -26,22 +8,21 @@ pub fn check_of(block: &[u8; 512]) -> u16
 {
     let mut tail: usize = 0;
     let mut sum: usize = 21845;
-    let mut i: usize = 510;
-    while 0 < i {
-        i -= 1;
-        tail += byte(block[i]);
+    for i in (0..510).rev() {
+        tail += block[i] as usize;
         sum += tail;
     }
     (sum % 65536) as u16
 }
 
-// Two bytes, low byte first.
+// Two bytes, low byte first; a byte past the block reads as 0.
 pub fn word_at(block: &[u8; 512], i: u16) -> u16
     ensures { result ≡ word block.now i }
 {
-    let low = byte_at(block, wide(i));
-    let high = byte_at(block, wide(i) + 1);
-    (low + 256 * high) as u16
+    let at = i as usize;
+    let low = block.get(at).copied().unwrap_or(0);
+    let high = block.get(at + 1).copied().unwrap_or(0);
+    u16::from_le_bytes([low, high])
 }
 
 // Value v, as many as a byte can count.

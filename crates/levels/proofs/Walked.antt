@@ -1,60 +1,37 @@
 -- Binding numbers by the code's tests, the walk over a file's recipes, and two vectors place by place. Assumes nothing.
+use Rattle.std.specs.Prelude.{Option as Option', Some}
+use Rattle.std.specs.declared.cmp.Ordering.{Ordering}
+use Rattle.std.specs.declared.cmp.Ordering.TheVariants.{Less, Equal, Greater}
+use Rattle.std.specs.Ordering.{int_cmp, is_gt, is_some_and, partial_gt, partial_ordering_then}
+use Rattle.std.specs.Cmp.Lexicographic.{slice_partial_cmp}
+use Rattle.choice.proofs.StandsAt.{greater-not-less}
 use mathlib.Core.Path.{◌≡◌, refl, sym, ap, ap₂, ◌∙◌}
 use Prim.Native.Nat.{ℕ, zero, suc, ◌+◌, ◌-◌, ◌*◌, ◌≤◌, ◌<◌}
 use mathlib.Core.Bool.{Bool, true, false, not, cond, ◌&&◌, ◌||◌}
 use mathlib.Core.List.{List, [], ◌∷◌}
-use native.Mathlib.Nat.{add-zero, zero-add}
+use native.Mathlib.Nat.{add-zero}
 use native.Mathlib.Omega.{arith}
-use lib.Dec.{leb, ltb, eqb}
+use lib.Dec.{leb, ltb}
 use lib.ListN.{length, get_or, take, drop, length-take, length-drop, get_or-eq_default}
 use lib.Seq.{take-take, drop-drop}
 use lib.IntN.{ℤ, pos}
 use lib.Signed.{lt_z}
-use borrow.Author.Tests.{ne_eqb, lt-ltb}
 use Rattle.rules.specs.Lists.{bit, diff}
 use Rattle.rules.specs.Job.{view_of}
-use Rattle.rules.specs.Levels.{counted, unlimited, is_number, above_zero, binding_of, greater_vector}
+use Rattle.rules.specs.Levels.{Binding, adds, takes, greater_vector}
 use Rattle.rules.proofs.Count.{is0, Summed, summed-none, summed-bit, summed-entries}
-use Rattle.rules.proofs.Tests.{and-false}
 use Rattle.rules.specs.Split.{side_of}
 use Rattle.tables.specs.declared.zones.Zones.{Zones}
 use Rattle.tables.specs.Zones.{cells_at, starts_at, counts_at, side_at, zones_of, part}
-use Rattle.tables.proofs.Parts.{part-entry, front-part}
-use Rattle.levels.specs.Vectors.{Counts, counts_for, own_at, there_at, adds_at, takes_at, level_by, vector_by, vector_in}
-use Rattle.levels.specs.Numbers.{number_of, number_in, binds_in, counts_from}
+use Rattle.tables.proofs.Parts.{front-part}
+use Rattle.levels.specs.Vectors.{Counts, counts_for, adds_at, takes_at, level_by, vector_by, vector_in}
+use Rattle.levels.specs.Numbers.{number_in, counts_from}
 
--- ---- binding numbers
-
-number-test : (on locked i : ℕ) → i < 65535 → eqb (number_of on locked) i ≡ is_number i (binding_of on locked)
-number-test on locked i h = go (eqb locked 0)
-  where
-    go : (b : Bool) → eqb (cond b on 65535) i ≡ is_number i (cond b (counted on) unlimited)
-    go true = refl
-    go false = ne_eqb 65535 i (λ e. omega arith)
-
-above-test : (on locked : ℕ) → ltb 0 (number_of on locked) ≡ above_zero (binding_of on locked)
-above-test on locked = go (eqb locked 0)
-  where
-    go : (b : Bool) → ltb 0 (cond b on 65535) ≡ above_zero (cond b (counted on) unlimited)
-    go true = refl
-    go false = lt-ltb 0 65535 (omega arith)
-
-and-swap : (a b : Bool) → (a && b) ≡ (b && a)
-and-swap true true = refl
-and-swap true false = refl
-and-swap false true = refl
-and-swap false false = refl
+-- ---- a recipe's number
 
 -- a part has nothing beyond it
 pub part-beyond : (a k : ℕ) (xs : List ℕ) (i : ℕ) → k ≤ i → get_or (part a k xs) i 0 ≡ 0
 part-beyond a k xs i h = get_or-eq_default (part a k xs) 0 (omega (arith, length-take k (drop a xs)))
-
-module _ (side : List ℕ) (n j : ℕ) where
-  pub number-none : n ≤ j → 0 ≡ number_in side n j
-  number-none h = rw (part-beyond 0 n side j h, part-beyond (2 * n) n side j h) refl
-
-  pub number-some : j < n → number_of (get_or side j 0) (get_or side (2 * n + j) 0) ≡ number_in side n j
-  number-some h = ap₂ number_of (ap (λ (i : ℕ). get_or side i 0) (sym (zero-add j)) ∙ sym (part-entry 0 n side j h)) (sym (part-entry (2 * n) n side j h))
 
 -- ---- the walk over a file's recipes
 
@@ -76,35 +53,13 @@ module _ {c : Counts} {i : ℕ} {js : List ℕ} {k up down : ℕ} (s : Leveled c
   leveled-all h = ap₂ diff (summed-entries (adds_at c i) js s.adds h) (summed-entries (takes_at c i) js s.takes h)
 
 -- one recipe, by the numbers that the code has of it
-module _ (own other : List ℕ) (n i j : ℕ) (few : i < 65535) where
-  abbrev mine : ℕ
-  mine = number_in own n j
-
-  abbrev theirs : ℕ
-  theirs = number_in other n j
-
-  abbrev c : Counts
-  c = counts_from own other n
-
-  adds-is : binds_in mine theirs i ≡ bit (adds_at c i j)
-  adds-is = ap bit (ap₂ ◌&&◌ (number-test (get_or c.own j 0) (get_or c.held j 0) i few) (above-test (get_or c.there j 0) (get_or c.kept j 0)))
-
-  takes-is : binds_in theirs mine (i - 1) ≡ bit (takes_at c i j)
-  takes-is =
-      ap bit
-      (ap₂ ◌&&◌ (number-test (get_or c.there j 0) (get_or c.kept j 0) (i - 1) (omega arith)) (above-test (get_or c.own j 0) (get_or c.held j 0))
-      ∙ and-swap (is_number (i - 1) (there_at c j)) (above_zero (own_at c j)))
-
-pub leveled-more : (own other : List ℕ) (n : ℕ) {js : List ℕ} {i k up down j x y a b : ℕ} → i < 65535 → Leveled (counts_from own other n) i js k up down
-    → k < length js → j ≡ get_or js k 0 → x ≡ number_in own n j → y ≡ number_in other n j → a ≡ binds_in x y i → b ≡ binds_in y x (i - 1)
-    → Leveled (counts_from own other n) i js (k + 1) (up + a) (down + b)
-leveled-more own other n {js} {i} {k} few s h e p q u v =
-    let g : ℕ = get_or js k 0 in
-    let x = p ∙ ap (number_in own n) e in
-    let y = q ∙ ap (number_in other n) e in
+pub leveled-more : (own other : List ℕ) (n : ℕ) {js : List ℕ} {i k up down j a b : ℕ} {x y : Binding} → Leveled (counts_from own other n) i js k up down
+    → k < length js → j ≡ get_or js k 0 → x ≡ number_in own n j → y ≡ number_in other n j → a ≡ up + bit (adds i x y) → b ≡ down + bit (takes i x y)
+    → Leveled (counts_from own other n) i js (k + 1) a b
+leveled-more own other n {js} {i} {k} s h e p q u v =
     record {
-      adds = summed-bit (λ m. adds_at (counts_from own other n) i (get_or js m 0)) s.adds h (u ∙ ap₂ (λ (l r : ℕ). binds_in l r i) x y ∙ adds-is own other n i g few);
-      takes = summed-bit (λ m. takes_at (counts_from own other n) i (get_or js m 0)) s.takes h (v ∙ ap₂ (λ (l r : ℕ). binds_in l r (i - 1)) y x ∙ takes-is own other n i g few);
+      adds = rw u (summed-bit (λ m. adds_at (counts_from own other n) i (get_or js m 0)) s.adds h (rw (p, q, e) refl));
+      takes = rw v (summed-bit (λ m. takes_at (counts_from own other n) i (get_or js m 0)) s.takes h (rw (p, q, e) refl));
     }
 
 -- ---- where they stand
@@ -161,22 +116,23 @@ module _ (c n p : ℕ) (sides : List ℕ) (gains : List ℤ) (z : List ℕ) (f :
 
 -- ---- place by place
 
-or-false : (b : Bool) → (b || false) ≡ b
-or-false true = refl
-or-false false = refl
+-- as arrays are compared, the first place where they differ decides
+abbrev ordered : ℤ → ℤ → Option' Ordering
+ordered x y = Some (int_cmp x y)
 
-pub greater-three : (a b : List ℤ) → length a ≡ 3 → length b ≡ 3
-    → (lt_z (get_or b 0 (pos 0)) (get_or a 0 (pos 0))
-    || (not (lt_z (get_or a 0 (pos 0)) (get_or b 0 (pos 0)))
-    && (lt_z (get_or b 1 (pos 0)) (get_or a 1 (pos 0)) || (not (lt_z (get_or a 1 (pos 0)) (get_or b 1 (pos 0))) && lt_z (get_or b 2 (pos 0)) (get_or a 2 (pos 0))))))
-    ≡ greater_vector a b
+pub greater-lists : (a b : List ℤ) → length a ≡ length b → partial_gt (slice_partial_cmp ordered) a b ≡ greater_vector a b
 unfolding greater_vector
-greater-three (x ∷ y ∷ z ∷ []) (u ∷ v ∷ w ∷ []) h k = simp (and-false, or-false)
-greater-three (x ∷ y ∷ z ∷ []) (u ∷ v ∷ w ∷ t ∷ b) h k = absurd (omega arith)
-greater-three (x ∷ y ∷ z ∷ []) (u ∷ v ∷ []) h k = absurd (omega arith)
-greater-three (x ∷ y ∷ z ∷ []) (u ∷ []) h k = absurd (omega arith)
-greater-three (x ∷ y ∷ z ∷ []) [] h k = absurd (omega arith)
-greater-three (x ∷ y ∷ z ∷ s ∷ a) b h k = absurd (omega arith)
-greater-three (x ∷ y ∷ []) b h k = absurd (omega arith)
-greater-three (x ∷ []) b h k = absurd (omega arith)
-greater-three [] b h k = absurd (omega arith)
+greater-lists [] [] h = refl
+greater-lists [] (y ∷ b) h = absurd (omega arith)
+greater-lists (x ∷ a) [] h = absurd (omega arith)
+greater-lists (x ∷ a) (y ∷ b) h = go (lt_z x y) (lt_z y x) (greater-not-less x y) (greater-lists a b (omega arith))
+  where
+    rest : Option' Ordering
+    rest = slice_partial_cmp ordered a b
+
+    go : (s t : Bool) → (s ≡ true → t ≡ false) → is_some_and is_gt rest ≡ greater_vector a b
+        → is_some_and is_gt (partial_ordering_then (Some (cond s Less (cond t Greater Equal))) rest) ≡ (t || (not s && greater_vector a b))
+    go true true f ih = sym (f refl)
+    go true false f ih = refl
+    go false true f ih = refl
+    go false false f ih = ih

@@ -1,15 +1,17 @@
 // Edition 3: the legal move of greatest vector, then of least distance, then of lowest number, by one walk over the files.
-ghost use Rattle.std.specs.Prelude.{◌≡◌, true, ◌≤◌, length, take};
-ghost use Rattle.levels.specs.Vectors.{chosen_vector, fit_vectors, vector_choice};
-ghost use Rattle.levels.specs.Leading.{goes_first, leads, NextRival, led_of, best_by};
+ghost use Rattle.std.specs.Prelude.{◌≡◌, true, ◌≤◌, ◌<◌, FitsSigned, IfSome, length, get_or, pos};
+ghost use Rattle.std.specs.Int.{w32};
+ghost use Rattle.choice.specs.Cases.{as_best};
+ghost use Rattle.choice.specs.Reaching.{ListsFit};
+ghost use Rattle.levels.specs.Vectors.{vector_choice};
+ghost use Rattle.levels.specs.Leading.{goes_first, leads, least_of, rival_in, NextRival, led_in, fits_in, best_by};
 
 use super::order::is_greater;
 use super::vector::vector_of;
-use choice::{Best, Window, dist_after};
-use job::wide;
-use tables::{Extent, zones_of};
+use choice::{Best, Standing, Window};
+use tables::Extent;
 
-// The best legal move so far: none where the file is the number of files.
+// A legal move: the file, its vector, and the distance after it.
 #[derive(Clone, Copy)]
 pub(crate) struct Led {
     pub(crate) file: usize,
@@ -17,7 +19,7 @@ pub(crate) struct Led {
     pub(crate) dist: u64,
 }
 
-// A file that may go before the best so far, and its distance; none where the file is the number of files.
+// A file that may go before the best so far, and its distance.
 #[derive(Clone, Copy)]
 pub(crate) struct Rival {
     pub(crate) file: usize,
@@ -25,121 +27,123 @@ pub(crate) struct Rival {
 }
 
 // The least gain that there can be: while there is no best, no gain is below it.
-const LEAST_GAIN: i32 = -2147483648;
+const LEAST_GAIN: i32 = i32::MIN;
 
-// Whether a rival goes before the best so far, which is of lower number, or there is none yet.
-fn goes_first(rival: Led, led: Led, files: usize) -> bool
-    ensures { result ≡ goes_first rival led files }
+// Whether a rival goes before the best so far, which is of lower number.
+fn goes_first(rival: Led, led: Led) -> bool
+    ensures { result ≡ goes_first rival led }
 {
-    let own = rival.vector;
-    let best = led.vector;
-    let greater = is_greater(own, best);
-    let less = is_greater(best, own);
-    (led.file == files) | (greater | (!less & (rival.dist < led.dist)))
+    is_greater(rival.vector, led.vector)
+        || (!is_greater(led.vector, rival.vector) && rival.dist < led.dist)
 }
 
 // The best so far, against a rival.
-fn challenge(rival: Led, led: Led, files: usize) -> Led
-    ensures { result ≡ leads rival led files }
+fn challenge(rival: Led, led: Option<Led>) -> Led
+    ensures { result ≡ leads rival led }
 {
-    if goes_first(rival, led, files) {
-        return rival;
+    match led {
+        Some(led) if !goes_first(rival, led) => led,
+        _ => rival,
     }
-    led
 }
 
-// The first file from this one on that is free, whose gain is no less than this and whose move is legal. One of less gain than the best cannot go first,
-// so no vector is made of it.
+// The least gain of a file that may go before the best so far.
+fn least_of(led: Option<Led>) -> i32
+    ensures { result ≡ least_of led }
+{
+    match led {
+        Some(led) => led.vector[0],
+        None => LEAST_GAIN,
+    }
+}
+
+// File f as a rival: it is free, its gain is no less than this, and its move is legal. It takes what `choose_vector` takes, as in edition 1.
+fn rival_at(
+    window: Window,
+    size: u32,
+    least: i32,
+    standing: Standing,
+    scratch: &[u16],
+    f: usize,
+) -> Option<Rival>
+    requires lists_fit { ListsFit standing scratch.now }
+    requires file_in_bounds { f < length standing.sizes.now }
+    ensures value { result ≡ rival_in window size least standing.entry scratch.now f }
+    ensures gain_fits { FitsSigned w32 (get_or standing.entry.gains.now f (pos 0)) }
+{
+    let gain = standing.gains[f];
+    if scratch[f] != 0 || gain < least {
+        return None;
+    }
+    let dist = window.dist_after(size, standing.sides[f], standing.sizes[f]);
+    (dist <= window.span).then_some(Rival { file: f, dist })
+}
+
+// The first rival from this file on. One of less gain than the best cannot go first, so no vector is made of it.
 fn next_rival(
     window: Window,
     size: u32,
     least: i32,
-    sizes: &[u16],
-    sides: &[u16],
-    gains: &[i32],
+    standing: Standing,
     scratch: &[u16],
     from: usize,
-) -> Rival
-    requires sides_len { (length sides.now ≡ length sizes.now) × (length gains.now ≡ length sizes.now) × (length sizes.now ≤ length scratch.now) }
-    requires from_in_bounds { from ≤ length sizes.now }
-    ensures { NextRival window size least sizes.now sides.now gains.now (take (length sizes.now) scratch.now) from result }
+) -> Option<Rival>
+    requires lists_fit { ListsFit standing scratch.now }
+    requires from_in_bounds { from ≤ length standing.sizes.now }
+    ensures { NextRival window size least standing.entry scratch.now from result }
 {
-    let mut f = from;
-    while f < sizes.len() {
-        if (scratch[f] == 0) & (least <= gains[f]) {
-            let dist = dist_after(window, size, sides[f], sizes[f]);
-            if dist <= window.span {
-                return Rival { file: f, dist };
-            }
-        }
-        f += 1;
-    }
-    Rival { file: f, dist: 0 }
+    (from..standing.sizes.len()).find_map(|f| rival_at(window, size, least, standing, scratch, f))
 }
 
 // Whether the lists are those of a pass of this extent.
-fn fit(extent: Extent, sizes: usize, sides: usize, gains: usize, scratch: usize) -> bool
-    ensures { result ≡ fit_vectors extent.files extent.recipes extent.pins sizes sides gains scratch }
+fn fit(extent: Extent, standing: Standing, scratch: usize) -> bool
+    ensures { result ≡ fits_in extent standing.entry scratch }
 {
-    let zones = zones_of(extent);
+    let zones = extent.zones();
     let files = zones.cells;
-    let end = zones.counts + 4 * wide(extent.recipes);
-    (sizes == files) & (sides == files) & ((gains == files) & (files <= scratch)) & (end <= scratch)
+    let end = zones.counts + 4 * usize::from(extent.recipes);
+    standing.sizes.len() == files
+        && standing.sides.len() == files
+        && (standing.gains.len() == files && files <= scratch)
+        && end <= scratch
 }
 
 // The best legal move, of lists that fit.
 fn first_of(
     window: Window,
     size: u32,
-    sizes: &[u16],
-    sides: &[u16],
-    gains: &[i32],
+    standing: Standing,
     scratch: &[u16],
     extent: Extent,
-) -> Led
-    requires { fit_vectors extent.files extent.recipes extent.pins (length sizes.now) (length sides.now) (length gains.now) (length scratch.now) ≡ true }
-    ensures { result ≡ led_of extent.files extent.recipes extent.pins window size sizes.now sides.now gains.now scratch.now (chosen_vector extent.files extent.recipes extent.pins window size sizes.now sides.now gains.now scratch.now extent.files) }
+) -> Option<Led>
+    requires { fits_in extent standing (length scratch.now) ≡ true }
+    ensures { result ≡ led_in extent window size standing.entry scratch.now }
 {
-    let files = sizes.len();
-    let mut led = Led {
-        file: files,
-        vector: [LEAST_GAIN, 0, 0],
-        dist: 0,
-    };
-    let mut f = 0;
-    loop {
-        let best = led.vector;
-        let next = next_rival(window, size, best[0], sizes, sides, gains, scratch, f);
-        if files <= next.file {
-            return led;
-        }
-        let vector = vector_of(sides, gains, scratch, extent, next.file);
-        let rival = Led {
-            file: next.file,
-            vector,
-            dist: next.dist,
+    let mut led = None;
+    let mut from = 0;
+    // No walk by an index: each turn goes on behind the rival found.
+    while let Some(rival) = next_rival(window, size, least_of(led), standing, scratch, from) {
+        let rival_led = Led {
+            file: rival.file,
+            vector: vector_of(standing, scratch, extent, rival.file),
+            dist: rival.dist,
         };
-        led = challenge(rival, led, files);
-        f = next.file + 1;
+        led = Some(challenge(rival_led, led));
+        from = rival.file + 1;
     }
+    led
 }
 
 // What is answered of it: its gain is its level 1.
-fn best_of(led: Led, files: usize) -> Best
-    ensures { result ≡ best_by led files }
-{
-    if led.file == files {
-        return Best {
-            file: files,
-            gain: 0,
-            dist: 0,
-        };
-    }
-    let vector = led.vector;
-    Best {
-        file: led.file,
-        gain: vector[0],
-        dist: led.dist,
+impl From<Led> for Best {
+    ghost from_gives = { λ led best. best ≡ best_by led };
+
+    fn from(led: Led) -> Best {
+        Best {
+            file: led.file,
+            gain: led.vector[0],
+            dist: led.dist,
+        }
     }
 }
 
@@ -147,24 +151,15 @@ fn best_of(led: Led, files: usize) -> Best
 pub fn choose_vector(
     window: Window,
     size: u32,
-    sizes: &[u16],
-    sides: &[u16],
-    gains: &[i32],
+    standing: Standing,
     scratch: &[u16],
     extent: Extent,
-) -> Best
-    ensures { result ≡ vector_choice extent.files extent.recipes extent.pins window size sizes.now sides.now gains.now scratch.now }
+) -> Option<Best>
+    ensures value { as_best (length standing.entry.sizes.now) result ≡ vector_choice extent.files extent.recipes extent.pins window size standing.entry.sizes.now standing.entry.sides.now standing.entry.gains.now scratch.now }
+    ensures file { IfSome result (λ best. best.file < length standing.entry.sizes.now) }
 {
-    let files = sizes.len();
-    if !fit(extent, files, sides.len(), gains.len(), scratch.len()) {
-        return Best {
-            file: files,
-            gain: 0,
-            dist: 0,
-        };
+    if !fit(extent, standing, scratch.len()) {
+        return None;
     }
-    best_of(
-        first_of(window, size, sizes, sides, gains, scratch, extent),
-        files,
-    )
+    first_of(window, size, standing, scratch, extent).map(Best::from)
 }

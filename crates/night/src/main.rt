@@ -7,6 +7,6 @@ fn main(rt: HostRuntime) -> io::Result<()> {
     let mut input = [0u8; layout::INPUT_BYTES];
     let got = blocks::take(&rt, &mut input, layout::input_bytes())?;
     let mut text = [0u8; teller::TEXT_BYTES];
-    let printed = teller::night(1, &input[..got], &mut text);
-    rt.write_all(&text[..printed.bytes])
+    let bytes = teller::night(1, &input[..got], &mut text).unwrap();
+    rt.write_all(&text[..bytes])
 }

@@ -7,8 +7,9 @@
 
 ghost use Rattle.std.specs.Prelude.{◌≤◌, ◌<◌, length};
 
-use job::Job;
-use rules::{Figures, RunFigures};
+use frames::Numbers;
+use job::{Book, Files, Job, Lent, Moves, Recipes, Scans};
+use rules::{Passed, Ran, Refusal, Verdict};
 use std::io;
 use std::io::{Read, Write};
 
@@ -22,256 +23,172 @@ const MOST_SCANS: usize = tables::MOST_SCANS + 16;
 
 const MOST_SCRATCH: usize = tables::MOST_NUMBERS + 16;
 
+// All other numbers of a refused answer are 0.
+const NO_PASS: Passed = Passed {
+    before: 0,
+    cut: 0,
+    size: 0,
+    tried: 0,
+    kept: 0,
+    scans: 0,
+    visits: 0,
+    unread: 0,
+    holding: 0,
+};
+
+// What a case asks for.
+#[derive(Clone, Copy, PartialEq, Eq)]
+enum Asked {
+    Pass,
+    Run,
+    RunInShort,
+}
+
 // ---- Writing
 
-fn word<W: Write>(out: &mut W, text: &[u8]) -> io::Result<()> {
-    out.write_all(text)
-}
-
-fn number<W: Write>(out: &mut W, n: u64) -> io::Result<()> {
-    write!(out, "{n}")
-}
-
-// A further number of a line.
-fn next<W: Write>(out: &mut W, n: u64) -> io::Result<()> {
-    word(out, b" ")?;
-    number(out, n)
-}
-
-fn next_entry<W: Write>(out: &mut W, x: u16) -> io::Result<()> {
-    next(out, x as u64)
-}
-
-fn entries<W: Write>(out: &mut W, list: &[u16]) -> io::Result<()> {
-    for x in list {
-        next_entry(out, *x)?;
-    }
-    Ok(())
-}
-
+// How many entries, then the entries.
 fn show_list<W: Write>(out: &mut W, list: &[u16]) -> io::Result<()> {
-    number(out, list.len() as u64)?;
-    entries(out, list)?;
-    word(out, b"\n")
-}
-
-// At eight bytes, where the least gain has its opposite too.
-fn magnitude(gain: i32) -> u64 {
-    let wide = gain as i64;
-    if wide < 0 {
-        let above = 0 - wide;
-        return above as u64;
-    }
-    wide as u64
-}
-
-fn next_gain<W: Write>(out: &mut W, gain: i32) -> io::Result<()> {
-    if gain < 0 {
-        word(out, b" -")?;
-    } else {
-        word(out, b" ")?;
-    }
-    number(out, magnitude(gain))
-}
-
-fn gain_entries<W: Write>(out: &mut W, list: &[i32]) -> io::Result<()> {
+    write!(out, "{}", list.len())?;
     for x in list {
-        next_gain(out, *x)?;
+        write!(out, " {x}")?;
     }
-    Ok(())
+    out.write_all(b"\n")
 }
 
 fn show_gains<W: Write>(out: &mut W, list: &[i32]) -> io::Result<()> {
-    number(out, list.len() as u64)?;
-    gain_entries(out, list)?;
-    word(out, b"\n")
+    write!(out, "{}", list.len())?;
+    for x in list {
+        write!(out, " {x}")?;
+    }
+    out.write_all(b"\n")
 }
 
-// Where the stretch of equal numbers that begins at `from` ends.
-fn stretch_end(list: &[u16], from: usize) -> usize
-    requires { from < length list.now }
-    ensures { (from < result) × (result ≤ length list.now) }
+// How many entries of the list are equal to its first, from there on.
+fn stretch(list: &[u16]) -> usize
+    requires { 0 < length list.now }
+    ensures { (0 < result) × (result ≤ length list.now) }
 {
-    let x = list[from];
-    let mut i = from + 1;
-    while i < list.len() {
-        if list[i] != x {
-            return i;
-        }
-        i += 1;
-    }
-    i
-}
-
-fn stretches<W: Write>(out: &mut W, list: &[u16]) -> io::Result<()> {
-    let mut i = 0;
-    while i < list.len() {
-        let end = stretch_end(list, i);
-        next(out, (end - i) as u64)?;
-        next_entry(out, list[i])?;
-        i = end;
-    }
-    Ok(())
+    let x = list[0];
+    list.iter().position(|y| *y != x).unwrap_or(list.len())
 }
 
 fn show_scratch<W: Write>(out: &mut W, list: &[u16]) -> io::Result<()> {
-    number(out, list.len() as u64)?;
-    stretches(out, list)?;
-    word(out, b"\n")
+    write!(out, "{}", list.len())?;
+    let mut rest = list;
+    while !rest.is_empty() {
+        let n = stretch(rest);
+        write!(out, " {} {}", n, rest[0])?;
+        rest = &rest[n..];
+    }
+    out.write_all(b"\n")
 }
 
-fn show_figures<W: Write>(out: &mut W, f: Figures) -> io::Result<()> {
-    let v = f.verdict;
-    number(out, v.number as u64)?;
-    next(out, v.place as u64)?;
-    next(out, f.before as u64)?;
-    next(out, f.cut as u64)?;
-    next(out, f.size)?;
-    next(out, f.tried as u64)?;
-    next(out, f.kept as u64)?;
-    next(out, f.scans)?;
-    next(out, f.visits)?;
-    next(out, f.unread as u64)?;
-    next(out, f.holding as u64)
+// A refusal's number and place; of what is done 0 and 0.
+fn show_verdict<W: Write>(out: &mut W, refused: Option<Refusal>) -> io::Result<()> {
+    let v = match refused {
+        Some(refusal) => Verdict::from(refusal),
+        None => Verdict {
+            number: 0,
+            place: 0,
+        },
+    };
+    write!(out, "{} {}", v.number, v.place)
+}
+
+fn show_figures<W: Write>(out: &mut W, f: Passed) -> io::Result<()> {
+    write!(out, " {} {} {}", f.before, f.cut, f.size)?;
+    write!(out, " {} {} {} {}", f.tried, f.kept, f.scans, f.visits)?;
+    write!(out, " {} {}", f.unread, f.holding)
+}
+
+fn show_passed<W: Write>(out: &mut W, answer: Result<Passed, Refusal>) -> io::Result<()> {
+    show_verdict(out, answer.err())?;
+    show_figures(out, answer.unwrap_or(NO_PASS))?;
+    out.write_all(b"\n")
+}
+
+fn show_ran<W: Write>(out: &mut W, answer: Result<Ran, Refusal>) -> io::Result<()> {
+    show_verdict(out, answer.err())?;
+    let ran = answer.unwrap_or(Ran {
+        figures: NO_PASS,
+        passes: 0,
+        settled: false,
+    });
+    show_figures(out, ran.figures)?;
+    writeln!(out, " {} {}", ran.passes, ran.settled as u64)
+}
+
+fn show_rest<W: Write>(out: &mut W, lent: &Lent) -> io::Result<()> {
+    show_gains(out, lent.moves.gained)?;
+    show_list(out, lent.moves.cuts)?;
+    show_list(out, lent.moves.ends)?;
+    show_list(out, lent.scans.recipes)?;
+    show_list(out, lent.scans.kinds)?;
+    show_scratch(out, lent.scratch)
 }
 
 // ---- Asking
 
-// What a pass answers is that of a run without the passes and the settling.
-fn ask(
-    run: bool,
+fn ask<W: Write>(
+    out: &mut W,
+    asked: Asked,
     edition: u16,
     job: Job,
-    sizes: &[u16],
+    book: Book,
     sides: &mut [u16],
-    marks: &[u16],
-    bounds: &[u16],
-    pins: &[u16],
-    gains: &mut [i32],
-    tried: &mut [u16],
-    gained: &mut [i32],
-    cuts: &mut [u16],
-    ends: &mut [u16],
-    recipes: &mut [u16],
-    kinds: &mut [u16],
-    scratch: &mut [u16],
-) -> RunFigures {
-    if run {
-        return runs::run(
-            edition, job, sizes, sides, marks, bounds, pins, gains, tried, gained, cuts, ends,
-            recipes, kinds, scratch,
-        );
-    }
-    let figures = split::pass_once(
-        edition, job, sizes, sides, marks, bounds, pins, gains, tried, gained, cuts, ends, recipes,
-        kinds, scratch,
-    );
-    RunFigures {
-        figures,
-        passes: 0,
-        settled: false,
-    }
-}
-
-fn show_answer<W: Write>(out: &mut W, run: bool, r: RunFigures) -> io::Result<()> {
-    show_figures(out, r.figures)?;
-    if run {
-        next(out, r.passes)?;
-        next(out, r.settled as u64)?;
-    }
-    word(out, b"\n")
-}
-
-fn show_scans<W: Write>(
-    out: &mut W,
-    gained: &[i32],
-    cuts: &[u16],
-    ends: &[u16],
-    recipes: &[u16],
-    kinds: &[u16],
-    scratch: &[u16],
+    lent: &mut Lent,
 ) -> io::Result<()> {
-    show_gains(out, gained)?;
-    show_list(out, cuts)?;
-    show_list(out, ends)?;
-    show_list(out, recipes)?;
-    show_list(out, kinds)?;
-    show_scratch(out, scratch)
+    if asked == Asked::Pass {
+        return show_passed(out, split::pass_once(edition, job, book, sides, lent));
+    }
+    show_ran(out, runs::run(edition, job, book, sides, lent))
 }
 
 fn call<W: Write>(
     out: &mut W,
-    run: bool,
-    short: bool,
+    asked: Asked,
     edition: u16,
     job: Job,
-    sizes: &[u16],
+    book: Book,
     sides: &mut [u16],
-    marks: &[u16],
-    bounds: &[u16],
-    pins: &[u16],
-    gains: &mut [i32],
-    tried: &mut [u16],
-    gained: &mut [i32],
-    cuts: &mut [u16],
-    ends: &mut [u16],
-    recipes: &mut [u16],
-    kinds: &mut [u16],
-    scratch: &mut [u16],
+    lent: &mut Lent,
 ) -> io::Result<()> {
-    let answer = ask(
-        run, edition, job, sizes, sides, marks, bounds, pins, gains, tried, gained, cuts, ends,
-        recipes, kinds, scratch,
-    );
-    show_answer(out, run, answer)?;
+    ask(out, asked, edition, job, book, sides, lent)?;
     show_list(out, sides)?;
-    show_gains(out, gains)?;
-    show_list(out, tried)?;
-    if short {
+    show_gains(out, lent.gains)?;
+    show_list(out, lent.moves.tried)?;
+    if asked == Asked::RunInShort {
         return Ok(());
     }
-    show_scans(out, gained, cuts, ends, recipes, kinds, scratch)
+    show_rest(out, lent)
 }
 
-// A length that was read, as far as there is room.
+// A length that was read, as far as there is room. A function, since its promise is what cutting a list asks.
 fn at_most(n: u16, most: usize) -> usize
     ensures { result ≤ most }
 {
-    let n = n as usize;
-    if most < n {
-        return most;
-    }
-    n
+    most.min(n as usize)
 }
 
 // Every entry that is lent beside the job is 7 before the call.
-fn show_call<R: Read, W: Write>(
-    reader: &mut R,
-    out: &mut W,
-    run: bool,
-    short: bool,
-) -> io::Result<()> {
-    let mut figures = [0u16; 13];
-    frames::take_numbers(reader, &mut figures)?;
+fn show_call<R: Read, W: Write>(reader: &mut R, out: &mut W, asked: Asked) -> io::Result<()> {
+    let figures = Numbers::<13>::take(reader)?.list;
     let job = Job::new(figures[1], figures[2], figures[3], figures[4]);
-    let mut sizes = [0u16; MOST];
-    let s = frames::take_numbers(reader, &mut sizes)?;
-    let mut sides = [0u16; MOST];
-    let d = frames::take_numbers(reader, &mut sides)?;
-    let mut marks = [0u16; MOST];
-    let m = frames::take_numbers(reader, &mut marks)?;
-    let mut bounds = [0u16; MOST];
-    let b = frames::take_numbers(reader, &mut bounds)?;
-    let mut pins = [0u16; MOST];
-    let p = frames::take_numbers(reader, &mut pins)?;
-    let gains_long = at_most(figures[5], MOST_MOVES);
-    let tried_long = at_most(figures[6], MOST_MOVES);
-    let gained_long = at_most(figures[7], MOST_MOVES);
-    let cuts_long = at_most(figures[8], MOST_MOVES);
-    let ends_long = at_most(figures[9], MOST_MOVES);
-    let recipes_long = at_most(figures[10], MOST_SCANS);
-    let kinds_long = at_most(figures[11], MOST_SCANS);
-    let scratch_long = at_most(figures[12], MOST_SCRATCH);
+    let sizes = Numbers::<MOST>::take(reader)?;
+    let mut sides = Numbers::<MOST>::take(reader)?;
+    let marks = Numbers::<MOST>::take(reader)?;
+    let bounds = Numbers::<MOST>::take(reader)?;
+    let pins = Numbers::<MOST>::take(reader)?;
+    let book = Book {
+        files: Files {
+            sizes: sizes.all(),
+            marks: marks.all(),
+        },
+        recipes: Recipes {
+            bounds: bounds.all(),
+            pins: pins.all(),
+        },
+    };
     let mut gains = [7i32; MOST_MOVES];
     let mut tried = [7u16; MOST_MOVES];
     let mut gained = [7i32; MOST_MOVES];
@@ -280,58 +197,45 @@ fn show_call<R: Read, W: Write>(
     let mut recipes = [7u16; MOST_SCANS];
     let mut kinds = [7u16; MOST_SCANS];
     let mut scratch = [7u16; MOST_SCRATCH];
+    let mut lent = Lent {
+        gains: &mut gains[..at_most(figures[5], MOST_MOVES)],
+        moves: Moves {
+            tried: &mut tried[..at_most(figures[6], MOST_MOVES)],
+            gained: &mut gained[..at_most(figures[7], MOST_MOVES)],
+            cuts: &mut cuts[..at_most(figures[8], MOST_MOVES)],
+            ends: &mut ends[..at_most(figures[9], MOST_MOVES)],
+        },
+        scans: Scans {
+            recipes: &mut recipes[..at_most(figures[10], MOST_SCANS)],
+            kinds: &mut kinds[..at_most(figures[11], MOST_SCANS)],
+        },
+        scratch: &mut scratch[..at_most(figures[12], MOST_SCRATCH)],
+    };
+    let d = sides.len;
     call(
         out,
-        run,
-        short,
+        asked,
         figures[0],
         job,
-        &sizes[..s],
-        &mut sides[..d],
-        &marks[..m],
-        &bounds[..b],
-        &pins[..p],
-        &mut gains[..gains_long],
-        &mut tried[..tried_long],
-        &mut gained[..gained_long],
-        &mut cuts[..cuts_long],
-        &mut ends[..ends_long],
-        &mut recipes[..recipes_long],
-        &mut kinds[..kinds_long],
-        &mut scratch[..scratch_long],
+        book,
+        &mut sides.list[..d],
+        &mut lent,
     )
 }
 
-fn show_heading<R: Read, W: Write>(reader: &mut R, out: &mut W) -> io::Result<()> {
-    let mut text = [0u8; 255];
-    let got = frames::take(reader, &mut text)?;
-    word(out, &text[..got])?;
-    word(out, b"\n")
+fn show_case<R: Read, W: Write>(reader: &mut R, out: &mut W, kind: u8) -> io::Result<()> {
+    match kind {
+        b'p' => show_call(reader, out, Asked::Pass),
+        b'r' => show_call(reader, out, Asked::Run),
+        b's' => show_call(reader, out, Asked::RunInShort),
+        _ => frames::show_heading(reader, out),
+    }
 }
 
-// Whether there was a case. Its first frame is a letter that says of which kind it is.
-fn show_case<R: Read, W: Write>(reader: &mut R, out: &mut W) -> io::Result<bool> {
-    let mut kind = [0u8; 1];
-    if frames::take(reader, &mut kind)? == 0 {
-        return Ok(false);
-    }
-    match kind[0] {
-        b'p' => show_call(reader, out, false, false)?,
-        b'r' => show_call(reader, out, true, false)?,
-        b's' => show_call(reader, out, true, true)?,
-        _ => show_heading(reader, out)?,
-    }
-    Ok(true)
-}
-
-// A proved loop ends, so this one has more turns than there are cases.
 fn main(rt: HostRuntime) -> io::Result<()> {
-    let mut reader = rt.reader();
-    let mut out = io::writer(&rt);
-    for _ in 0..u16::MAX {
-        if !show_case(&mut reader, &mut out)? {
-            break;
-        }
-    }
-    Ok(())
+    frames::show_each(
+        &mut rt.reader(),
+        &mut io::writer(&rt),
+        |reader, out, kind| { show_case(reader, out, kind) },
+    )
 }

@@ -1,47 +1,40 @@
 -- A form laid part by part, how long it can be, and a form after a form. Assumes nothing.
-use mathlib.Core.Path.{◌≡◌, refl, ap}
-use Prim.Native.Nat.{ℕ, ◌+◌, ◌≤◌, ◌<◌}
+use mathlib.Core.Path.{◌≡◌, refl, sym, ap}
+use Prim.Native.Nat.{ℕ, suc, ◌+◌, ◌≤◌, ◌<◌}
 use mathlib.Core.List.{List, [], ◌∷◌, ◌++◌}
 use native.Mathlib.Numerals.{add-one}
 use native.Mathlib.Omega.{arith}
 use lib.ListN.{length, get_or, take, drop, take-append-drop}
 use lib.Seq.{take-suc}
 use borrow.Author.Tests.{lt-ltb, le-ltb}
-use Rattle.rules.specs.Report.{digits}
+use Rattle.std.specs.Fmt.{decimal}
+use Rattle.std.proofs.lemmas.Fmt.{AppendsLastDigit, decimal_from_appends, length-decimal-le_succ}
+use Rattle.rules.specs.Report.{digits_in, digits}
 use Rattle.rules.proofs.Digits.{Long, long-digits}
-use Rattle.report.specs.Laying.{Ahead, Near, Laid, pieces, value_of, shown, filled, widest, longest}
-use Rattle.report.proofs.Laying.{pieces-append, Laying, laying-none, laying-more, laying-end}
+use Rattle.report.specs.declared.text.Text.{Text}
+use Rattle.report.specs.Laying.{Ahead, value_of, shown, filled, widest, longest}
+use Rattle.report.specs.Writing.{Wrote}
+use Rattle.report.proofs.Laying.{pieces-append, Laying, laying-more, laying-end, wrote_as}
+
+-- ---- the library's decimal is that of rules
+
+by-last-digit : AppendsLastDigit digits_in
+unfolding digits_in
+by-last-digit = record { one = λ k n h. rw (lt-ltb n 10 h, digits_in) refl; more = λ k n h. rw (le-ltb n 10 h, digits_in) refl }
+
+pub decimal-digits : (n : ℕ) → Long n → decimal n ≡ digits n
+decimal-digits n h = sym (decimal_from_appends digits_in by-last-digit (suc n) n h (omega (arith, length-decimal-le_succ n h)))
 
 -- ---- a part
 
-module _ (at b : ℕ) (ns : List ℕ) (a : Ahead at (widest (length ns) b)) where
-  -- the number that a digit stands for
-  module _ (h : value_of b < length ns) (l : Long (get_or ns (value_of b) 0)) where
-    wide : widest (length ns) b ≡ 20
-    unfolding widest
-    wide = rw (lt-ltb (value_of b) (length ns) h)
+-- the number that a digit stands for, or any other byte
+pub number-part : (ns : List ℕ) (b n : ℕ) → value_of b < length ns → n ≡ get_or ns (value_of b) 0 → Long n → (decimal n ≡ shown ns b) × (length (decimal n) ≤ widest (length ns) b)
+unfolding shown widest
+number-part ns b n h e l = rw (lt-ltb (value_of b) (length ns) h, ← e, decimal-digits n l) (refl, long-digits n l)
 
-    pub near-number : Near at (digits (get_or ns (value_of b) 0))
-    near-number = record { near = omega (arith, wide, long-digits (get_or ns (value_of b) 0) l) }
-
-    pub laid-number : {n : ℕ} {room after : List ℕ} → Laid at (digits (get_or ns (value_of b) 0)) room n after
-        → Laid at (shown ns b) room n after × (n ≤ at + widest (length ns) b)
-    unfolding shown
-    laid-number d = (rw (lt-ltb (value_of b) (length ns) h) d, omega (arith, d.ends, wide, long-digits (get_or ns (value_of b) 0) l))
-
-  -- any other byte
-  module _ (h : length ns ≤ value_of b) where
-    narrow : widest (length ns) b ≡ 1
-    unfolding widest
-    narrow = rw (le-ltb (value_of b) (length ns) h)
-
-    pub near_byte : Near at (b ∷ [])
-    near_byte = record { near = omega (arith, narrow) }
-
-    pub laid-byte : {n : ℕ} {room after : List ℕ} → Laid at (b ∷ []) room n after
-        → Laid at (shown ns b) room n after × (n ≤ at + widest (length ns) b)
-    unfolding shown
-    laid-byte d = (rw (le-ltb (value_of b) (length ns) h) d, omega (arith, d.ends, narrow))
+pub byte-part : (ns : List ℕ) (b : ℕ) → length ns ≤ value_of b → (b ∷ [] ≡ shown ns b) × (1 ≤ widest (length ns) b)
+unfolding shown widest
+byte-part ns b h = rw (le-ltb (value_of b) (length ns) h) (refl, omega arith)
 
 -- ---- a form, part by part
 
@@ -57,39 +50,19 @@ longest-next : (n : ℕ) (form : List ℕ) (i : ℕ) → i < length form → lon
 unfolding longest
 longest-next n form i h = rw (add-one, take-suc form i 0) (omega (arith, longest-append n (take i form) (get_or form i 0 ∷ [])))
 
--- the first i parts are laid, at most so long
-pub record Filling (ns form : List ℕ) (at : ℕ) (room : List ℕ) (i next : ℕ) (after : List ℕ) : Type 0 where
-  pub laying : Laying (shown ns) form at room i next after
-  pub short : next ≤ at + longest (length ns) (take i form)
+-- the first i parts are laid
+abbrev pub Filling : List ℕ → List ℕ → ℕ → Text → Text → Type 0
+Filling ns form i old new = Laying (shown ns) form i (longest (length ns) (take i form)) old new
 
-pub filling-none : {ns form : List ℕ} {at : ℕ} {room : List ℕ} → Filling ns form at room 0 at room
-filling-none = record { laying = laying-none; short = omega arith }
+module _ (ns form : List ℕ) {i : ℕ} {old mid : Text} (x : Filling ns form i old mid) where
+  pub filling-ahead : Ahead old.at (longest (length ns) form) → i < length form → Ahead mid.at (widest (length ns) (get_or form i 0))
+  filling-ahead a h = omega (arith, x.wrote.short, longest-next (length ns) form i h, longest-within (length ns) form (i + 1))
 
-module _ {ns form : List ℕ} {at i next : ℕ} {room mid : List ℕ} (x : Filling ns form at room i next mid) where
-  pub filling-ahead : Ahead at (longest (length ns) form) → i < length form → Ahead next (widest (length ns) (get_or form i 0))
-  filling-ahead a h = omega (arith, x.short, longest-next (length ns) form i h, longest-within (length ns) form (i + 1))
+  pub filling-more : {new : Text} → i < length form → Wrote (shown ns (get_or form i 0)) (widest (length ns) (get_or form i 0)) mid new → Filling ns form (i + 1) old new
+  filling-more h w = laying-more 0 x _ h w (omega (arith, longest-next (length ns) form i h))
 
-  pub filling-more : {n : ℕ} {after : List ℕ} → i < length form
-      → Laid next (shown ns (get_or form i 0)) mid n after × (n ≤ next + widest (length ns) (get_or form i 0)) → Filling ns form at room (i + 1) n after
-  filling-more h d = record {
-    laying = laying-more 0 x.laying h d.0;
-    short = omega (arith, x.short, d.1, longest-next (length ns) form i h);
-  }
-
-  pub filling-end : length form ≤ i → Laid at (filled ns form) room next mid × (next ≤ at + longest (length ns) form)
-  filling-end h = (laying-end 0 x.laying h, omega (arith, x.short, longest-within (length ns) form i))
-
--- ---- a text with no number
-
-pub plain-longest : (text : List ℕ) → longest 0 text ≡ length text
-unfolding longest widest
-plain-longest [] = refl
-plain-longest (b ∷ text) = rw (le-ltb (value_of b) 0 (omega arith)) (omega (arith, plain-longest text))
-
-pub plain : (text : List ℕ) → filled [] text ≡ text
-unfolding pieces shown
-plain [] = refl
-plain (b ∷ text) = rw (le-ltb (value_of b) 0 (omega arith)) (ap (λ (l : List ℕ). b ∷ l) (plain text))
+  pub filling-end : length form ≤ i → Wrote (filled ns form) (longest (length ns) form) old mid
+  filling-end h = wrote_as _ (laying-end 0 x h) refl (longest-within (length ns) form i)
 
 -- ---- a form after a form
 

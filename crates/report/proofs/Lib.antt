@@ -1,9 +1,13 @@
 pub mod Laying
 pub mod Forms
+pub mod Exits
+pub mod Splits
 pub mod Lines
 pub mod Gains
 pub mod Traces
 pub mod Printings
+pub mod Tellings
 pub mod Comparisons
+pub mod Refusals
 pub mod Lending
 pub mod Unique

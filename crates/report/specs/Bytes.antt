@@ -9,6 +9,10 @@ gain_bytes = 22
 abbrev pub scan_bytes : ℕ
 scan_bytes = 47
 
+-- more scans than a number of two bytes counts
+abbrev pub all_scans : ℕ
+all_scans = 65536
+
 -- the line of a move: its word, two numbers, a gain and the end of the line
 abbrev pub move_bytes : ℕ
 move_bytes = 69

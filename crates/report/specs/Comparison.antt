@@ -2,7 +2,7 @@
 use Rattle.std.specs.Prelude.{◌≢◌, ℕ, ◌+◌, ◌*◌, ◌≤◌, Bool, not, cond, List, map, length, get_or, leb, ltb}
 use Rattle.rules.specs.declared.Verdict.{Verdict}
 use Rattle.rules.specs.declared.Difference.{Difference}
-use Rattle.rules.specs.declared.Compared.{Compared}
+use Rattle.rules.specs.Numbers.{Compared}
 use Rattle.rules.specs.Lists.{up_to}
 use Rattle.rules.specs.Job.{Limits}
 use Rattle.rules.specs.Check.{is_done, refuse_if, ◌or_else◌}

@@ -11,9 +11,6 @@ over at text room = sets room at text
 abbrev pub Ahead : ℕ → ℕ → Type 0
 Ahead at bytes = at + bytes < 4294967296
 
-pub record Near (at : ℕ) (text : List ℕ) : Type 0 where
-  pub near : Ahead at (length text)
-
 -- the text was laid into the room, and the next position is the one after it
 pub record Laid (at : ℕ) (text room : List ℕ) (next : ℕ) (after : List ℕ) : Type 0 where
   pub ends : next ≡ at + length text

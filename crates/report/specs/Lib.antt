@@ -4,3 +4,6 @@ pub mod Laying
 pub mod Lending
 pub mod Steps
 pub mod Tracing
+pub mod Writing
+pub mod Splits
+pub mod Cases

@@ -1,9 +1,16 @@
 -- What the inner steps of a report and of a trace promise one another; the promise of the report itself cites nothing here but how much room is
 -- enough. Assumes nothing.
-use Rattle.std.specs.Prelude.{◌≡◌, ◌≢◌, ℕ, ◌≤◌, Bool, not, cond, ◌&&◌, List, [], length, get_or, ltb, eqb}
+use Rattle.std.specs.Prelude.{◌≡◌, ◌≢◌, ℕ, ◌≤◌, Bool, not, cond, ◌&&◌, List, [], length, get_or, ltb, eqb, Result, Ok, Err}
 use Rattle.rules.specs.declared.Verdict.{Verdict}
-use Rattle.rules.specs.Check.{refuse_if, refuse_at, ◌or_else◌}
+use Rattle.rules.specs.declared.refusal.Refusal.{Refusal}
+use Rattle.rules.specs.Numbers.{verdict_of}
+use Rattle.rules.specs.Check.{done, refuse_if, refuse_at, ◌or_else◌}
 use Rattle.rules.specs.Report.{line}
+
+-- the verdict of what answers something or a refusal
+abbrev pub verdict_on : {A : Type 0} → Result A Refusal → Verdict
+verdict_on (Ok _) = done
+verdict_on (Err r) = verdict_of r
 
 -- the verdict on a split in two parts: before its text is counted, and after
 unfoldable pub lengths_verdict : ℕ → List ℕ → List ℕ → List ℕ → Verdict

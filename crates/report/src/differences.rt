@@ -1,46 +1,71 @@
 // The lines of a comparison.
-ghost use Rattle.std.specs.Prelude.{◌+◌, ◌*◌, ◌≤◌, length};
-ghost use Rattle.rules.specs.Compare.{difference, difference_line, difference_lines};
-ghost use Rattle.report.specs.Bytes.{difference_bytes};
-ghost use Rattle.report.specs.Laying.{Ahead, Laid};
-ghost use Rattle.report.specs.Comparison.{records_in};
+#![tactic(auto, unfolding(crate::specs::Laying::longest, crate::specs::Laying::widest))]
 
-use crate::text::put_form;
+ghost use Rattle.std.specs.Prelude.{◌≡◌, ◌*◌, ◌≤◌, length, IfOk};
+ghost use Rattle.rules.specs.Compare.{most_differences, difference_line, difference_lines};
+ghost use Rattle.job.specs.Given.{the_limits};
+ghost use Rattle.report.specs.Bytes.{difference_bytes};
+ghost use Rattle.report.specs.Comparison.{records_in, records_verdict};
+ghost use Rattle.report.specs.Laying.{Ahead};
+ghost use Rattle.report.specs.Steps.{verdict_on};
+ghost use Rattle.report.specs.Writing.{Wrote};
+
+use crate::MOST_DIFFERENCES;
+use crate::text::Text;
+use crate::told::Told;
+use job::refuse_if;
+use rules::{Difference, Refusal};
 
 // A record: its four numbers, one space between.
-fn put_difference(out: &mut [u8], at: usize, what: u16, number: u16, old: u16, new: u16) -> usize
-    requires { Ahead at difference_bytes }
-    ensures laid { Laid at (difference_line (difference what number old new)) out.old result out.new }
-    ensures upper_bound { result ≤ at + difference_bytes }
+fn put_difference(text: &mut Text, d: Difference)
+    requires { Ahead text.old.at difference_bytes }
+    ensures { Wrote (difference_line d) difference_bytes text.old text.new }
 {
-    put_form(
-        out,
-        at,
+    text.form(
         b"0 1 2 3\n",
-        &[what as u64, number as u64, old as u64, new as u64],
-    )
+        &[d.what as u64, d.number as u64, d.old as u64, d.new as u64],
+    );
 }
 
-// The first n records.
-pub(crate) fn put_differences(out: &mut [u8], numbers: &[u16], n: usize) -> usize
-    requires ahead { Ahead 0 (difference_bytes * n) }
-    requires n_in_bounds { 4 * n ≤ length numbers.now }
-    ensures laid { Laid 0 (difference_lines (records_in n numbers.now)) out.old result out.new }
-    ensures upper_bound { result ≤ difference_bytes * n }
-{
-    let mut next = 0;
-    let mut i = 0;
-    while i < n {
-        let a = 4 * i;
-        next = put_difference(
-            out,
-            next,
-            numbers[a],
-            numbers[a + 1],
-            numbers[a + 2],
-            numbers[a + 3],
-        );
-        i += 1;
+// The first records of the numbers, four numbers to a record.
+#[derive(Clone, Copy)]
+pub(crate) struct DifferenceLines<'a> {
+    count: usize,
+    numbers: &'a [u16],
+    ghost few: { count ≤ most_differences the_limits },
+    ghost held: { 4 * count ≤ length numbers.now },
+}
+
+impl<'a> DifferenceLines<'a> {
+    // 2 for more records than two jobs can have, or 3 for numbers that do not hold them.
+    #[tactic(auto, using(crate::proofs::Exits::exits), unfolding(crate::specs::Comparison::records_verdict))]
+    pub fn of(count: usize, numbers: &'a [u16]) -> Result<Self, Refusal>
+        ensures verdict { verdict_on result ≡ records_verdict the_limits count (length numbers.now) }
+        ensures same_records { IfOk result (λ d. (d.count ≡ count) × (d.numbers ≡ numbers.entry)) }
+    {
+        refuse_if(MOST_DIFFERENCES < count, Refusal::OverMost)?;
+        refuse_if(numbers.len() < 4 * count, Refusal::WrongLength)?;
+        Ok(DifferenceLines { count, numbers })
     }
-    next
+}
+
+impl Told for DifferenceLines<'_> {
+    ghost lines = { λ d. difference_lines (records_in d.count d.numbers.now) };
+
+    ghost most = { λ d. difference_bytes * d.count };
+
+    fn lay(&self, text: &mut Text) {
+        for i in 0..self.count {
+            let a = 4 * i;
+            put_difference(
+                text,
+                Difference {
+                    what: self.numbers[a],
+                    number: self.numbers[a + 1],
+                    old: self.numbers[a + 2],
+                    new: self.numbers[a + 3],
+                },
+            );
+        }
+    }
 }

@@ -1,121 +1,106 @@
 // The moves of a pass with their scans, and the gain list.
-ghost use Rattle.std.specs.Prelude.{◌≡◌, [], ◌∷◌, ◌+◌, ◌-◌, ◌*◌, ◌≤◌, length, nat_abs};
+#![tactic(auto, unfolding(crate::specs::Laying::longest, crate::specs::Laying::widest))]
+
+ghost use Rattle.std.specs.Prelude.{◌≡◌, ◌+◌, ◌-◌, ◌*◌, ◌<◌, ◌≤◌, [], ◌∷◌, pos, length, get_or};
 ghost use Rattle.rules.specs.Report.{line};
-ghost use Rattle.rules.specs.Trace.{signed, scan_lines, scans_before, moves_lines};
-ghost use Rattle.report.specs.Bytes.{gain_bytes, scan_bytes, move_bytes};
-ghost use Rattle.report.specs.Laying.{Ahead, Laid};
-ghost use Rattle.report.specs.Tracing.{scan_lists, move_lists, InOrder, MovesHeld, move_line, gains_line};
+ghost use Rattle.rules.specs.Trace.{signed, scan_lines, scans_before, move_lines, moves_lines, bad_end};
+ghost use Rattle.report.specs.Bytes.{gain_bytes, scan_bytes, all_scans, move_bytes};
+ghost use Rattle.report.specs.Cases.{listed};
+ghost use Rattle.report.specs.Laying.{Ahead};
+ghost use Rattle.report.specs.Tracing.{MovesHeld, move_line, gains_line, move_room};
+ghost use Rattle.report.specs.Writing.{Wrote};
 
-use crate::text::{put, put_form, put_text};
-
-// At eight bytes, where the least gain has one too.
-fn magnitude(gain: i32) -> u64
-    ensures { result ≡ nat_abs gain }
-{
-    let wide = gain as i64;
-    if wide < 0 {
-        let above = 0 - wide;
-        return above as u64;
-    }
-    wide as u64
-}
+use crate::Listing;
+use crate::text::Text;
 
 // After one space, with its sign where it is below zero.
-fn put_signed(out: &mut [u8], at: usize, gain: i32) -> usize
-    requires { Ahead at gain_bytes }
-    ensures laid { Laid at (signed gain) out.old result out.new }
-    ensures upper_bound { result ≤ at + gain_bytes }
+fn put_signed(text: &mut Text, gain: i32)
+    requires { Ahead text.old.at gain_bytes }
+    ensures { Wrote (signed gain) gain_bytes text.old text.new }
 {
-    let n = magnitude(gain);
-    if gain < 0 {
-        return put_form(out, at, b" -0", &[n]);
+    text.plain(b" ");
+    text.number(gain);
+}
+
+pub(crate) fn put_gains(text: &mut Text, gains: &[i32])
+    requires { Ahead text.old.at (6 + gain_bytes * length gains.now) }
+    ensures { Wrote (gains_line gains.now) (6 + gain_bytes * length gains.now) text.old text.new }
+{
+    text.plain(b"gains");
+    for gain in gains {
+        put_signed(text, *gain);
     }
-    put_form(out, at, b" 0", &[n])
+    text.put(b'\n');
 }
 
-pub(crate) fn put_gains(out: &mut [u8], at: usize, gains: &[i32]) -> usize
-    requires { Ahead at (6 + gain_bytes * length gains.now) }
-    ensures laid { Laid at (gains_line gains.now) out.old result out.new }
-    ensures upper_bound { result ≤ at + (6 + gain_bytes * length gains.now) }
+fn put_scan(text: &mut Text, recipe: u16, kind: u16)
+    requires { Ahead text.old.at scan_bytes }
+    ensures { Wrote (line "scan" (recipe ∷ kind ∷ [])) scan_bytes text.old text.new }
 {
-    let mut next = put_text(out, at, b"gains");
-    let mut f = 0;
-    while f < gains.len() {
-        next = put_signed(out, next, gains[f]);
-        f += 1;
+    text.form(b"scan 0 1\n", &[recipe as u64, kind as u64]);
+}
+
+fn put_own_line(text: &mut Text, file: u16, gain: i32, cut: u16)
+    requires { Ahead text.old.at move_bytes }
+    ensures { Wrote (move_line file gain cut) move_bytes text.old text.new }
+{
+    text.form(b"move 0", &[file as u64]);
+    put_signed(text, gain);
+    text.form(b" 0\n", &[cut as u64]);
+}
+
+impl Listing<'_> {
+    // Where the scans of move i begin: where those of the move before it end.
+    fn scans_before(self, i: usize) -> usize
+        requires { i ≤ length self.ends.now }
+        ensures { result ≡ scans_before (listed self.entry) i }
+    {
+        if i == 0 {
+            return 0;
+        }
+        self.ends[i - 1] as usize
     }
-    put(out, next, 10)
-}
 
-fn put_scan(out: &mut [u8], at: usize, recipe: u16, kind: u16) -> usize
-    requires { Ahead at scan_bytes }
-    ensures laid { Laid at (line "scan" (recipe ∷ kind ∷ [])) out.old result out.new }
-    ensures upper_bound { result ≤ at + scan_bytes }
-{
-    put_form(out, at, b"scan 0 1\n", &[recipe as u64, kind as u64])
-}
-
-// The scans from the first up to the end.
-fn put_scans(
-    out: &mut [u8],
-    at: usize,
-    recipes: &[u16],
-    kinds: &[u16],
-    first: u16,
-    end: u16,
-) -> usize
-    requires ahead { Ahead at (scan_bytes * (end - first)) }
-    requires in_order { InOrder recipes.now kinds.now first end }
-    ensures laid { Laid at (scan_lines (scan_lists recipes.now kinds.now) first (end - first)) out.old result out.new }
-    ensures upper_bound { result ≤ at + scan_bytes * (end - first) }
-{
-    let a = first as usize;
-    let n = (end - first) as usize;
-    let mut next = at;
-    let mut k = 0;
-    while k < n {
-        next = put_scan(out, next, recipes[a + k], kinds[a + k]);
-        k += 1;
+    // The scans of move i end before they begin, or beyond the scan lists.
+    pub(crate) fn bad_end(self, i: usize) -> bool
+        requires { i < length self.ends.now }
+        ensures { result ≡ bad_end (listed self.entry) i }
+    {
+        let end = self.ends[i] as usize;
+        end < self.scans_before(i) || self.recipes.len() < end || self.kinds.len() < end
     }
-    next
-}
 
-fn put_move(out: &mut [u8], at: usize, file: u16, gain: i32, cut: u16) -> usize
-    requires { Ahead at move_bytes }
-    ensures laid { Laid at (move_line file gain cut) out.old result out.new }
-    ensures upper_bound { result ≤ at + move_bytes }
-{
-    let mut next = put_form(out, at, b"move 0", &[file as u64]);
-    next = put_signed(out, next, gain);
-    put_form(out, next, b" 0\n", &[cut as u64])
-}
-
-// The first n moves; the scans of each begin where those of the move before it end.
-pub(crate) fn put_moves(
-    out: &mut [u8],
-    at: usize,
-    n: usize,
-    tried: &[u16],
-    gained: &[i32],
-    cuts: &[u16],
-    ends: &[u16],
-    recipes: &[u16],
-    kinds: &[u16],
-) -> usize
-    requires ahead { Ahead at (move_bytes * n + scan_bytes * 65536) }
-    requires moves_held { MovesHeld n (move_lists tried.now gained.now cuts.now ends.now recipes.now kinds.now) }
-    ensures laid { Laid at (moves_lines (move_lists tried.now gained.now cuts.now ends.now recipes.now kinds.now) n) out.old result out.new }
-    ensures upper_bound { result ≤ at + (move_bytes * n + scan_bytes * scans_before (move_lists tried.now gained.now cuts.now ends.now recipes.now kinds.now) n) }
-{
-    let mut next = at;
-    let mut first = 0;
-    let mut i = 0;
-    while i < n {
-        let end = ends[i];
-        next = put_move(out, next, tried[i], gained[i], cuts[i]);
-        next = put_scans(out, next, recipes, kinds, first, end);
-        first = end;
-        i += 1;
+    fn put_scans(self, text: &mut Text, first: usize, end: usize)
+        requires ahead { Ahead text.old.at (scan_bytes * (end - first)) }
+        requires recipes_held { end ≤ length self.recipes.now }
+        requires kinds_held { end ≤ length self.kinds.now }
+        ensures { Wrote (scan_lines (listed self.entry) first (end - first)) (scan_bytes * (end - first)) text.old text.new }
+    {
+        for k in first..end {
+            put_scan(text, self.recipes[k], self.kinds[k]);
+        }
     }
-    next
+
+    fn put_move(self, text: &mut Text, i: usize)
+        requires ahead { Ahead text.old.at (move_bytes + scan_bytes * all_scans) }
+        requires moves_held { MovesHeld (i + 1) (listed self) }
+        ensures wrote { Wrote (move_lines (listed self.entry) i) (move_room (listed self.entry) i) text.old text.new }
+        ensures few_scans { get_or self.entry.ends.now i 0 < all_scans }
+    {
+        let end = self.ends[i] as usize;
+        put_own_line(text, self.tried[i], self.gained[i], self.cuts[i]);
+        self.put_scans(text, self.scans_before(i), end);
+    }
+
+    // The first n moves.
+    pub(crate) fn put_moves(self, text: &mut Text, n: usize)
+        requires ahead { Ahead text.old.at (move_bytes * n + scan_bytes * (2 * all_scans)) }
+        requires moves_held { MovesHeld n (listed self) }
+        ensures wrote { Wrote (moves_lines (listed self.entry) n) (move_bytes * n + scan_bytes * scans_before (listed self.entry) n) text.old text.new }
+        ensures few_scans { scans_before (listed self.entry) n < all_scans }
+    {
+        for i in 0..n {
+            self.put_move(text, i);
+        }
+    }
 }

@@ -1,153 +1,96 @@
 // A pass told: whether the lists hold it, and its lines.
-ghost use Rattle.std.specs.Prelude.{◌≡◌, true, not, ◌&&◌, ◌||◌, ◌+◌, ◌*◌, ◌≤◌, length, leb, ltb, eqb};
+#![tactic(auto, unfolding(crate::specs::Laying::longest, crate::specs::Laying::widest))]
+
+ghost use Rattle.std.specs.Prelude.{◌≡◌, true, not, ◌+◌, ◌*◌, ◌≤◌, length, IfOk};
+ghost use Rattle.rules.specs.Cases.{pass_numbers};
+ghost use Rattle.rules.specs.Check.{refuse_if};
 ghost use Rattle.rules.specs.Lists.{some_below};
-ghost use Rattle.rules.specs.Report.{of_files};
-ghost use Rattle.rules.specs.Trace.{listing_of, bad_end, holds_pass, pass_lines};
-ghost use Rattle.report.specs.Bytes.{gain_bytes, figure_bytes, trace_bytes};
-ghost use Rattle.report.specs.Laying.{Ahead, Laid};
-ghost use Rattle.report.specs.Tracing.{ends_of, pass_verdict, tail_lines};
-ghost use Rattle.report.specs.Steps.{EachFile};
+ghost use Rattle.rules.specs.Trace.{bad_end, holds_pass, pass_lines};
+ghost use Rattle.report.specs.Bytes.{trace_bytes};
+ghost use Rattle.report.specs.Cases.{listed};
+ghost use Rattle.report.specs.Splits.{told_job};
+ghost use Rattle.report.specs.Steps.{verdict_on};
 
+use crate::Listing;
 use crate::figures::put_first;
-use crate::moves::{put_gains, put_moves};
-use crate::split::{put_sides, size_on};
-use crate::text::put_form;
-use crate::verdict::lengths_verdict;
-use job::{Job, refuse_if};
-use rules::{Figures, Verdict};
+use crate::moves::put_gains;
+use crate::split::Split;
+use crate::text::Text;
+use crate::told::Told;
+use job::refuse_if;
+use rules::{Passed, Refusal};
 
-// A gain for each file, and no more moves than files.
-fn holds_files(n: u64, sizes: &[u16], gains: &[i32]) -> bool
-    ensures { result ≡ (eqb (length gains.now) (length sizes.now) && leb n (length sizes.now)) }
+// The scans of each move end no earlier than they begin, and within the scan lists.
+fn holds_scans(lists: Listing, n: usize) -> bool
+    requires { n ≤ length lists.ends.now }
+    ensures { result ≡ not (some_below (bad_end (listed lists.entry)) n) }
 {
-    (gains.len() == sizes.len()) & (n as usize <= sizes.len())
+    !(0..n).any(|i| lists.bad_end(i))
 }
 
-fn holds_moves(n: u64, tried: &[u16], gained: &[i32], cuts: &[u16]) -> bool
-    ensures { result ≡ (leb n (length tried.now) && leb n (length gained.now) && leb n (length cuts.now)) }
+// A gain for each file, no more moves than files, and the lists of the moves and their scans as long.
+fn holds(sizes: &[u16], passed: Passed, lists: Listing) -> bool
+    ensures { result ≡ holds_pass sizes.now (pass_numbers passed) (listed lists.entry) }
 {
-    let m = n as usize;
-    (m <= tried.len()) & (m <= gained.len()) & (m <= cuts.len())
+    let n = passed.tried as usize;
+    lists.gains.len() == sizes.len()
+        && n <= sizes.len()
+        && n <= lists.tried.len()
+        && n <= lists.gained.len()
+        && n <= lists.cuts.len()
+        && n <= lists.ends.len()
+        && holds_scans(lists, n)
 }
 
-fn is_bad_end(first: u16, end: u16, recipes: usize, kinds: usize) -> bool
-    ensures { result ≡ (ltb end first || ltb recipes end || ltb kinds end) }
-{
-    (end < first) | (recipes < end as usize) | (kinds < end as usize)
+// A pass's answer, the split that it left, and the lists, which hold it.
+#[derive(Clone, Copy)]
+pub(crate) struct PassLines<'a> {
+    passed: Passed,
+    split: Split<'a>,
+    lists: Listing<'a>,
+    ghost held: { holds_pass split.files.sizes.now (pass_numbers passed) (listed lists) ≡ true },
 }
 
-// An end for each move; the scans of each end no earlier than they begin, and within the scan lists.
-fn holds_scans(n: u64, ends: &[u16], recipes: &[u16], kinds: &[u16]) -> bool
-    ensures { result ≡ (leb n (length ends.now) && not (some_below (bad_end (ends_of ends.now recipes.now kinds.now)) n)) }
-{
-    let m = n as usize;
-    if ends.len() < m {
-        return false;
+impl<'a> PassLines<'a> {
+    // 3 for lists that do not hold the pass.
+    pub fn of(passed: Passed, split: Split<'a>, lists: Listing<'a>) -> Result<Self, Refusal>
+        ensures verdict { verdict_on result ≡ refuse_if (not (holds_pass split.entry.files.sizes.now (pass_numbers passed) (listed lists.entry))) 3 0 }
+        ensures same_pass { IfOk result (λ l. (l.passed ≡ passed) × (l.split ≡ split.entry) × (l.lists ≡ lists.entry)) }
+    {
+        let held = holds(split.files.sizes, passed, lists);
+        refuse_if(!held, Refusal::WrongLength)?;
+        Ok(PassLines {
+            passed,
+            split,
+            lists,
+        })
     }
-    let mut first = 0;
-    let mut i = 0;
-    while i < m {
-        let end = ends[i];
-        if is_bad_end(first, end, recipes.len(), kinds.len()) {
-            return false;
-        }
-        first = end;
-        i += 1;
+}
+
+impl Told for PassLines<'_> {
+    ghost lines = { λ l. pass_lines (told_job l.split) (pass_numbers l.passed) l.split.sides.now (listed l.lists) };
+
+    ghost most = { λ l. trace_bytes (length l.split.files.sizes.now) (length l.lists.recipes.now) };
+
+    fn lay(&self, text: &mut Text) {
+        let p = self.passed;
+        let b = self.split.size_on(1);
+        put_first(text, p.unread, p.holding);
+        self.lists.put_moves(text, p.tried as usize);
+        put_gains(text, self.lists.gains);
+        text.form(
+            b"cut 0 1\nsize 2 3\ntried 4\nkept 5\nscans 6\nvisits 7\n",
+            &[
+                p.before as u64,
+                p.cut as u64,
+                p.size,
+                b,
+                p.tried,
+                p.kept,
+                p.scans,
+                p.visits,
+            ],
+        );
+        self.split.lay_sides(text);
     }
-    true
-}
-
-// 2, or 3 for sides or marks that are not C long or lists that do not hold the pass.
-pub(crate) fn pass_verdict(
-    answer: Figures,
-    sizes: &[u16],
-    sides: &[u16],
-    marks: &[u16],
-    gains: &[i32],
-    tried: &[u16],
-    gained: &[i32],
-    cuts: &[u16],
-    ends: &[u16],
-    recipes: &[u16],
-    kinds: &[u16],
-) -> Verdict
-    ensures { result ≡ pass_verdict Job.MOST_FILES sizes.now sides.now marks.now (holds_pass sizes.now answer (listing_of gains.now tried.now gained.now cuts.now ends.now recipes.now kinds.now)) }
-{
-    let lengths = lengths_verdict(sizes, sides, marks);
-    if lengths.number != 0 {
-        return lengths;
-    }
-    let n = answer.tried;
-    let files = holds_files(n, sizes, gains);
-    let moves = holds_moves(n, tried, gained, cuts);
-    let scans = holds_scans(n, ends, recipes, kinds);
-    refuse_if(!(files & moves & scans), 3, 0)
-}
-
-// The lines after the moves, where the size of B is b.
-fn put_tail(
-    out: &mut [u8],
-    at: usize,
-    f: Figures,
-    b: u64,
-    gains: &[i32],
-    sides: &[u16],
-    marks: &[u16],
-) -> usize
-    requires { (length marks.now ≡ length sides.now) × Ahead at (figure_bytes + gain_bytes * length gains.now + length sides.now) }
-    ensures laid { Laid at (tail_lines f b gains.now sides.now marks.now) out.old result out.new }
-    ensures upper_bound { result ≤ at + (figure_bytes + gain_bytes * length gains.now + length sides.now) }
-{
-    let mut next = put_gains(out, at, gains);
-    next = put_form(
-        out,
-        next,
-        b"cut 0 1\nsize 2 3\ntried 4\nkept 5\nscans 6\nvisits 7\n",
-        &[
-            f.before as u64,
-            f.cut as u64,
-            f.size,
-            b,
-            f.tried,
-            f.kept,
-            f.scans,
-            f.visits,
-        ],
-    );
-    put_sides(out, next, sides, marks)
-}
-
-pub(crate) fn put_pass(
-    out: &mut [u8],
-    f: Figures,
-    sizes: &[u16],
-    sides: &[u16],
-    marks: &[u16],
-    gains: &[i32],
-    tried: &[u16],
-    gained: &[i32],
-    cuts: &[u16],
-    ends: &[u16],
-    recipes: &[u16],
-    kinds: &[u16],
-) -> usize
-    requires fact { EachFile Job.MOST_FILES sizes.now sides.now marks.now }
-    requires kinds_value { holds_pass sizes.now f (listing_of gains.now tried.now gained.now cuts.now ends.now recipes.now kinds.now) ≡ true }
-    ensures laid { Laid 0 (pass_lines (of_files sizes.now marks.now) f sides.now (listing_of gains.now tried.now gained.now cuts.now ends.now recipes.now kinds.now)) out.old result out.new }
-    ensures upper_bound { result ≤ trace_bytes (length sizes.now) (length recipes.now) }
-{
-    let b = size_on(sizes, sides, marks, 1);
-    let mut next = put_first(out, f.unread, f.holding);
-    next = put_moves(
-        out,
-        next,
-        f.tried as usize,
-        tried,
-        gained,
-        cuts,
-        ends,
-        recipes,
-        kinds,
-    );
-    put_tail(out, next, f, b, gains, sides, marks)
 }

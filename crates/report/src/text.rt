@@ -1,63 +1,68 @@
-// Text laid into a lent room from a position on, as far as the room reaches. Each writer hands back the position after its
-// text, so that one lent no room counts.
-ghost use Rattle.std.specs.Prelude.{[], ◌∷◌, ◌+◌, ◌≤◌, length};
-ghost use Rattle.rules.specs.Report.{digits};
-ghost use Rattle.report.specs.Laying.{Ahead, Near, Laid, shown, longest, widest, filled};
+// Text laid into a lent room from a position on, as far as the room reaches. The position goes on past what does not fit, so
+// that text laid into no room is counted.
+// `write!` does not do: `fmt::Write` says what an `Ok` has written and never that it comes, but every answer is to be told.
+ghost use Rattle.std.specs.Prelude.{◌≡◌, [], ◌∷◌, length};
+ghost use Rattle.report.specs.Laying.{Ahead, filled, longest, shown, widest};
+ghost use Rattle.report.specs.Writing.{Wrote};
 
-pub(crate) fn put(out: &mut [u8], at: usize, byte: u8) -> usize
-    requires { Near at (byte ∷ []) }
-    ensures { Laid at (byte ∷ []) out.old result out.new }
-{
-    if at < out.len() {
-        out[at] = byte;
-    }
-    at + 1
+use itoa::{Buffer, Integer};
+
+#[derive(Drop)]
+pub(crate) struct Text<'a> {
+    pub room: &'a mut [u8],
+    pub at: usize,
 }
 
-// In decimal.
-pub(crate) fn put_number(out: &mut [u8], at: usize, n: u64) -> usize
-    requires { Near at (digits n) }
-    ensures { Laid at (digits n) out.old result out.new }
-{
-    if n < 10 {
-        return put(out, at, 48 + n as u8);
+impl Text<'_> {
+    pub fn put(&mut self, byte: u8)
+        requires { Ahead self.old.at 1 }
+        ensures { Wrote (byte ∷ []) 1 self.old self.new }
+    {
+        if self.at < self.room.len() {
+            self.room[self.at] = byte;
+        }
+        self.at += 1;
     }
-    let last = put_number(out, at, n / 10);
-    put(out, last, 48 + (n % 10) as u8)
-}
 
-// A byte of a form: the number that it stands for, or itself.
-fn put_part(out: &mut [u8], at: usize, byte: u8, numbers: &[u64]) -> usize
-    requires { Ahead at (widest (length numbers.now) byte) }
-    ensures laid { Laid at (shown numbers.now byte) out.old result out.new }
-    ensures upper_bound { result ≤ at + widest (length numbers.now) byte }
-{
-    // A digit's value; that of any other byte of a text is over 9.
-    let i = (byte as usize + 208) % 256;
-    if i < numbers.len() {
-        return put_number(out, at, numbers[i]);
+    // As it is.
+    pub fn plain(&mut self, text: &[u8])
+        requires { Ahead self.old.at (length text.now) }
+        ensures { Wrote text.now (length text.now) self.old self.new }
+    {
+        for byte in text {
+            self.put(*byte);
+        }
     }
-    put(out, at, byte)
-}
 
-// A text in which each digit stands for the number at its place.
-pub(crate) fn put_form(out: &mut [u8], at: usize, form: &[u8], numbers: &[u64]) -> usize
-    requires { Ahead at (longest (length numbers.now) form.now) }
-    ensures laid { Laid at (filled numbers.now form.now) out.old result out.new }
-    ensures upper_bound { result ≤ at + longest (length numbers.now) form.now }
-{
-    let mut next = at;
-    let mut i = 0;
-    while i < form.len() {
-        next = put_part(out, next, form[i], numbers);
-        i += 1;
+    // In decimal, with its sign where it is below zero.
+    pub fn number<I: Integer>(&mut self, n: I)
+        requires { Ahead self.old.at (length (I.text n)) }
+        ensures { Wrote (I.text n) (length (I.text n)) self.old self.new }
+    {
+        let mut digits = Buffer::new();
+        self.plain(digits.format(n).as_bytes());
     }
-    next
-}
 
-pub(crate) fn put_text(out: &mut [u8], at: usize, text: &[u8]) -> usize
-    requires { Near at text.now }
-    ensures { Laid at text.now out.old result out.new }
-{
-    put_form(out, at, text, &[])
+    // A byte of a form: the number that it stands for, or itself.
+    fn part(&mut self, byte: u8, numbers: &[u64])
+        requires { Ahead self.old.at (widest (length numbers.now) byte) }
+        ensures { Wrote (shown numbers.now byte) (widest (length numbers.now) byte) self.old self.new }
+    {
+        // A digit's value; that of any other byte of a text is over 9.
+        let value = byte.wrapping_sub(b'0') as usize;
+        match numbers.get(value) {
+            Some(n) => self.number(*n),
+            None => self.put(byte),
+        }
+    }
+
+    // A text in which each digit stands for the number at its place.
+    pub fn form(&mut self, form: &[u8], numbers: &[u64])
+        requires { Ahead self.old.at (longest (length numbers.now) form.now) }
+        ensures { Wrote (filled numbers.now form.now) (longest (length numbers.now) form.now) self.old self.new }
+    {
+        for byte in form {
+            self.part(*byte, numbers);
+        }
+    }
 }

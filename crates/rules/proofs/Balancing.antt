@@ -12,7 +12,7 @@ use lib.ListN.{length, get_or, take}
 use lib.Seq.{take-length}
 use borrow.Author.Tests.{eqb-false, leb-true, le-leb, le-ltb, eq-eqb, ne_eqb}
 use Rattle.rules.specs.declared.Verdict.{Verdict}
-use Rattle.rules.specs.declared.BalanceFigures.{BalanceFigures}
+use Rattle.rules.specs.Numbers.{BalanceFigures}
 use Rattle.rules.specs.Lists.{listed}
 use Rattle.rules.specs.Job.{Job, Limits, file_count, recipe_count, pin_count, files, recipes, scratch_for}
 use Rattle.rules.specs.Split.{side_of, cut, gain, is_free, weight, smax, size_on, size_a, balanced}

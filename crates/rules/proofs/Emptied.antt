@@ -11,8 +11,8 @@ use lib.Dec.{leb}
 use lib.ListN.{length}
 use borrow.Author.Tests.{leb-true, leb-false, le-leb, le-ltb, eq-eqb}
 use Rattle.rules.specs.declared.Verdict.{Verdict}
-use Rattle.rules.specs.declared.Figures.{Figures}
-use Rattle.rules.specs.declared.RunFigures.{RunFigures}
+use Rattle.rules.specs.Numbers.{Figures}
+use Rattle.rules.specs.Numbers.{RunFigures}
 use Rattle.rules.specs.declared.Difference.{Difference}
 use Rattle.rules.specs.Lists.{total, count, those, largest, up_to, lowest, padded, onto}
 use Rattle.rules.specs.Job.{Job, Limits, limits_of, view_of, files, views, read_in, recipes, Lent, scratch_for, fits}

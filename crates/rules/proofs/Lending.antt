@@ -11,8 +11,8 @@ use lib.ListN.{length, replicate, length-replicate}
 use borrow.Author.Tests.{le-leb, eq-eqb}
 use Rattle.rules.specs.declared.Verdict.{Verdict}
 use Rattle.rules.specs.declared.Header.{Header}
-use Rattle.rules.specs.declared.Figures.{Figures}
-use Rattle.rules.specs.declared.RunFigures.{RunFigures}
+use Rattle.rules.specs.Numbers.{Figures}
+use Rattle.rules.specs.Numbers.{RunFigures}
 use Rattle.rules.specs.Job.{Job, Limits, file_count, recipe_count, pin_count, scratch_for, scratch_numbers, fits}
 use Rattle.rules.specs.Check.{done, Rows, ◌followed_by◌, row, first_given, count_rows, content_rows, rest_rows, bad_k, over_most, check_counts, check_rest, check, is_edition, edition_rows, check_edition, check_lent}
 use Rattle.rules.specs.Stored.{header_of, block_count, block_rows, further_rows, job_of, roomy, under_one, wrong_total, layout_rows, read_verdict}

@@ -60,3 +60,6 @@ pub mod Orders
 pub mod Levels
 pub mod LevelsProved
 pub mod LevelsWorked
+pub mod CasesOne
+pub mod Exits
+pub mod Chains

@@ -12,9 +12,9 @@ use lib.ListN.{length, get_or, replicate, length-replicate, get_or-replicate, ge
 use borrow.Author.Tests.{le-ltb, le-leb, eq-eqb}
 use Rattle.rules.specs.declared.Verdict.{Verdict}
 use Rattle.rules.specs.declared.Header.{Header}
-use Rattle.rules.specs.declared.Figures.{Figures}
-use Rattle.rules.specs.declared.RunFigures.{RunFigures}
-use Rattle.rules.specs.declared.BalanceFigures.{BalanceFigures}
+use Rattle.rules.specs.Numbers.{Figures}
+use Rattle.rules.specs.Numbers.{RunFigures}
+use Rattle.rules.specs.Numbers.{BalanceFigures}
 use Rattle.rules.specs.Lists.{onto, listed}
 use Rattle.rules.specs.Job.{Job, Limits, file_count, recipe_count, pin_count, Lent, recipes, fits, scratch_for}
 use Rattle.rules.specs.Split.{cut, size_a, unread_files, unread_recipes}

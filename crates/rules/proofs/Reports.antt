@@ -11,9 +11,9 @@ use lib.ListN.{length, get_or}
 use lib.Dec.{leb, ltb, eqb}
 use borrow.Author.Tests.{leb-true, leb-false, le-ltb, le-leb, eq-eqb, ne_eqb}
 use Rattle.rules.specs.declared.Verdict.{Verdict}
-use Rattle.rules.specs.declared.Figures.{Figures}
-use Rattle.rules.specs.declared.RunFigures.{RunFigures}
-use Rattle.rules.specs.declared.Printed.{Printed}
+use Rattle.rules.specs.Numbers.{Figures}
+use Rattle.rules.specs.Numbers.{RunFigures}
+use Rattle.rules.specs.Numbers.{Printed}
 use Rattle.rules.specs.Lists.{some_below, onto}
 use Rattle.rules.specs.Job.{Job, Limits, file_count, files, Lent, fits}
 use Rattle.rules.specs.Split.{size_on}

@@ -7,7 +7,7 @@ use mathlib.Core.List.{List, [], ◌∷◌}
 use native.Mathlib.Omega.{arith}
 use borrow.Author.Tests.{eq-eqb, ne_eqb}
 use Rattle.rules.specs.declared.Verdict.{Verdict}
-use Rattle.rules.specs.declared.RunFigures.{RunFigures}
+use Rattle.rules.specs.Numbers.{RunFigures}
 use Rattle.rules.specs.Lists.{AllBelow}
 use Rattle.rules.specs.Job.{Job, Limits, TwoByte}
 use Rattle.rules.specs.Split.{cut, balanced}

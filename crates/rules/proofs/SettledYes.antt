@@ -10,7 +10,7 @@ use lib.Dec.{leb, eqb}
 use lib.ListN.{length, get_or}
 use borrow.Author.Tests.{eqb-true, eq-eqb}
 use Rattle.rules.specs.declared.Verdict.{Verdict}
-use Rattle.rules.specs.declared.RunFigures.{RunFigures}
+use Rattle.rules.specs.Numbers.{RunFigures}
 use Rattle.rules.specs.Lists.{total, count, those, largest, up_to, best_up_to, diff}
 use Rattle.rules.specs.Job.{Job, Limits, limits_of, file_count, recipe_count, view_of, files, views, read_in, recipes, Lent, scratch_for, fits}
 use Rattle.rules.specs.Split.{count_on, is_cut, cut, times, alone, together, gain, unread_files, unread_recipes, weight, smax, size_on, size_a, balanced}

@@ -3,7 +3,7 @@
 use Rattle.std.specs.Prelude.{ℕ, ◌*◌, Bool, true, false, not, cond, ◌&&◌, ◌||◌, List, [], ◌∷◌, ◌++◌, length, leb}
 use Rattle.std.proofs.Math.Option.{Option, none, some}
 use Rattle.rules.specs.declared.Verdict.{Verdict}
-use Rattle.rules.specs.declared.BalanceFigures.{BalanceFigures}
+use Rattle.rules.specs.Numbers.{BalanceFigures}
 use Rattle.rules.specs.Lists.{bit, total, listed}
 use Rattle.rules.specs.Job.{Job, Limits, file_count, files, recipes, scratch_for}
 use Rattle.rules.specs.Split.{on_side, cut, gain, is_free, weighs, unread_files, unread_recipes, weight, tolerance, size_a, large_enough, small_enough}

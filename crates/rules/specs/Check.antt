@@ -1,7 +1,7 @@
 -- Document 01, "Numbers for no": its table, row by row, and the check of a job: the first row that is given, in the order 1 to 8, 10 and 9. Assumes nothing.
 use Rattle.std.specs.Prelude.{ℕ, suc, ◌+◌, ◌*◌, Bool, true, false, not, cond, ◌&&◌, ◌||◌, length, get_or, leb, ltb, eqb}
 use Rattle.rules.specs.declared.Verdict.{Verdict}
-use Rattle.rules.specs.declared.Measure.{Measure}
+use Rattle.rules.specs.Numbers.{Measure}
 use Rattle.rules.specs.Lists.{count, lowest, some_below}
 use Rattle.rules.specs.Job.{Job, Limits, file_count, recipe_count, pin_count, bound, pin, files, recipes, Lent, fits}
 use Rattle.rules.specs.Split.{size_of, is_free, unread_files, unread_recipes, weight, tolerance, size_a, balanced, cut}

@@ -4,7 +4,7 @@ use Rattle.std.specs.Prelude.{ℕ, ◌+◌, ◌*◌, max, Bool, true, false, con
 use Rattle.rules.specs.declared.Verdict.{Verdict}
 use Rattle.rules.specs.declared.Header.{Header}
 use Rattle.rules.specs.declared.Difference.{Difference}
-use Rattle.rules.specs.declared.Compared.{Compared}
+use Rattle.rules.specs.Numbers.{Compared}
 use Rattle.rules.specs.Lists.{in_turn, onto}
 use Rattle.rules.specs.Job.{Job, Limits, file_count, recipe_count, view}
 use Rattle.rules.specs.Split.{side_of, size_of}

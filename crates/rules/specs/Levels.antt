@@ -2,7 +2,7 @@
 use Rattle.std.specs.Prelude.{ℕ, ◌-◌, Bool, false, true, not, cond, ◌&&◌, ◌||◌, List, [], ◌∷◌, ltb, eqb, ℤ}
 use Rattle.std.proofs.Math.Option.{Option}
 use Rattle.std.specs.Int.Signed.{lt_z}
-use Rattle.rules.specs.declared.Figures.{Figures}
+use Rattle.rules.specs.Numbers.{Figures}
 use Rattle.rules.specs.Lists.{count, diff}
 use Rattle.rules.specs.Job.{Job, file_count, recipes}
 use Rattle.rules.specs.Split.{other, side_of, on_side, holds}

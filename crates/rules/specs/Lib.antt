@@ -1,3 +1,4 @@
+pub mod Numbers
 pub mod Lists
 pub mod Job
 pub mod Check
@@ -11,6 +12,7 @@ pub mod Report
 pub mod Trace
 pub mod Writing
 pub mod Balance
+pub mod Cases
 pub mod Unread
 pub mod Marked
 pub mod Theorems

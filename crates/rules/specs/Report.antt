@@ -3,8 +3,8 @@ use Rattle.std.specs.Prelude.{ℕ, zero, suc, ◌+◌, ◌*◌, ◌/◌, ◌%◌
 use Prim.Native.Char.{code}
 use Prim.Native.String.{String, [] as nil, ◌∷◌ as cons}
 use Rattle.rules.specs.declared.Verdict.{Verdict}
-use Rattle.rules.specs.declared.RunFigures.{RunFigures}
-use Rattle.rules.specs.declared.Printed.{Printed}
+use Rattle.rules.specs.Numbers.{RunFigures}
+use Rattle.rules.specs.Numbers.{Printed}
 use Rattle.rules.specs.Lists.{up_to, onto}
 use Rattle.rules.specs.Job.{Job, as_job, is_read, Limits, file_count, Lent, scratch_numbers}
 use Rattle.rules.specs.Split.{side_of, size_on}

@@ -1,8 +1,8 @@
 -- Document 01, "A run", and what a pass and a run answer and leave behind, refused or not. Assumes nothing.
 use Rattle.std.specs.Prelude.{ℕ, zero, suc, Bool, true, false, cond, List, [], ◌∷◌, length, eqb}
 use Rattle.rules.specs.declared.Verdict.{Verdict}
-use Rattle.rules.specs.declared.Figures.{Figures}
-use Rattle.rules.specs.declared.RunFigures.{RunFigures}
+use Rattle.rules.specs.Numbers.{Figures}
+use Rattle.rules.specs.Numbers.{RunFigures}
 use Rattle.rules.specs.Lists.{total}
 use Rattle.rules.specs.Job.{Job, Limits, recipes, Lent}
 use Rattle.rules.specs.Split.{cut}

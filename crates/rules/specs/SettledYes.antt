@@ -5,7 +5,7 @@
 -- moves from the split returned, and it did not lessen the cut: so no legal move would. And every pass before the last lessened the cut.
 use Rattle.std.specs.Prelude.{◌≡◌, ℕ, suc, ◌≤◌, ◌<◌, true, false, List, [], ◌∷◌, ◌++◌, length, get_or}
 use Rattle.std.specs.Int.Signed.{lt_z}
-use Rattle.rules.specs.declared.RunFigures.{RunFigures}
+use Rattle.rules.specs.Numbers.{RunFigures}
 use Rattle.rules.specs.Job.{Job, limits_of, Limits, file_count, recipes, Lent, fits}
 use Rattle.rules.specs.Split.{cut, gain, unread_files, unread_recipes, size_a}
 use Rattle.rules.specs.Check.{done, check_job}

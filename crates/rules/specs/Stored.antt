@@ -2,7 +2,7 @@
 use Rattle.std.specs.Prelude.{ℕ, zero, suc, ◌+◌, ◌-◌, ◌*◌, ◌/◌, ◌%◌, min, Bool, true, false, not, cond, ◌&&◌, List, [], ◌∷◌, map, length, get_or, take, drop, leb, ltb, eqb}
 use Rattle.rules.specs.declared.Verdict.{Verdict}
 use Rattle.rules.specs.declared.Header.{Header}
-use Rattle.rules.specs.declared.ReadFigures.{ReadFigures}
+use Rattle.rules.specs.Numbers.{ReadFigures}
 use Rattle.rules.specs.Lists.{up_to, some_below, onto}
 use Rattle.rules.specs.Job.{Job, Limits}
 use Rattle.rules.specs.Check.{is_done, Rows, none, ◌followed_by◌, row, first_given, count_rows, bad_k, content_rows}

@@ -1,6 +1,6 @@
 -- What the program `trace` prints: one pass, move by move, with the scans of each, as bytes. Assumes nothing.
 use Rattle.std.specs.Prelude.{ℕ, zero, suc, ◌+◌, ◌-◌, Bool, true, false, not, ◌&&◌, ◌||◌, List, [], ◌∷◌, ◌++◌, length, get_or, leb, ltb, eqb, ℤ, pos, negsuc}
-use Rattle.rules.specs.declared.Figures.{Figures}
+use Rattle.rules.specs.Numbers.{Figures}
 use Rattle.rules.specs.Lists.{some_below}
 use Rattle.rules.specs.Job.{Job, Limits, Lent}
 use Rattle.rules.specs.Check.{is_done}

@@ -3,7 +3,7 @@
 use Rattle.std.specs.Prelude.{ℕ, ◌+◌, ◌-◌, ◌*◌, ◌/◌, ◌%◌, Bool, true, false, not, cond, List, [], ◌∷◌, ◌++◌, map, length, get_or, leb, ltb, eqb}
 use Rattle.rules.specs.declared.Verdict.{Verdict}
 use Rattle.rules.specs.declared.Header.{Header}
-use Rattle.rules.specs.declared.Handed.{Handed}
+use Rattle.rules.specs.Numbers.{Handed}
 use Rattle.rules.specs.Lists.{up_to, in_turn, padded, onto}
 use Rattle.rules.specs.Job.{Job, Limits, file_count, recipe_count, pin_count, bound, pin}
 use Rattle.rules.specs.Split.{size_of}

@@ -1,6 +1,10 @@
-// The answers of document 01's calls, as every crate hands them back; specs/ says what each holds.
-// Nothing runs here: the crate is the meaning of document 01 and the theorems about it.
+// What document 01's calls answer: a `Result`, whose numbers are in specs/Numbers.antt.
+// Nothing runs here but the numbers of a refusal: the crate is the meaning of document 01 and the theorems about it.
 #![tactic(auto)]
+
+mod refusal;
+
+pub use refusal::{Refusal, numbered};
 
 // A number for no and its place; 0 and 0 is done.
 #[derive(Clone, Copy)]
@@ -11,18 +15,16 @@ pub struct Verdict {
 
 // The measure: the cut and |A| of a job as it stands, and the numbers of unread files and of recipes that hold one.
 #[derive(Clone, Copy)]
-pub struct Measure {
-    pub verdict: Verdict,
+pub struct Measured {
     pub cut: usize,
     pub size: u64,
     pub unread: usize,
     pub holding: usize,
 }
 
-// The answer of a pass: the cut before; the cut and |A| after; moves tried and kept, scans, visits; unread files and recipes that hold one.
+// What a pass answers: the cut before; the cut and |A| after; moves tried and kept, scans, visits; unread files and recipes that hold one.
 #[derive(Clone, Copy)]
-pub struct Figures {
-    pub verdict: Verdict,
+pub struct Passed {
     pub before: usize,
     pub cut: usize,
     pub size: u64,
@@ -34,10 +36,10 @@ pub struct Figures {
     pub holding: usize,
 }
 
-// The answer of a run: that of a pass, with the number of passes and settled besides.
+// What a run answers: its counts are sums over the passes; with the number of passes and settled besides.
 #[derive(Clone, Copy)]
-pub struct RunFigures {
-    pub figures: Figures,
+pub struct Ran {
+    pub figures: Passed,
     pub passes: u64,
     pub settled: bool,
 }
@@ -54,32 +56,16 @@ pub struct Header {
     pub k: u16,
 }
 
-// The answer of reading.
+// What a call that hands out answers: how many bytes go to standard output, and how many after them to standard error.
 #[derive(Clone, Copy)]
-pub struct ReadFigures {
-    pub verdict: Verdict,
-    pub header: Header,
-}
-
-// The answer of making a report: how many bytes it has.
-#[derive(Clone, Copy)]
-pub struct Printed {
-    pub verdict: Verdict,
-    pub bytes: usize,
-}
-
-// The answer of a call that hands out: how many bytes go to standard output, and how many after them to standard error.
-#[derive(Clone, Copy)]
-pub struct Handed {
-    pub verdict: Verdict,
+pub struct HandedOut {
     pub output: usize,
     pub errors: usize,
 }
 
-// The answer of balancing: the moves made, and the cut and |A| after them; unread files and recipes that hold one.
+// What balancing answers: the moves made, and the cut and |A| after them; unread files and recipes that hold one.
 #[derive(Clone, Copy)]
-pub struct BalanceFigures {
-    pub verdict: Verdict,
+pub struct Balanced {
     pub moves: usize,
     pub cut: usize,
     pub size: u64,
@@ -94,12 +80,4 @@ pub struct Difference {
     pub number: u16,
     pub old: u16,
     pub new: u16,
-}
-
-// The answer of a comparison: the number of differences; or a refusal and the job that it is of, 1 or 2, or 0 where the lent list is too short, and then the number of records needed.
-#[derive(Clone, Copy)]
-pub struct Compared {
-    pub job: usize,
-    pub verdict: Verdict,
-    pub count: usize,
 }

@@ -1,4 +1,3 @@
-pub mod AnswerSoFar
 pub mod PassAfterPass
 pub mod RunNow
 pub mod RunOn

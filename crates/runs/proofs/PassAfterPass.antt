@@ -43,8 +43,10 @@ module _ (edition : ℕ) (job : Job) (l : Lent) (x y ms ns : List ℕ) (a : Move
       let gained = listed-again m (pos 0) (gains_when rs (start job x) ms) (gains_when rs (start job y) ns) l.gained (rw gains-length few) (rw gains-length few') in
       let cuts = listed-again m 0 (cuts_after rs (start job x) ms) (cuts_after rs (start job y) ns) l.cuts (rw cuts-length few) (rw cuts-length few') in
       let ends = listed-again m 0 (ends_from rs 0 (start job x) ms) (ends_from rs 0 (start job y) ns) l.ends (rw ends-length few) (rw ends-length few') in
-      let recipes = listed-again n 0 (map (λ s. s.recipe) (scans rs (start job x) ms)) (map (λ s. s.recipe) (scans rs (start job y) ns)) l.recipes (rw length-map c.scans) (rw length-map d.scans) in
-      let kinds = listed-again n 0 (map (λ s. s.kind) (scans rs (start job x) ms)) (map (λ s. s.kind) (scans rs (start job y) ns)) l.kinds (rw length-map c.scans) (rw length-map d.scans) in
+      let recipes = listed-again n 0 (map (λ s. s.recipe) (scans rs (start job x) ms)) (map (λ s. s.recipe) (scans rs (start job y) ns))
+      l.recipes (rw length-map c.scans) (rw length-map d.scans) in
+      let kinds = listed-again n 0 (map (λ s. s.kind) (scans rs (start job x) ms)) (map (λ s. s.kind) (scans rs (start job y) ns))
+      l.kinds (rw length-map c.scans) (rw length-map d.scans) in
       let scratch = listed-again (scratch_for edition job) 0 [] [] l.scratch (omega arith) (omega arith) in
       λ i. lent_of (pass_of job y ns).gains (tried i) (gained i) (cuts i) (ends i) (recipes i) (kinds i) (scratch i)
 

@@ -10,7 +10,7 @@ use lib.Dec.{ltb, eqb}
 use lib.ListN.{length, get_or, take}
 use lib.Seq.{take-suc, take-length}
 use borrow.Author.Tests.{ne_eqb, lt-ltb, ltb-true, not-true}
-use Rattle.rules.specs.declared.Figures.{Figures}
+use Rattle.rules.specs.Numbers.{Figures}
 use Rattle.rules.specs.Lists.{total}
 use Rattle.rules.specs.Job.{Job, Limits, file_count, recipes, Lent, fits}
 use Rattle.rules.specs.Split.{is_cut, cut, size_a, balanced}
@@ -92,7 +92,8 @@ module _ (edition : ℕ) {most : Limits} {job : Job} (ok : Accepted most job) (l
   run-holding : RunHoldsBy job (tries_by edition job)
   run-holding = (editions-hold most job s).run edition
 
-  take_more : (k : ℕ) → k < length (run_by edition job) → take (suc k) (run_by edition job) ≡ take k (run_by edition job) ++ (get_or (run_by edition job) k (first_pass edition job) ∷ [])
+  take_more : (k : ℕ) → k < length (run_by edition job) → take (suc k) (run_by edition job)
+      ≡ take k (run_by edition job) ++ (get_or (run_by edition job) k (first_pass edition job) ∷ [])
   take_more k h = take-suc (run_by edition job) k (first_pass edition job) h
 
   -- the last of the first passes is the one at their number less one
@@ -141,7 +142,8 @@ module _ (edition : ℕ) {most : Limits} {job : Job} (ok : Accepted most job) (l
         let q : k ≡ length (run_by edition job) = omega arith in
         let t = and_yes (not (settles (last_at edition job k))) (eqb job.cap 0 || ltb k job.cap) e in
         let whole : take k (run_by edition job) ≡ run_by edition job = ap (λ (i : ℕ). take i (run_by edition job)) q ∙ take-length (run_by edition job) in
-        let full : length (run_by edition job) ≡ job.cap = run-holding.full (ap (λ (ps : List Pass). settles (last_of (first_pass edition job) ps)) (sym whole) ∙ not-true (settles (last_at edition job k)) t.0) in
+        let full : length (run_by edition job) ≡ job.cap =
+        run-holding.full (ap (λ (ps : List Pass). settles (last_of (first_pass edition job) ps)) (sym whole) ∙ not-true (settles (last_at edition job k)) t.0) in
         absurd (cap-no job.cap k t.1 (omega arith) a)
   ]
     where
@@ -186,7 +188,8 @@ module _ (edition : ℕ) {most : Limits} {job : Job} (ok : Accepted most job) (l
       let same : q ≡ p = ap from r.standing ∙ sym (pass-there j h) in
       let again : Pass = first_pass edition (with_sides job sides) in
       let here : again ≡ q
-      = same-pass_of job sides sides (tries_by edition (with_sides job sides) sides) ∙ ap (λ (try : List ℕ → List ℕ). pass_of job sides (try sides)) ((editions-hold most job s).sideless edition sides) in
+      = same-pass_of job sides sides (tries_by edition (with_sides job sides) sides)
+      ∙ ap (λ (try : List ℕ → List ℕ). pass_of job sides (try sides)) ((editions-hold most job s).sideless edition sides) in
       let b = came r in
       let u = edition-holds edition most job s b.0 b.1.fit in
       let v = edition-holds edition most job s sides (starts-there r).fit in
@@ -198,7 +201,8 @@ module _ (edition : ℕ) {most : Limits} {job : Job} (ok : Accepted most job) (l
       record {
         some = omega arith;
         few = h;
-        sums = ap₂ plus_of r.sums answer ∙ sym (figures-more (first_pass edition job) (take (suc j) (run_by edition job)) p) ∙ ap (figures_of done (first_pass edition job)) (sym (take_more (suc j) h));
+        sums = ap₂ plus_of r.sums answer ∙ sym (figures-more (first_pass edition job) (take (suc j) (run_by edition job)) p)
+            ∙ ap (figures_of done (first_pass edition job)) (sym (take_more (suc j) h));
         equal = ap (λ (x : Figures). eqb x.cut x.before) answer ∙ one-settles p ∙ ap settles (sym last);
         standing = ap (λ (x : Ended Figures). x.sides) e ∙ ap (λ (x : Pass). x.sides_after) (here ∙ same ∙ sym last);
         lists = ap (λ (x : Ended Figures). x.lent) e ∙ left ∙ ap (leaves edition job l) (same ∙ sym last);
@@ -250,7 +254,8 @@ module _ (edition : ℕ) {most : Limits} {job : Job} (ok : Accepted most job) (l
         few-tried : (before : List ℕ) → length (tries_by edition job before) ≤ file_count job → length (from before).tried ≤ 65536
         few-tried before f = unfold pass_of in omega (arith, s.few_files, narrow.files)
 
-        few-kept : (before : List ℕ) → (from before).kept ≤ length (tries_by edition job before) → length (tries_by edition job before) ≤ file_count job → (from before).kept ≤ 65536
+        few-kept : (before : List ℕ) → (from before).kept ≤ length (tries_by edition job before) → length (tries_by edition job before) ≤ file_count job
+            → (from before).kept ≤ 65536
         few-kept before p f = omega (arith, s.few_files, narrow.files)
 
     sums_at : (k : ℕ) → k ≤ length (run_by edition job) → SumsSmall k (figures_of done (first_pass edition job) (take k (run_by edition job)))

@@ -1,9 +1,9 @@
 -- A run by an edition of the choice after its first k passes: the sums so far, and what the lists then hold. Assumes nothing.
-use Rattle.std.specs.Prelude.{◌≡◌, ℕ, ◌+◌, ◌≤◌, ◌<◌, ◌^◌, Bool, true, false, not, cond, ◌&&◌, ◌||◌, List, length, take, ltb, eqb}
-use Rattle.rules.specs.declared.Figures.{Figures}
-use Rattle.rules.specs.declared.RunFigures.{RunFigures}
+use Rattle.std.specs.Prelude.{◌≡◌, ℕ, ◌+◌, ◌≤◌, ◌<◌, ◌^◌, Bool, not, ◌&&◌, ◌||◌, List, length, take, ltb, eqb}
+use Rattle.rules.specs.Numbers.{Figures}
+use Rattle.rules.specs.Numbers.{RunFigures}
 use Rattle.rules.specs.Job.{Job, Lent}
-use Rattle.rules.specs.Check.{done, is_done}
+use Rattle.rules.specs.Check.{done}
 use Rattle.rules.specs.Pass.{Pass, leaves}
 use Rattle.rules.specs.Run.{settles, first_pass, run_by, last_pass, last_of, figures_of, run_figures_of, left_by, Ended}
 
@@ -24,24 +24,17 @@ plus_of sum f = record {
   holding = sum.holding;
 }
 
--- with one pass more; a refused pass is none
-unfoldable pub with_pass : RunFigures → Figures → RunFigures
-with_pass sum f = elim (is_done f.verdict) [
-  | true ↦ record {
-    figures = cond (eqb sum.passes 0) f (plus_of sum.figures f);
-    passes = sum.passes + 1;
-    settled = eqb f.cut f.before;
-  }
-  | false ↦ record { figures = f; passes = 0; settled = false }
-]
+-- after the first pass
+abbrev pub after_first : Figures → RunFigures
+after_first f = record { figures = f; passes = 1; settled = eqb f.cut f.before }
+
+-- with one pass more
+abbrev pub after_more : RunFigures → Figures → RunFigures
+after_more sum f = record { figures = plus_of sum.figures f; passes = sum.passes + 1; settled = eqb f.cut f.before }
 
 -- another pass follows: the last did not leave the cut equal, and the cap is not reached
 abbrev pub follows : ℕ → ℕ → Bool → Bool
 follows cap passes settled = not settled && (eqb cap 0 || ltb passes cap)
-
--- and none was refused
-abbrev pub goes_on : ℕ → RunFigures → Bool
-goes_on cap sum = is_done sum.figures.verdict && follows cap sum.passes sum.settled
 
 -- the sums can be added up
 pub record SumsFit (sum : Figures) : Type 0 where

@@ -4,42 +4,30 @@
 mod sums;
 
 ghost use Rattle.std.specs.Prelude.{◌≡◌};
-ghost use Rattle.rules.specs.Job.{limits_of, lent_of};
-ghost use Rattle.job.specs.Parts.{whole_job};
+ghost use Rattle.rules.specs.Cases.{as_run_figures};
 ghost use Rattle.rules.specs.Run.{ended_of, run_ends};
+ghost use Rattle.job.specs.Given.{the_limits, the_job, contents, SameLists};
 
-use job::Job;
-use rules::RunFigures;
-pub use sums::refused;
-use sums::{goes_on, no_pass, with_pass};
+use job::{Book, Job, Lent};
+use rules::{Ran, Refusal};
+use sums::{goes_on, with_first, with_pass};
 
-// Passes by an edition of the choice follow one another until one leaves the cut equal or the cap is reached, lent what one pass is.
+// Passes by an edition of the choice follow one another until one leaves the cut equal or the cap is reached, lent what one pass is. Only the first can be refused.
 pub fn run(
     edition: u16,
     job: Job,
-    sizes: &[u16],
+    book: Book,
     sides: &mut [u16],
-    marks: &[u16],
-    bounds: &[u16],
-    pins: &[u16],
-    gains: &mut [i32],
-    tried: &mut [u16],
-    gained: &mut [i32],
-    cuts: &mut [u16],
-    ends: &mut [u16],
-    recipes: &mut [u16],
-    kinds: &mut [u16],
-    scratch: &mut [u16],
-) -> RunFigures
-    ensures { ended_of result sides.new (lent_of gains.new tried.new gained.new cuts.new ends.new recipes.new kinds.new scratch.new) ≡ run_ends edition (limits_of Job.MOST_FILES Job.MOST_RECIPES Job.MOST_PINS Job.MOST_DEN) (whole_job job sizes.now sides.old marks.now bounds.now pins.now) (lent_of gains.old tried.old gained.old cuts.old ends.old recipes.old kinds.old scratch.old) }
+    lent: &mut Lent,
+) -> Result<Ran, Refusal>
+    ensures same_lists { SameLists lent.old lent.new }
+    ensures value { ended_of (as_run_figures result) sides.new (contents lent.new) ≡ run_ends edition the_limits (the_job job book.entry sides.old) (contents lent.old) }
 {
-    let mut sum = no_pass();
+    let mut sum = with_first(split::pass_once(edition, job, book, sides, lent)?);
+    // No walk: how many passes there are is known only once the last is made.
     while goes_on(job.cap, sum) {
-        let last = split::pass_once(
-            edition, job, sizes, sides, marks, bounds, pins, gains, tried, gained, cuts, ends,
-            recipes, kinds, scratch,
-        );
+        let last = split::pass_once(edition, job, book, sides, lent)?;
         sum = with_pass(sum, last);
     }
-    sum
+    Ok(sum)
 }

@@ -12,7 +12,7 @@ use lib.ListN.{length}
 use lib.Dec.{leb, eqb}
 use borrow.Author.Tests.{leb-true, le-leb}
 use Rattle.rules.specs.declared.Verdict.{Verdict}
-use Rattle.rules.specs.declared.Figures.{Figures}
+use Rattle.rules.specs.Numbers.{Figures}
 use Rattle.rules.specs.Lists.{bit, total, largest, up_to}
 use Rattle.rules.specs.Job.{Job, Limits, file_count, recipe_count, pin_count, files, is_read, Lent, lent_of, scratch_for, fits}
 use Rattle.rules.specs.Split.{size_of, is_free, weighs, unread_files, unread_recipes, weight, smax, tolerance}
@@ -27,7 +27,7 @@ use Rattle.rules.proofs.Verdicts.{chain-stop, zero_of, chain-go}
 use Rattle.rules.proofs.Refusals.{lent-chain}
 use Rattle.rules.proofs.Proved.{lent-sound, answers}
 use Rattle.job.specs.Survey.{check_for}
-use Rattle.job.specs.declared.figures.Survey.{Survey}
+use Rattle.job.specs.Survey.{Survey}
 use Rattle.tables.specs.LayingOut.{LaysOut}
 use Rattle.tables.proofs.Accepted.{Narrow, verdict-is, survey-is, let_through, wide-through}
 use Rattle.choice.specs.declared.window.Window.{Window}

@@ -10,21 +10,19 @@ use lib.Dec.{leb, ltb, eqb}
 use lib.IntN.{ℤ, pos}
 use lib.ListN.{length, get_or, take, set, replicate, length-replicate}
 use lib.Seq.{take-length}
-use borrow.Author.Tests.{leb-true, leb-false, le-leb, lt-leb, le-ltb, lt-ltb, eqb-true, eq-eqb}
-use Rattle.rules.proofs.Tests.{and_yes}
+use borrow.Author.Tests.{leb-true, leb-false, le-leb, lt-leb, le-ltb, lt-ltb, eq-eqb}
 use Rattle.rules.specs.declared.Verdict.{Verdict}
-use Rattle.rules.specs.declared.BalanceFigures.{BalanceFigures}
+use Rattle.rules.specs.Numbers.{BalanceFigures}
 use Rattle.rules.specs.Lists.{listed}
 use Rattle.rules.specs.Job.{Job, Limits, file_count, recipe_count, pin_count, recipes, Lent, lent_of, scratch_for, fits}
-use Rattle.rules.specs.Split.{side_of, on_side, size_of, cut, unread_files, unread_recipes, weight, tolerance, size_a}
+use Rattle.rules.specs.Split.{size_of, cut, unread_files, unread_recipes, weight, tolerance, size_a}
 use Rattle.rules.specs.Check.{done}
-use Rattle.rules.specs.Move.{State, moved, distance, greater, first_below, after}
+use Rattle.rules.specs.Move.{State, moved, distance, after}
 use Rattle.rules.specs.Balance.{too_large, too_small, heavy, balance_choice, balance_moves, balance_sides, balance_figures, no_balance_figures, balance_verdict, Balancing, balancing_of, balancing}
-use Rattle.rules.specs.Theorems.{Binary, Sound}
-use Rattle.rules.proofs.First.{first-ok}
+use Rattle.rules.specs.Theorems.{Sound}
 use Rattle.rules.proofs.Fits.{long-enough}
 use Rattle.rules.proofs.Verdicts.{zero_of}
-use Rattle.job.specs.declared.figures.Survey.{Survey}
+use Rattle.job.specs.Survey.{Survey}
 use Rattle.job.specs.Survey.{check_for}
 use Rattle.rules.proofs.MovesEnd.{moves_each}
 use Rattle.rules.proofs.Balance.{Toward, choice-stop, listed_same}
@@ -42,14 +40,14 @@ use Rattle.split.specs.declared.progress.Progress.{Progress}
 use Rattle.split.specs.OwnLists.{OwnLists}
 use Rattle.split.specs.Scanning.{Treated, treated}
 use Rattle.choice.specs.Choosing.{file_or}
-use Rattle.choice.specs.Heavy.{heavy_in, free_in, gain_in, greatest_in, greatest_file}
+use Rattle.choice.specs.Heavy.{heavy_in, greatest_in, greatest_file}
 use Rattle.choice.proofs.Leading.{greatest-fit}
 use Rattle.split.specs.Moving.{Board, board, begun, counted_on, treat_from, move_one}
 use Rattle.split.specs.Movable.{Movable}
-use Rattle.split.specs.Playing.{balanced_from}
+use Rattle.split.specs.Playing.{balanced_from, heavy_file}
 use Rattle.split.proofs.Going.{begins, stands, Going}
 use Rattle.split.proofs.Playable.{Playable, Measured, size_at_start, cut_at_start}
-use Rattle.split.proofs.NextMove.{Picked, stands-binary}
+use Rattle.split.proofs.NextMove.{Picked}
 use Rattle.split.proofs.ChoiceNow.{gains-long, gains-fresh}
 use Rattle.split.proofs.LentLists.{listed-none}
 use Rattle.split.proofs.MoveNow.{MoveFits}
@@ -81,19 +79,15 @@ heavy-is : (job : Job) (w : Window) → Measured job w → (a : ℕ) → side_or
 unfolding heavy too_large too_small
 heavy-is job w m a = rw (m.den, m.aim, m.span) (tests_agree (job.den * a) (job.num * weight job) (job.den * tolerance job))
 
--- ---- the choice by the lists
-
--- no file is on a third side
-no_third : (sides locks : List ℕ) (gains : List ℤ) (n : ℕ) → Binary sides → greatest_in 2 sides locks gains n ≡ none
-unfolding greatest_in
-no_third sides locks gains n b = go (first_below (free_in 2 sides locks) (greater (gain_in gains)) n) refl
+-- the side to move from is one of two
+heavy_two : (job : Job) (a u : ℕ) → heavy job a ≡ some u → eqb u 2 ≡ false
+unfolding heavy
+heavy_two job a u = go (too_large job a) (too_small job a)
   where
-    apart : (f : ℕ) → free_in 2 sides locks f ≡ true → ⊥
-    apart f e = omega (arith, b f, eqb-true (side_of sides f) 2 (and_yes (eqb (get_or locks f 0) 0) (on_side sides 2 f) e).1)
-
-    go : (o : Option ℕ) → first_below (free_in 2 sides locks) (greater (gain_in gains)) n ≡ o → o ≡ none
-    go none e = refl
-    go (some f) e = absurd (apart f (first-ok (free_in 2 sides locks) (greater (gain_in gains)) n f e).1)
+    go : (x y : Bool) → cond x (some 0) (cond y (some 1) none) ≡ some u → eqb u 2 ≡ false
+    go true y e = let is : 0 ≡ u = cc in rw (← is) refl
+    go false true e = let is : 1 ≡ u = cc in rw (← is) refl
+    go false false e = cc
 
 -- ---- the moves
 
@@ -148,34 +142,37 @@ module _ {job : Job} {l : Lent} {w : Window} {sides : List ℕ} {y : Treated} (u
 
   -- the choice where the side is known
   picks : (o : Option ℕ) → heavy job (size_a job st.sides) ≡ o
-      → file_or c (greatest_in (side_or o) st.sides st.locks y.scanned.gains c) ≡ file_or c (balance_choice job st)
+      → cond (eqb (side_or o) 2) (length sides) (greatest_file (side_or o) sides y.scratch y.scanned.gains) ≡ file_or c (balance_choice job st)
   unfolding greatest_in
-  picks none e = ap (file_or c) (no_third st.sides st.locks y.scanned.gains c (stands-binary (line u.under) k) ∙ sym (choice-stop job st e))
+  picks none e = (choosable u.under).sides ∙ ap (file_or c) (sym (choice-stop job st e))
   picks (some x) e =
+      let n : Choosable job b = choosable u.under in
       let way = toward-at may.most job may.sound may.wide k in
       let toward : Toward job x st = subst (λ (t : ℕ). Toward job t st) (sym (way.way x e)) way in
-      ap (file_or c) (listed_same job x st y.scanned.gains toward e (ap length g.gains ∙ gains-long (line u.under) k) (rw g.gains (gains-fresh (line u.under) k)))
+      rw (heavy_two job (size_a job st.sides) x e)
+      (greatest-fit x sides y.scratch y.scanned.gains (n.gains ∙ sym n.sides) (omega (arith, n.sides, n.locks))
+      ∙ ap (λ (m : ℕ). file_or m (greatest_in x sides (take m y.scratch) y.scanned.gains m)) n.sides
+      ∙ ap₂ (λ (v z : List ℕ). file_or c (greatest_in x v z y.scanned.gains c)) g.sides g.locks
+      ∙ ap (file_or c) (listed_same job x st y.scanned.gains toward e (ap length g.gains ∙ gains-long (line u.under) k) (rw g.gains (gains-fresh (line u.under) k))))
 
-  module _ {side f : ℕ} (heavier : side ≡ heavy_in w y.scanned.progress.size)
-      (greatest : f ≡ greatest_file side sides y.scratch y.scanned.gains) where
-    side-is : side ≡ side_or (heavy job (size_a job st.sides))
-    side-is = heavier ∙ ap (heavy_in w) g.progress.size ∙ sym (heavy-is job w may.measured (size_a job st.sides))
+  side-is : heavy_in w y.scanned.progress.size ≡ side_or (heavy job (size_a job st.sides))
+  side-is = ap (heavy_in w) g.progress.size ∙ sym (heavy-is job w may.measured (size_a job st.sides))
 
+  module _ {f : ℕ} (picked : f ≡ heavy_file w y.scanned.progress.size sides y.scratch y.scanned.gains) where
     file-is : f ≡ file_or c (balance_choice job st)
     file-is =
-        let o : Choosable job b = choosable u.under in
-        greatest
-        ∙ greatest-fit side sides y.scratch y.scanned.gains (o.gains ∙ sym o.sides) (omega (arith, o.sides, o.locks))
-        ∙ ap (λ (n : ℕ). file_or n (greatest_in side sides (take n y.scratch) y.scanned.gains n)) o.sides
-        ∙ ap₂ (λ (x z : List ℕ). file_or c (greatest_in side x z y.scanned.gains c)) g.sides g.locks
-        ∙ ap (λ (x : ℕ). file_or c (greatest_in x st.sides st.locks y.scanned.gains c)) side-is
+        picked
+        ∙ ap (λ (side : ℕ). cond (eqb side 2) (length sides) (greatest_file side sides y.scratch y.scanned.gains)) side-is
         ∙ picks (heavy job (size_a job st.sides)) refl
 
     chose : Chose job ms b f
     chose = record { pick = λ i. balance_choice job (stands job ms i); picked = balance-picked may.most job may.sound may.wide; file = file-is }
 
     -- a file: it is moved
-    module _ (h : f < c) where
+    module _ (is : f < length sides) where
+      h : f < c
+      h = omega (arith, is, (choosable u.under).sides)
+
       pub balance-safe : Movable job.sizes job.bounds job.pins f sides y
       balance-safe = playing-safe u.under chose h
 
@@ -204,9 +201,9 @@ module _ {job : Job} {l : Lent} {w : Window} {sides : List ℕ} {y : Treated} (u
         }
 
     -- none: the moves have ended
-    module _ (h : c ≤ f) where
+    module _ (none_is : f ≡ length sides) where
       over : Going job ms l (length ms) b
-      over = playing-end u.under chose h
+      over = playing-end u.under chose (omega (arith, none_is, (choosable u.under).sides))
 
       all_made : stands job ms (length ms) ≡ after (begins job) ms
       all_made = ap (after (begins job)) (take-length ms)
@@ -260,7 +257,7 @@ module _ (most : Limits) (job : Job) (gains : List ℤ) (rs kinds scratch : List
   verdict-same = word-late true most job (fits 1 job l) (leb (scratch_for 1 job) (length scratch)) own-fit
 
   -- of the move lists only the lengths are told
-  abbrev own_lengths : ListLengths
+  abbrev pub own_lengths : ListLengths
   own_lengths = record { tried = file_count job; gained = file_count job; cuts = file_count job; ends = file_count job; recipes = length rs; kinds = length kinds }
 
   own-word : fits_of 1 (file_count job) (recipe_count job) (pin_count job) (length gains) (length scratch) own_lengths ≡ fits 1 job l

@@ -34,14 +34,14 @@ use Rattle.choice.specs.declared.window.Window.{Window}
 use Rattle.tables.specs.Zones.{state_in}
 use Rattle.tables.specs.Ending.{turned}
 use Rattle.split.specs.Moving.{Board}
-use Rattle.split.specs.Links.{links_long, shape_of, links_in, followed_by}
+use Rattle.split.specs.Links.{links_long, shape_of, links_in, touched_by, followed_by}
 use Rattle.split.proofs.Going.{links_from, begins, made, stands, Line, Going}
 use Rattle.split.proofs.ChoiceNow.{gains-long, gains-fresh}
 use Rattle.split.proofs.NextMove.{Next, stands-long}
 use Rattle.split.proofs.Played.{moves_of, line}
 use Rattle.split.proofs.PassMoves.{pass_moves, buckets_now}
 use Rattle.split.proofs.Choosing.{PassUnderway, now, good, seen, held-free}
-use Rattle.split.proofs.LinksKept.{touched_by, touched-told, out-times, standing-in, followed-stands}
+use Rattle.split.proofs.LinksKept.{touched-told, out-times, standing-in, followed-stands}
 
 -- what holds of each change holds of each file changed
 in-every : (d : Change) (P : ℕ → Type 0) (cs : List Change) → Every d (λ c. P c.file) cs → (x : ℕ) → x ∈ map (λ c. c.file) cs → P x

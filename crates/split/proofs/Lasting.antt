@@ -1,20 +1,18 @@
--- A scan where its kind is not 0, a recipe and a list of recipes treated: lists keep their length, scans and visits only grow,
+-- A scan where there is a kind, a recipe and a list of recipes treated: lists keep their length, scans and visits only grow,
 -- so what fits at the end fits on the way; the counts that change lie above the locks. Assumes nothing.
-use mathlib.Core.Path.{◌≡◌, refl, sym, ap₂, subst, ◌∙◌}
+use mathlib.Core.Path.{◌≡◌, refl, ◌∙◌}
 use Prim.Native.Nat.{ℕ, ◌+◌, ◌*◌, ◌≤◌, ◌<◌, ◌^◌}
 use mathlib.Core.List.{List}
-use native.Mathlib.Decide.{ℕ_discrete}
 use native.Mathlib.Omega.{arith}
-use borrow.Author.Tests.{eq-eqb, ne_eqb}
 use lib.IntN.{ℤ}
-use lib.ListN.{length, set, length-set}
-use Rattle.rules.specs.Move.{State, scan_pins}
-use Rattle.split.specs.declared.progress.Progress.{Progress}
+use lib.ListN.{length, length-set}
+use Rattle.rules.specs.Move.{State}
 use Rattle.split.specs.declared.scan.Way.{Way}
 use Rattle.rules.proofs.GainKept.{scan-length}
 use Rattle.tables.proofs.Parts.{part-set-above}
 use Rattle.tables.specs.Zones.{part}
-use Rattle.split.specs.Scanning.{visited_by, Scanned, scanned, scan_if, NearVisits, RoomFor, Fits, kind_there, count_t, locked_t, count_f, Treated, recount, treat_one, Treatable}
+use Rattle.std.specs.Prelude.{Option, None, Some}
+use Rattle.split.specs.Scanning.{visited_by, Scanned, scan_if, NearVisits, RoomFor, Fits, kinds_now, count_t, locked_t, count_f, Treated, recount, treat_one, Treatable}
 use Rattle.split.proofs.ScanLaws.{scan-abs}
 
 -- ---- what comes later: lists as long, and no fewer scans and visits
@@ -60,37 +58,18 @@ pub record Scannable (x : Scanned) (n : ℕ) : Type 0 where
   pub kinds : x.progress.scans < length x.kinds
   pub visits : x.progress.visits + n ≤ 2 ^ 30
 
-module _ (st : State) (t j : ℕ) (r : List ℕ) (kind : ℕ) (x : Scanned) where
-  abbrev scan_made : Scanned
-  scan_made = scanned (scan_pins st t kind r x.gains) (set x.recipes x.progress.scans j) (set x.kinds x.progress.scans kind) (visited_by x.progress (length r))
+module _ (st : State) (t j : ℕ) (r : List ℕ) where
+  pub scan-fits : {kind : Option ℕ} {k : ℕ} {x : Scanned} → kind ≡ Some k → Fits (scan_if st t j r kind x) → Scannable x (length r)
+  scan-fits {k} {x} e fits = let f : Fits (scan_if st t j r (Some k) x) = rw e at fits in unfold scan_if visited_by in record {
+    recipes = omega (arith, f.recipes, length-set x.recipes x.progress.scans j);
+    kinds = omega (arith, f.kinds, length-set {A = ℕ});
+    visits = f.visits;
+  }
 
-  pub scan-none : kind ≡ 0 → scan_if st t j r kind x ≡ x
-  unfolding scan_if
-  scan-none e = rw (eq-eqb kind 0 e)
-
-  scan-made : (kind ≡ 0 → ⊥) → scan_if st t j r kind x ≡ scan_made
-  unfolding scan_if
-  scan-made n = rw (ne_eqb kind 0 n)
-
-  -- the code's two steps: the gains scanned, and the record with one scan more
-  pub scan-done : {g : List ℤ} {p : Progress} → (kind ≡ 0 → ⊥) → g ≡ scan_pins st t kind r x.gains → p ≡ visited_by x.progress (length r)
-      → scanned g (set x.recipes x.progress.scans j) (set x.kinds x.progress.scans kind) p ≡ scan_if st t j r kind x
-  scan-done n e f =
-      ap₂ (λ (g : List ℤ) (p : Progress). scanned g (set x.recipes x.progress.scans j) (set x.kinds x.progress.scans kind) p) e f ∙ sym (scan-made n)
-
-  pub scan-fits : (kind ≡ 0 → ⊥) → Fits (scan_if st t j r kind x) → Scannable x (length r)
-  unfolding visited_by
-  scan-fits n f =
-      let m : Fits scan_made = subst Fits (scan-made n) f in
-      record {
-        recipes = omega (arith, m.recipes, length-set x.recipes x.progress.scans j);
-        kinds = omega (arith, m.kinds, length-set x.kinds x.progress.scans kind);
-        visits = m.visits;
-      }
-
-  later-made : Later x scan_made
-  unfolding visited_by
-  later-made = record {
+  pub later-if : (kind : Option ℕ) (x : Scanned) → Later x (scan_if st t j r kind x)
+  unfolding scan_if visited_by
+  later-if None x = later_same x
+  later-if (Some kind) x = record {
     gains = scan-length st t kind r x.gains;
     recipes = length-set x.recipes x.progress.scans j;
     kinds = length-set x.kinds x.progress.scans kind;
@@ -98,21 +77,10 @@ module _ (st : State) (t j : ℕ) (r : List ℕ) (kind : ℕ) (x : Scanned) wher
     visits = omega arith;
   }
 
-  near-made : GainsNear x → GainsNear scan_made
-  unfolding visited_by
-  near-made h = record { near = λ f. omega (arith, h.near f, scan-abs st t kind r x.gains f) }
-
-  pub later-if : Later x (scan_if st t j r kind x)
-  later-if = elim (ℕ_discrete kind 0) [
-    | yes e ↦ subst (Later x) (sym (scan-none e)) (later_same x)
-    | no n ↦ subst (Later x) (sym (scan-made n)) later-made
-  ]
-
-  pub near-if : GainsNear x → GainsNear (scan_if st t j r kind x)
-  near-if h = elim (ℕ_discrete kind 0) [
-    | yes e ↦ subst (λ (y : Scanned). GainsNear y) (sym (scan-none e)) h
-    | no n ↦ subst (λ (y : Scanned). GainsNear y) (sym (scan-made n)) (near-made h)
-  ]
+  pub near-if : (kind : Option ℕ) (x : Scanned) → GainsNear x → GainsNear (scan_if st t j r kind x)
+  unfolding scan_if visited_by
+  near-if None x h = h
+  near-if (Some kind) x h = record { near = λ f. omega (arith, h.near f, scan-abs st t kind r x.gains f) }
 
 -- ---- one recipe
 
@@ -131,7 +99,7 @@ module _ (way : Way) (j : ℕ) (z : List ℕ) where
 
 module _ (st : State) (way : Way) (j : ℕ) (r z : List ℕ) (x : Scanned) where
   abbrev first : Scanned
-  first = scan_if st way.side j r (kind_there (count_t way j z) (locked_t way j z)) x
+  first = scan_if st way.side j r (kinds_now way j z).first x
 
   abbrev both_scans : Treated
   both_scans = treat_one st way j r (record { scratch = z; scanned = x })

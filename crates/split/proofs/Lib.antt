@@ -24,11 +24,12 @@ pub mod LinksKept
 pub mod Following
 pub mod PassSteps
 pub mod PassOnce
-pub mod Shifts
 pub mod ScanLaws
 pub mod Lasting
 pub mod Turns
 pub mod OneMove
+pub mod Passing
 pub mod Accepting
+pub mod PassGoes
 pub mod Balanced
 pub mod Unique

@@ -1,12 +1,12 @@
 -- What entering, choosing and following leave of the scratch; and that after a move the links stand for the free files, as before it. Assumes nothing.
 use mathlib.Core.Path.{◌≡◌, refl, sym, ap, ap₂, ◌∙◌}
-use mathlib.Core.Logic.{◌⊎◌, inl, inr, ◌≢◌}
+use mathlib.Core.Logic.{inl, inr, ◌≢◌}
 use Prim.Native.Nat.{ℕ, zero, suc, ◌+◌, ◌≤◌, ◌<◌}
 use mathlib.Core.Bool.{Bool, true, false, not, cond}
 use mathlib.Core.List.{List, [], ◌∷◌, ◌++◌, map, map-append}
 use native.Mathlib.Decide.{ℕ_discrete}
 use native.Mathlib.Omega.{arith}
-use lib.ListN.{length, get_or, set, drop}
+use lib.ListN.{length, get_or, set}
 use lib.Seq.{get_or-set_same, get_or-set_other}
 use lib.Dec.{eqb}
 use lib.IntN.{ℤ, pos}
@@ -18,14 +18,12 @@ use Rattle.rules.specs.Move.{State, free, steps_by, touches, Change, change_of, 
 use Rattle.rules.specs.Theorems.{scans_told}
 use Rattle.rules.specs.Fronts.{Buckets, without, to_front, reenters}
 use Rattle.rules.specs.FrontsHold.{Standing}
-use Rattle.rules.proofs.Tests.{and_yes}
-use Rattle.rules.proofs.Changes.{steps-append}
 use Rattle.rules.proofs.Latest.{changed-enter}
 use Rattle.choice.specs.declared.window.Window.{Window}
 use Rattle.choice.specs.Best.{choice_in}
 use Rattle.buckets.specs.declared.slots.Shape.{Shape}
 use Rattle.buckets.specs.Slots.{Fits}
-use Rattle.buckets.specs.Entries.{entered_all, taken_out, brought_front}
+use Rattle.buckets.specs.Entries.{entered_all, taken_out}
 use Rattle.buckets.specs.Offers.{Chosen, chosen_front}
 use Rattle.buckets.specs.StandFor.{◌∈◌, StandFor}
 use Rattle.buckets.proofs.Rows.{those-pass, pass-those}
@@ -33,9 +31,9 @@ use Rattle.buckets.proofs.Leaving.{gone}
 use Rattle.buckets.proofs.Upkeep.{stands_same, stands-turned}
 use Rattle.buckets.proofs.Calls.{enters-all, takes_out, brings-front, stands-chosen, times-in}
 use Rattle.tables.specs.Zones.{state_in}
-use Rattle.split.specs.Links.{links_at, links_long, shape_of, links_in, with_links, HasLinks, entered_by, picked_is, picked_by, brought_in, brought_pins, brought_scans, left_in, followed_by}
-use Rattle.split.proofs.LinksLent.{Kept, kept_same, kept_then, kept-with, links-long, links-back, all-long, chosen-long, out-long, front_long}
-use Rattle.split.proofs.LinksSteps.{kept-fits, kept_out, kept-front, kept-scans}
+use Rattle.split.specs.Links.{links_at, links_long, shape_of, links_in, with_links, HasLinks, entered_by, picked_is, picked_by, brought_all, touched_by, followed_by}
+use Rattle.split.proofs.LinksLent.{Kept, kept_same, kept-with, links-long, links-back, all-long, chosen-long, out-long}
+use Rattle.split.proofs.LinksSteps.{brought-long}
 
 -- ---- by any edition nothing but the links differs
 
@@ -67,11 +65,17 @@ module _ (edition c n p : ℕ) (z : List ℕ) (fits : HasLinks edition c n p z) 
   unfolding followed_by
   followed-kept gains sides look js ks f = go (eqb edition 2) refl
     where
-      go : (b : Bool) → eqb edition 2 ≡ b → Kept c n p z (cond b (brought_scans c n p gains (state_in c sides z) (side_of sides f) look js ks (left_in c n p z f)) z)
+      fs : List ℕ
+      fs = touched_by (state_in c sides z) (side_of sides f) look js ks
+
+      out : List ℕ
+      out = taken_out (shape_of c n) f (links_in c n p z)
+
+      go : (b : Bool) → eqb edition 2 ≡ b → Kept c n p z (cond b (with_links c n p z (brought_all (shape_of c n) sides gains fs out)) z)
       go true e =
           let h = fits (eqb-true edition 2 e) in
-          let k = kept_out c n p z f h in
-          kept_then k (kept-scans c n p gains (state_in c sides z) (side_of sides f) look js ks (left_in c n p z f) (kept-fits c n p k h))
+          kept-with c n p z h (brought_all (shape_of c n) sides gains fs out)
+          (brought-long (shape_of c n) sides gains fs out ∙ out-long (shape_of c n) f (links_in c n p z) ∙ links-long c n p z h)
       go false e = kept_same
 
 -- ---- what the links stand for once the free files have entered, and after a choice
@@ -89,10 +93,6 @@ module _ (edition c n p : ℕ) (e : edition ≡ 2) (z : List ℕ) (fits : links_
       rw (links-entered marks sides gains) (enters-all (shape_of c n) marks sides gains (links_in c n p z) small gained (omega (arith, links-long c n p z fits)))
 
   module _ (w : Window) (size : ℕ) (sizes sides : List ℕ) (gains : List ℤ) where
-    pub best-picked : (picked_by edition c n p w size sizes sides gains z).best ≡ (chosen_front (shape_of c n) w size sizes sides gains (links_in c n p z)).best
-    unfolding picked_by
-    best-picked = rw (eq-eqb edition 2 e) refl
-
     pub links-picked : links_in c n p (picked_by edition c n p w size sizes sides gains z).scratch ≡ (chosen_front (shape_of c n) w size sizes sides gains (links_in c n p z)).links
     unfolding picked_by
     links-picked =
@@ -104,10 +104,6 @@ module _ (edition c n p : ℕ) (e : edition ≡ 2) (z : List ℕ) (fits : links_
     picked-stands s = rw links-picked (stands-chosen s w size sizes)
 
 -- ---- files brought to the front, one after the other
-
--- each to the bucket of its side and gain
-abbrev pub bringing : Shape → List ℕ → List ℤ → List ℕ → ℕ → List ℕ
-bringing shape sides gains links x = brought_front shape (side_of sides x) (get_or gains x (pos 0)) x links
 
 in-front : (order : List ℕ) (x y : ℕ) → y ∈ order → y ∈ to_front order x
 unfolding ◌∈◌
@@ -126,7 +122,7 @@ pub brings-all : {shape : Shape} {sides : List ℕ} (gains' : List ℤ) → shap
     → StandFor shape sides gains order links
     → ((x : ℕ) → x ∈ fs → x ∈ order)
     → ((g : ℕ) → g ∈ order → ¬ (g ∈ fs) → get_or gains' g (pos 0) ≡ get_or gains g (pos 0))
-    → StandFor shape sides gains' (steps_by to_front order fs) (steps_by (bringing shape sides gains') links fs)
+    → StandFor shape sides gains' (steps_by to_front order fs) (brought_all shape sides gains' fs links)
 unfolding steps_by ◌∈◌
 brings-all {shape} {sides} gains' long [] s held same = stands_same s sides gains' long (λ g m. refl) (λ g m. same g m (λ k. k))
 brings-all {shape} {sides} gains' long (x ∷ fs) {gains} {order} {links} s held same =
@@ -146,35 +142,16 @@ pub move-stands : {shape : Shape} {sides : List ℕ} {gains : List ℤ} {order l
     → (f t : ℕ) → f ∈ order → (gains' : List ℤ) → shape.files ≤ length gains' → (fs : List ℕ)
     → ((x : ℕ) → x ∈ fs → x ∈ without order f)
     → ((g : ℕ) → g ∈ without order f → ¬ (g ∈ fs) → get_or gains' g (pos 0) ≡ get_or gains g (pos 0))
-    → StandFor shape (set sides f t) gains' (steps_by to_front (without order f) fs) (steps_by (bringing shape (set sides f t) gains') (taken_out shape f links) fs)
+    → StandFor shape (set sides f t) gains' (steps_by to_front (without order f) fs) (brought_all shape (set sides f t) gains' fs (taken_out shape f links))
 move-stands {order} s f t m gains' long fs held same = brings-all gains' long fs (stands-turned (takes_out s f m) f t (λ k. gone f f order k refl)) held same
 
 -- ---- the files that the scans listed change, in their order
-
-in_either : (x : ℕ) (xs ys : List ℕ) → x ∈ xs ++ ys → (x ∈ xs) ⊎ (x ∈ ys)
-unfolding ◌∈◌
-in_either x [] ys m = inr m
-in_either x (y ∷ xs) ys (inl e) = inl (inl e)
-in_either x (y ∷ xs) ys (inr m) = elim (in_either x xs ys m) [ inl k ↦ inl (inr k) | inr k ↦ inr k ]
 
 files-of : (k : ℕ) (xs : List ℕ) → map (λ (c : Change). c.file) (map (change_of k) xs) ≡ xs
 files-of k [] = refl
 files-of k (x ∷ xs) = ap (λ (l : List ℕ). x ∷ l) (files-of k xs)
 
-unfoldable pub touched_by : State → ℕ → (ℕ → List ℕ) → List ℕ → List ℕ → List ℕ
-touched_by st t look [] ks = []
-touched_by st t look (j ∷ js) ks = those (touches st t (get_or ks 0 0)) (look j) ++ touched_by st t look js (drop 1 ks)
-
 module _ (st : State) (t : ℕ) (look : ℕ → List ℕ) where
-  -- each of them is free
-  pub touched-free : (js ks : List ℕ) (x : ℕ) → x ∈ touched_by st t look js ks → free st x ≡ true
-  unfolding touched_by ◌∈◌
-  touched-free [] ks x m = absurd m
-  touched-free (j ∷ js) ks x m = elim (in_either x (those (touches st t (get_or ks 0 0)) (look j)) (touched_by st t look js (drop 1 ks)) m) [
-    | inl k ↦ (and_yes (free st x) _ (those-pass (touches st t (get_or ks 0 0)) x (look j) k).0).0
-    | inr k ↦ touched-free js (drop 1 ks) x k
-  ]
-
   -- they are the files of the changes
   pub touched-told : (rs : List (List ℕ)) (js ks : List ℕ) → length js ≡ length ks
       → ((i : ℕ) → i < length js → look (get_or js i 0) ≡ get_or rs (get_or js i 0) [])
@@ -200,37 +177,19 @@ out-times x xs out = go (times x xs) refl
 pub standing-in : (job : Job) (b : Buckets) → Standing job b → (x : ℕ) → x < file_count job → free b.state x ≡ true → x ∈ b.entered
 standing-in job b s x h e = times-in x b.entered (rw (s x, lt-ltb x (file_count job) h, e) (omega arith))
 
--- ---- the links of a scratch, file after file
+-- ---- the links of a scratch once they followed a move
 
 module _ (c n p : ℕ) (gains : List ℤ) where
-  links-steps : (sides fs z : List ℕ) → links_at c n p + links_long c n ≤ length z
-      → links_in c n p (steps_by (brought_in c n p sides gains) z fs) ≡ steps_by (bringing (shape_of c n) sides gains) (links_in c n p z) fs
-  unfolding steps_by
-  links-steps sides [] z h = refl
-  links-steps sides (x ∷ fs) z h =
-      links-steps sides fs (brought_in c n p sides gains z x) (kept-fits c n p (kept-front c n p gains sides z x h) h)
-      ∙ ap (λ (l : List ℕ). steps_by (bringing (shape_of c n) sides gains) l fs)
-      (links-back c n p z h (bringing (shape_of c n) sides gains (links_in c n p z) x)
-      (front_long (shape_of c n) (side_of sides x) (get_or gains x (pos 0)) x (links_in c n p z) ∙ links-long c n p z h))
-
-  scans-steps : (st : State) (t : ℕ) (look : ℕ → List ℕ) (js ks z : List ℕ)
-      → brought_scans c n p gains st t look js ks z ≡ steps_by (brought_in c n p st.sides gains) z (touched_by st t look js ks)
-  unfolding brought_scans brought_pins touched_by steps_by
-  scans-steps st t look [] ks z = refl
-  scans-steps st t look (j ∷ js) ks z =
-      scans-steps st t look js (drop 1 ks) _ ∙ sym (steps-append (brought_in c n p st.sides gains) z (those (touches st t (get_or ks 0 0)) (look j)) (touched_by st t look js (drop 1 ks)))
-
   pub links-followed : (edition : ℕ) → edition ≡ 2 → (sides : List ℕ) (look : ℕ → List ℕ) (js ks : List ℕ) (f : ℕ) (z : List ℕ) → links_at c n p + links_long c n ≤ length z
       → links_in c n p (followed_by edition c n p gains sides look js ks f z)
-      ≡ steps_by (bringing (shape_of c n) sides gains) (taken_out (shape_of c n) f (links_in c n p z)) (touched_by (state_in c sides z) (side_of sides f) look js ks)
+      ≡ brought_all (shape_of c n) sides gains (touched_by (state_in c sides z) (side_of sides f) look js ks) (taken_out (shape_of c n) f (links_in c n p z))
   unfolding followed_by
   links-followed edition e sides look js ks f z h =
       let fs : List ℕ = touched_by (state_in c sides z) (side_of sides f) look js ks in
+      let out : List ℕ = taken_out (shape_of c n) f (links_in c n p z) in
       rw (eq-eqb edition 2 e)
-      (ap (links_in c n p) (scans-steps (state_in c sides z) (side_of sides f) look js ks (left_in c n p z f))
-      ∙ links-steps sides fs (left_in c n p z f) (kept-fits c n p (kept_out c n p z f h) h)
-      ∙ ap (λ (l : List ℕ). steps_by (bringing (shape_of c n) sides gains) l fs)
-      (links-back c n p z h (taken_out (shape_of c n) f (links_in c n p z)) (out-long (shape_of c n) f (links_in c n p z) ∙ links-long c n p z h)))
+      (links-back c n p z h (brought_all (shape_of c n) sides gains fs out)
+      (brought-long (shape_of c n) sides gains fs out ∙ out-long (shape_of c n) f (links_in c n p z) ∙ links-long c n p z h))
 
 -- ---- after the move of f to side t the links of the scratch stand for what is left, with the changed files entered anew
 

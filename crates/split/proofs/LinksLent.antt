@@ -1,10 +1,11 @@
 -- The links lent from the scratch and put back, and what of the scratch that leaves as it was. Assumes nothing.
-use mathlib.Core.Path.{◌≡◌, refl, sym, subst, ap, ap₂, ◌∙◌}
+use mathlib.Core.Path.{◌≡◌, refl, sym, ap, ap₂, ◌∙◌}
 use Prim.Native.Nat.{ℕ, zero, suc, ◌+◌, ◌-◌, ◌≤◌}
 use mathlib.Core.Bool.{Bool, true, false, cond}
-use mathlib.Core.List.{List}
+use mathlib.Core.List.{List, ◌++◌}
 use native.Mathlib.Omega.{arith}
 use lib.ListN.{length, get_or, take, drop, length-set}
+use lib.Seq.{take-take}
 use lib.Dec.{eqb}
 use lib.IntN.{ℤ, pos}
 use borrow.Rule.Slice.PartMut.{mid_of, put_mid, same_len_mid}
@@ -19,7 +20,7 @@ use Rattle.buckets.specs.Offers.{front_in, front_b, chosen_is, chosen_front}
 use Rattle.buckets.proofs.Stores.{joined_length, emptied-length}
 use Rattle.tables.proofs.Parts.{part_length}
 use Rattle.tables.proofs.LentParts.{put-here, put-below, put-beyond}
-use Rattle.split.specs.Links.{links_at, links_long, shape_of, links_in, with_links, brought_in}
+use Rattle.split.specs.Links.{links_at, links_long, shape_of, links_in, with_links}
 
 -- nothing but the links of the scratch may differ
 pub record Kept (c n p : ℕ) (z z' : List ℕ) : Type 0 where
@@ -29,12 +30,6 @@ pub record Kept (c n p : ℕ) (z z' : List ℕ) : Type 0 where
 
 pub kept_same : {c n p : ℕ} {z : List ℕ} → Kept c n p z z
 kept_same = record { long = refl; below = refl; beyond = refl }
-
-pub kept_then : {c n p : ℕ} {x y z : List ℕ} → Kept c n p x y → Kept c n p y z → Kept c n p x z
-kept_then a b = record { long = b.long ∙ a.long; below = b.below ∙ a.below; beyond = b.beyond ∙ a.beyond }
-
-pub kept-is : {c n p : ℕ} {x y z : List ℕ} → z ≡ y → Kept c n p x y → Kept c n p x z
-kept-is {c} {n} {p} {x} e k = subst (λ (u : List ℕ). Kept c n p x u) (sym e) k
 
 module _ (c n p : ℕ) (z : List ℕ) where
   -- the code lends from `from` up to `to`
@@ -85,10 +80,12 @@ module _ (c n p : ℕ) (z : List ℕ) {from to : ℕ} (a : from ≡ links_at c n
   pub lent-read : {A : Type 0} (op : Shape → List ℕ → A) {shape : Shape} → shape ≡ shape_of c n → op shape (mid_of from (to - from) z) ≡ op (shape_of c n) (links_in c n p z)
   lent-read op s = ap₂ op s (lent_is c n p z a e)
 
-  pub brought-back : (sides : List ℕ) (gains : List ℤ) (f : ℕ) {shape : Shape} {side : ℕ} {gain : ℤ} {ys : List ℕ} → shape ≡ shape_of c n → side ≡ side_of sides f → gain ≡ get_or gains f (pos 0)
-      → ys ≡ brought_front shape side gain f (mid_of from (to - from) z) → put_mid from (to - from) z ys ≡ brought_in c n p sides gains z f
-  brought-back sides gains f {side} {gain} s d g y =
-      lent_back (λ x l. brought_front x side gain f l) s y ∙ ap (with_links c n p z) (ap₂ (λ (i : ℕ) (x : ℤ). brought_front (shape_of c n) i x f (links_in c n p z)) d g)
+  -- the scratch is split where the links begin, and lends the front of it too
+  pub split-back : (op : List ℕ → Shape → List ℕ → List ℕ) {m : ℕ} {front behind ys : List ℕ} {shape : Shape}
+      → front ≡ take from z → behind ≡ drop from z → m ≡ c
+      → shape ≡ shape_of c n → ys ≡ op (take m front) shape (take (to - from) behind)
+      → front ++ (ys ++ drop (to - from) behind) ≡ with_links c n p z (op (take c z) (shape_of c n) (links_in c n p z))
+  split-back op f b m s y = let h : c ≤ links_at c n p = omega arith in rw (y, f, b, m, s, width c n p z a e, a, take-take c (links_at c n p) z h) refl
 
 -- ---- each call leaves the links as long as they were
 

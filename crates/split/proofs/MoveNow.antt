@@ -1,6 +1,6 @@
 -- The move of the chosen file: what its code may count on, and what it leaves. Assumes nothing.
 use mathlib.Core.Path.{◌≡◌, sym, ap, ap₂, ◌∙◌, subst}
-use Prim.Native.Nat.{ℕ, suc, ◌+◌, ◌*◌, ◌≤◌, ◌<◌, ◌^◌}
+use Prim.Native.Nat.{ℕ, suc, ◌+◌, ◌*◌, ◌≤◌, ◌<◌}
 use mathlib.Core.Bool.{true, false}
 use mathlib.Core.List.{List, [], ◌∷◌, ◌++◌, map, map-append, append-nil}
 use native.Mathlib.Omega.{arith}
@@ -22,6 +22,7 @@ use Rattle.split.specs.Scanning.{Treated, treated, treat_all, Fits, Ready}
 use Rattle.choice.specs.Choosing.{size_by}
 use Rattle.tables.specs.Ending.{turned}
 use Rattle.split.specs.Moving.{Board, cut_by, shifted_to, counted_on, way_to, treat_from, treat_move, move_one}
+pub use Rattle.split.specs.Passing.{MoveFits}
 use Rattle.split.specs.Movable.{Movable}
 use Rattle.split.proofs.Playable.{Small}
 use Rattle.split.proofs.Going.{links_from, begins, made, stands, Line, Going}
@@ -45,17 +46,6 @@ counts-set {rs} {st} {at} {n} {z} i v h c = record {
     locked = λ u m. get_or-set_other z i (side_at at n u + j + 2 * n) v 0 (λ e. omega (arith, side-from at n u)) ∙ (c.each j l).locked u m;
   };
 }
-
--- there is room for the entries of the move of f, which are two-byte numbers
-pub record MoveFits (sizes bounds pins : List ℕ) (f : ℕ) (b : Board) : Type 0 where
-  pub few : b.rest.scanned.progress.moves < 65536
-  pub tried : b.rest.scanned.progress.moves < length b.tried
-  pub gained : b.rest.scanned.progress.moves < length b.gained
-  pub cuts : b.rest.scanned.progress.moves < length b.cuts
-  pub ends : b.rest.scanned.progress.moves < length b.ends
-  pub cut : (treat_move sizes bounds pins f b).scanned.progress.cut < 65536
-  pub scans : (treat_move sizes bounds pins f b).scanned.progress.scans < 65536
-  pub moves : (treat_move sizes bounds pins f b).scanned.progress.moves < 2 ^ 32
 
 module _ {job : Job} {ms : List ℕ} (v : Line job ms) (small : Small job) {l : Lent} (ok : fits 1 job l ≡ true) {k f : ℕ} {b : Board} (g : Going job ms l k b) (x : Next job ms k f) where
   abbrev rs : List (List ℕ)

@@ -11,13 +11,10 @@ use Rattle.tables.specs.Zones.{counts_at, side_at, Cells, CountsOf}
 use Rattle.tables.proofs.Parts.{front-entry, front-part}
 use Rattle.tables.proofs.LentParts.{cells_same}
 use Rattle.tables.proofs.Sides.{side-within}
-use Rattle.split.specs.Moving.{Board, board}
+use Rattle.split.specs.Moving.{Board}
+use Rattle.split.specs.Passing.{on_scratch}
 use Rattle.split.proofs.Going.{links_from, Going}
 use Rattle.split.proofs.Played.{moves_of, Underway}
-
--- a board with this scratch
-abbrev pub on_scratch : Board → List ℕ → Board
-on_scratch b z = board b.sides b.tried b.gained b.cuts b.ends z b.rest.scanned.gains b.rest.scanned.recipes b.rest.scanned.kinds b.rest.scanned.progress
 
 -- z is as long as z₀, and the same up to where the counts end and beyond the first n numbers
 pub record OtherLinks (job : Job) (n : ℕ) (z₀ z : List ℕ) : Type 0 where

@@ -6,7 +6,7 @@ use native.Mathlib.Nat.{add-zero}
 use native.Mathlib.Omega.{arith}
 use lib.ListN.{length, replicate}
 use lib.IntN.{ℤ, pos}
-use Rattle.rules.specs.declared.Figures.{Figures}
+use Rattle.rules.specs.Numbers.{Figures}
 use Rattle.rules.specs.Lists.{total}
 use Rattle.rules.specs.Job.{Job, Limits, file_count, recipe_count, pin_count, views, read_in, recipes, Lent, lent_of, scratch_numbers, scratch_for}
 use Rattle.rules.specs.Split.{unread_files, unread_recipes}

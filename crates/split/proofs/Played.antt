@@ -1,12 +1,10 @@
 -- Moves, as a loop that chooses and moves has them. Assumes nothing.
 use mathlib.Core.Path.{◌≡◌, refl, sym, ap, subst, ◌∙◌}
-use Prim.Native.Nat.{ℕ, suc, ◌-◌, ◌*◌, ◌≤◌, ◌<◌, ◌^◌}
+use Prim.Native.Nat.{ℕ, suc, ◌-◌, ◌≤◌, ◌<◌, ◌^◌}
 use mathlib.Core.List.{List}
 use mathlib.Core.Option.{Option, none, some}
 use native.Mathlib.Omega.{arith}
 use lib.ListN.{length, drop}
-use mir.Syntax.{w16, w64}
-use mir.Val.{Fits}
 use Rattle.rules.specs.Job.{Job, file_count, Lent}
 use Rattle.rules.specs.Move.{Frees}
 use Rattle.choice.specs.declared.window.Window.{Window}
@@ -24,19 +22,6 @@ use Rattle.split.proofs.NextMove.{Next, Picked, next-move, no_move}
 
 pub same-below : {a b n : ℕ} → a ≡ b → b < n → a < n
 same-below e h = omega arith
-
--- two-byte numbers, and where an entry of a list stands
-pub file-fits : {f n : ℕ} → f < n → n < 65536 → Fits w16 f
-file-fits h k = record { fits = omega arith }
-
-pub count_fits : {a b : ℕ} → a ≡ b → b < 65536 → Fits w16 a
-count_fits e h = record { fits = omega arith }
-
-pub place-fits : {k : ℕ} → k < 65536 → Fits w64 (k * 2)
-place-fits h = record { fits = omega arith }
-
-pub gain-place-fits : {k : ℕ} → k < 65536 → Fits w64 (k * 4)
-gain-place-fits h = record { fits = omega arith }
 
 pub one_less : {k k' n : ℕ} → k < n → k' ≡ suc k → n - k' < n - k
 one_less h e = omega arith
@@ -89,12 +74,6 @@ module _ {n : ℕ} {job : Job} {ms : List ℕ} {l : Lent} {w : Window} {b : Boar
   -- the lists are as long as lent
   pub under-long : BoardLong job l b
   under-long = board-long line y.fitting g
-
-  pub sides-stay : length b.sides ≡ length job.sides
-  sides-stay = under-long.sides ∙ sym y.sound.sides_long
-
-  pub gains-stay : length b.rest.scanned.gains ≡ length l.gains
-  gains-stay = under-long.gains ∙ sym (long-enough 1 job l y.fitting).gains
 
   pub choosable : Choosable job b
   choosable =

@@ -5,14 +5,14 @@ use mathlib.Core.Bool.{Bool, true, false, cond}
 use mathlib.Core.List.{List, [], ◌∷◌, ◌++◌}
 use native.Mathlib.Numerals.{add-one}
 use native.Mathlib.Omega.{arith}
-use lib.IntN.{ℤ, pos, ◌+ℤ◌}
+use lib.IntN.{ℤ, pos, negsuc, ◌+ℤ◌}
 use lib.ListN.{length, get_or, set, take, length-take}
 use lib.Seq.{take-suc, set-get_or}
-use Rattle.rules.specs.Move.{State, touches, change, scan_pins}
-use Rattle.rules.proofs.Signed.{abs}
+use Rattle.rules.specs.Lists.{diff}
+use Rattle.rules.specs.Move.{State, touches, change, raises, scan_pins}
+use Rattle.rules.proofs.Signed.{abs, abs-add}
 use Rattle.rules.proofs.Steps.{scan-more}
 use Rattle.split.specs.Scanning.{shifted_by, RoomFor}
-use Rattle.split.proofs.Shifts.{change-abs}
 
 -- a test that picks between a store and none is a store of what is picked
 set-cond : (b : Bool) (g : List ℤ) (x : ℕ) (v : ℤ) → set g x (cond b v (get_or g x (pos 0))) ≡ cond b (set g x v) g
@@ -30,6 +30,15 @@ scan-pin st t k r i g {h} l e =
     ∙ ap (λ (y : List ℤ). cond (touches st t k x) (set y x (get_or y x (pos 0) +ℤ change k)) y) e
     ∙ sym (scan-more st t k (take i r) x g)
     ∙ sym q
+
+step-abs : (z : ℤ) (b : Bool) → abs (z +ℤ cond b (pos 1) (negsuc 0)) ≤ abs z + 1
+unfolding diff
+step-abs z true = abs-add z 1 0
+step-abs z false = abs-add z 0 1
+
+-- a scan changes a gain by at most one
+change-abs : (z : ℤ) (k : ℕ) → abs (z +ℤ change k) ≤ abs z + 1
+change-abs z k = step-abs z (raises k)
 
 set-abs : (g : List ℤ) (x f k : ℕ) → abs (get_or (set g x (get_or g x (pos 0) +ℤ change k)) f (pos 0)) ≤ abs (get_or g f (pos 0)) + 1
 set-abs [] x f k = omega arith

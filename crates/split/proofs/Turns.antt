@@ -6,6 +6,7 @@ use native.Mathlib.Numerals.{add-one}
 use native.Mathlib.Omega.{arith}
 use lib.ListN.{length, get_or, take, drop}
 use lib.Seq.{drop-cons}
+use Rattle.std.specs.Prelude.{Option}
 use Rattle.rules.specs.Lists.{AllBelow}
 use Rattle.rules.specs.Move.{State}
 use Rattle.split.specs.declared.scan.Way.{Way}
@@ -47,6 +48,7 @@ module _ (st : State) (way : Way) where
 -- before the turn at i: the rest of the recipes leads to the same end
 pub record Turn (st : State) (way : Way) (look : ℕ → List ℕ) (a e : ℕ) (y₀ : Treated) (i : ℕ) (y : Treated) : Type 0 where
   pub high : i ≤ e
+  pub inside : (way.files ≤ e) × (e ≤ length y₀.scratch)
   pub scratch : length y.scratch ≡ length y₀.scratch
   pub locks : take way.files y.scratch ≡ st.locks
   pub ready : Ready way look e (part i (e - i) y.scratch) y.scratch
@@ -55,25 +57,13 @@ pub record Turn (st : State) (way : Way) (look : ℕ → List ℕ) (a e : ℕ) (
   pub near : GainsNear y.scanned
 
 module _ {st : State} {way : Way} {look : ℕ → List ℕ} {a e : ℕ} {y₀ : Treated} where
-  pub turn-first : a ≤ e → take way.files y₀.scratch ≡ st.locks → Ready way look e (part a (e - a) y₀.scratch) y₀.scratch → GainsNear y₀.scanned
-      → Turn st way look a e y₀ a y₀
-  turn-first h l r n = record {
-    high = h;
-    scratch = refl;
-    locks = l;
-    ready = r;
-    rest = refl;
-    later = later_same y₀.scanned;
-    near = n;
-  }
-
   pub turn_last : {i : ℕ} {y : Treated} → Turn st way look a e y₀ i y → e ≤ i → y ≡ treat_all st way look (part a (e - a) y₀.scratch) y₀
   turn_last {i} {y} t h = sym (none_left (part i (e - i) y.scratch) (part_none i e y.scratch h)) ∙ t.rest
     where
       none_left : (js : List ℕ) → js ≡ [] → treat_all st way look js y ≡ y
       none_left js q = ap (λ (l : List ℕ). treat_all st way look l y) q ∙ (unfold treat_all in refl)
 
-  module _ {i : ℕ} {y : Treated} (t : Turn st way look a e y₀ i y) (h : i < e) (inside : way.files ≤ e) (long : e ≤ length y₀.scratch) where
+  module _ {i : ℕ} {y : Treated} (t : Turn st way look a e y₀ i y) (h : i < e) where
     abbrev j : ℕ
     j = get_or y.scratch i 0
 
@@ -81,7 +71,7 @@ module _ {st : State} {way : Way} {look : ℕ → List ℕ} {a e : ℕ} {y₀ : 
     js = part (i + 1) (e - (i + 1)) y.scratch
 
     cells : part i (e - i) y.scratch ≡ j ∷ js
-    cells = part-cons i e y.scratch h (omega (arith, t.scratch))
+    cells = part-cons i e y.scratch h (omega (arith, t.inside, t.scratch))
 
     ready : Ready way look e (j ∷ js) y.scratch
     ready = subst (λ (l : List ℕ). Ready way look e l y.scratch) cells t.ready
@@ -105,8 +95,9 @@ module _ {st : State} {way : Way} {look : ℕ → List ℕ} {a e : ℕ} {y₀ : 
         let left : part (i + 1) (e - (i + 1)) (treat_one st way j (look j) y).scratch ≡ js = ap (part (i + 1) (e - (i + 1))) s ∙ same in
         record {
           high = omega arith;
+          inside = t.inside;
           scratch = ap length s ∙ recount-length way j z ∙ t.scratch;
-          locks = ap (take way.files) s ∙ recount-part way j z 0 way.files (omega arith) turn-treatable ∙ t.locks;
+          locks = ap (take way.files) s ∙ recount-part way j z 0 way.files (omega (arith, t.inside)) turn-treatable ∙ t.locks;
           ready = subst (λ (l : List ℕ). Ready way look e l (treat_one st way j (look j) y).scratch) (sym left) (subst (Ready way look e js) (sym s) (ready-then ready));
           rest = ap (λ (l : List ℕ). treat_all st way look l (treat_one st way j (look j) y)) left ∙ then;
           later = later-then t.later (later-one st way j (look j) z y.scanned);
@@ -122,9 +113,9 @@ module _ {st : State} {way : Way} {look : ℕ → List ℕ} {a e : ℕ} {y₀ : 
 
       same : seen ≡ st
       same = ap (state_of st.sides)
-          (ap (take way.files) counted ∙ recount-part way j y.scratch 0 way.files (omega arith) turn-treatable ∙ t.locks)
+          (ap (take way.files) counted ∙ recount-part way j y.scratch 0 way.files (omega (arith, t.inside)) turn-treatable ∙ t.locks)
 
-      abbrev scan : ℕ → Scanned → Scanned
+      abbrev scan : Option ℕ → Scanned → Scanned
       scan kind x = scan_if seen way.side j r kind x
 
       abbrev one : Scanned
@@ -143,9 +134,6 @@ module _ {st : State} {way : Way} {look : ℕ → List ℕ} {a e : ℕ} {y₀ : 
       -- what the scans ask
       pub own_below : AllBelow way.files r
       own_below = subst (AllBelow way.files) (sym own) turn-treatable.below
-
-      pub seen-long : way.files ≤ length z'
-      seen-long = omega (arith, long, t.scratch, ap length counted, recount-length way j y.scratch)
 
       pub first_fits : Fits (treat_all st way look (part a (e - a) y₀.scratch) y₀).scanned → Fits one
       first_fits f = fits-earlier (later-if seen way.side j r k.second one) (both-fit f)

@@ -2,5 +2,8 @@ pub mod Scanning
 pub mod Moving
 pub mod Movable
 pub mod Links
+pub mod Bringing
 pub mod Playing
 pub mod OwnLists
+pub mod Editions
+pub mod Passing

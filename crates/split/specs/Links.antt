@@ -52,31 +52,24 @@ picked_by edition c n p w size sizes sides gains z =
     let e = chosen_front (shape_of c n) w size sizes sides gains (links_in c n p z) in
     cond (eqb edition 2) (picked_is e.best (with_links c n p z e.links)) (picked_is (choice_in w size sizes sides z gains) z)
 
+-- ---- after a move
+
 -- file f is brought to the front of the bucket of its side and gain
-abbrev pub brought_in : ℕ → ℕ → ℕ → List ℕ → List ℤ → List ℕ → ℕ → List ℕ
-brought_in c n p sides gains z f = with_links c n p z (brought_front (shape_of c n) (side_of sides f) (get_or gains f (pos 0)) f (links_in c n p z))
+abbrev pub bringing : Shape → List ℕ → List ℤ → List ℕ → ℕ → List ℕ
+bringing shape sides gains links f = brought_front shape (side_of sides f) (get_or gains f (pos 0)) f links
 
--- it is, if a scan of this kind changes it; st is the state after the move, t the side moved to
-abbrev pub brought_if : ℕ → ℕ → ℕ → List ℤ → State → ℕ → ℕ → List ℕ → ℕ → List ℕ
-brought_if c n p gains st t kind z f = cond (touches st t kind f) (brought_in c n p st.sides gains z f) z
+-- each of these, one after the other
+abbrev pub brought_all : Shape → List ℕ → List ℤ → List ℕ → List ℕ → List ℕ
+brought_all shape sides gains fs links = steps_by (bringing shape sides gains) links fs
 
--- pin by pin, each file that a scan of this kind changes
-unfoldable pub brought_pins : ℕ → ℕ → ℕ → List ℤ → State → ℕ → ℕ → List ℕ → List ℕ → List ℕ
-brought_pins c n p gains st t kind pins z = steps_by (brought_in c n p st.sides gains) z (those (touches st t kind) pins)
-
--- scan by scan, of the recipes js and kinds ks that are listed; look gives a recipe whole
-unfoldable pub brought_scans : ℕ → ℕ → ℕ → List ℤ → State → ℕ → (ℕ → List ℕ) → List ℕ → List ℕ → List ℕ → List ℕ
-brought_scans c n p gains st t look [] ks z = z
-brought_scans c n p gains st t look (j ∷ js) ks z =
-    brought_scans c n p gains st t look js (drop 1 ks) (brought_pins c n p gains st t (get_or ks 0 0) (look j) z)
-
--- file f leaves its bucket
-abbrev pub left_in : ℕ → ℕ → ℕ → List ℕ → ℕ → List ℕ
-left_in c n p z f = with_links c n p z (taken_out (shape_of c n) f (links_in c n p z))
+-- the files that the scans listed change, of recipes js and kinds ks; look gives a recipe whole, st is the state after the move, t the side moved to
+unfoldable pub touched_by : State → ℕ → (ℕ → List ℕ) → List ℕ → List ℕ → List ℕ
+touched_by st t look [] ks = []
+touched_by st t look (j ∷ js) ks = those (touches st t (get_or ks 0 0)) (look j) ++ touched_by st t look js (drop 1 ks)
 
 -- after the move of f, which is on the side moved to: it leaves its bucket, and the files that its scans changed enter anew
 unfoldable pub followed_by : ℕ → ℕ → ℕ → ℕ → List ℤ → List ℕ → (ℕ → List ℕ) → List ℕ → List ℕ → ℕ → List ℕ → List ℕ
 followed_by edition c n p gains sides look js ks f z =
     cond (eqb edition 2)
-    (brought_scans c n p gains (state_in c sides z) (side_of sides f) look js ks (left_in c n p z f))
+    (with_links c n p z (brought_all (shape_of c n) sides gains (touched_by (state_in c sides z) (side_of sides f) look js ks) (taken_out (shape_of c n) f (links_in c n p z))))
     z

@@ -1,5 +1,6 @@
 -- What the code of a move's scans does, on lists. Assumes nothing.
-use Rattle.std.specs.Prelude.{ℕ, ◌+◌, ◌-◌, ◌*◌, ◌≤◌, ◌<◌, ◌^◌, Bool, cond, ◌&&◌, List, [], ◌∷◌, length, get_or, set, eqb, ℤ, pos, ◌+ℤ◌}
+use Rattle.std.specs.Prelude.{ℕ, ◌+◌, ◌-◌, ◌*◌, ◌≤◌, ◌<◌, ◌^◌, Bool, cond, ◌&&◌, eqb, ℤ, pos, ◌+ℤ◌}
+use Rattle.std.specs.Prelude.{Option, None, Some, List, [], ◌∷◌, length, get_or, set}
 use Rattle.rules.specs.Lists.{AllBelow}
 use Rattle.rules.specs.Move.{State, reaches, change, scan_pins}
 use Rattle.rules.proofs.Signed.{abs}
@@ -40,12 +41,12 @@ pub record Scanned : Type 0 where
 abbrev pub scanned : List ℤ → List ℕ → List ℕ → Progress → Scanned
 scanned gains recipes kinds p = record { gains = gains; recipes = recipes; kinds = kinds; progress = p }
 
--- the scan of recipe j, whose files are r, in the state after the move to side t; kind 0 is none
-unfoldable pub scan_if : State → ℕ → ℕ → List ℕ → ℕ → Scanned → Scanned
-scan_if st t j r kind x =
-    cond (eqb kind 0) x
-    (scanned (scan_pins st t kind r x.gains) (set x.recipes x.progress.scans j) (set x.kinds x.progress.scans kind)
-    (visited_by x.progress (length r)))
+-- the scan of recipe j, whose files are r, in the state after the move to side t, where there is a kind
+unfoldable pub scan_if : State → ℕ → ℕ → List ℕ → Option ℕ → Scanned → Scanned
+scan_if st t j r None x = x
+scan_if st t j r (Some kind) x =
+    scanned (scan_pins st t kind r x.gains) (set x.recipes x.progress.scans j) (set x.kinds x.progress.scans kind)
+    (visited_by x.progress (length r))
 
 -- the gains are within the visits made and some more, so a scan's changes fit
 pub record NearVisits (gains : List ℤ) (visits : ℕ) : Type 0 where
@@ -66,6 +67,10 @@ pub record Fits (x : Scanned) : Type 0 where
 -- a kind by a count of files and of the locked ones among them: k where there is none, the next where there is one and it is free, else 0
 abbrev pub kind_by : ℕ → ℕ → ℕ → ℕ
 kind_by k count locked = cond (eqb count 0) k (cond (eqb count 1 && eqb locked 0) (k + 1) 0)
+
+-- the kind of this number, none for 0
+abbrev pub kind_or_none : ℕ → Option ℕ
+kind_or_none k = cond (eqb k 0) None (Some k)
 
 -- kinds 1 and 2 by T, kinds 3 and 4 by F
 abbrev pub kind_there : ℕ → ℕ → ℕ
@@ -102,18 +107,16 @@ recount way j z =
 
 -- the kinds of its scans
 abbrev pub kinds_now : Way → ℕ → List ℕ → Kinds
-kinds_now way j z = record { first = kind_there (count_t way j z) (locked_t way j z); second = kind_left (count_f way j z) (locked_f way j z) }
+kinds_now way j z = record {
+  first = kind_or_none (kind_there (count_t way j z) (locked_t way j z));
+  second = kind_or_none (kind_left (count_f way j z) (locked_f way j z));
+}
 
 -- r the files of recipe j
 unfoldable pub treat_one : State → Way → ℕ → List ℕ → Treated → Treated
 treat_one st way j r y =
-    let z = y.scratch in
-    record {
-      scratch = recount way j z;
-      scanned =
-          scan_if st way.side j r (kind_left (count_f way j z) (locked_f way j z))
-          (scan_if st way.side j r (kind_there (count_t way j z) (locked_t way j z)) y.scanned);
-    }
+    let kinds = kinds_now way j y.scratch in
+    record { scratch = recount way j y.scratch; scanned = scan_if st way.side j r kinds.second (scan_if st way.side j r kinds.first y.scanned) }
 
 -- recipe after recipe
 unfoldable pub treat_all : State → Way → (ℕ → List ℕ) → List ℕ → Treated → Treated

@@ -1,24 +1,15 @@
-// What a pass has from its job once that is checked: the balance window and the extent, or the answer of a refusal.
-ghost use Rattle.std.specs.Prelude.{◌≡◌, ◌-◌, ◌*◌, ◌<◌, ◌^◌, length};
-ghost use Rattle.rules.specs.Check.{check_edition};
-ghost use Rattle.rules.specs.Run.{no_figures};
+// What a pass has from its job and the lists that it is lent: the balance window, the extent, and how long the lists are.
+ghost use Rattle.std.specs.Prelude.{◌≡◌, ℕ, ◌-◌, ◌*◌, ◌<◌, ◌^◌, length, get_or};
 ghost use Rattle.job.specs.Parts.{of_figures};
 ghost use Rattle.tables.specs.Zones.{extent_of};
 ghost use Rattle.choice.specs.Choosing.{window_of};
+ghost use Rattle.split.specs.Passing.{lengths_of};
 
 use choice::Window;
-use job::{Job, recipe_count, refuse_if};
-use rules::{Figures, Verdict};
-use tables::Extent;
+use job::{Book, Job, Moves, Scans};
+use tables::{Extent, ListLengths};
 
-// 32 for an edition of the choice that there is not.
-pub(crate) fn check_edition(edition: u16) -> Verdict
-    ensures { result ≡ check_edition edition }
-{
-    refuse_if(!((edition == 1) | (edition == 2)), 32, 0)
-}
-
-// Den, and typeof.num.W and den times the tolerance.
+// Den, and num·W and den times the tolerance.
 pub(crate) fn window_of(job: Job, weight: u64, tolerance: u64) -> Window
     requires { (weight < 2 ^ 32) × (tolerance < 2 ^ 32) }
     ensures { result ≡ window_of (of_figures job) weight tolerance }
@@ -30,32 +21,33 @@ pub(crate) fn window_of(job: Job, weight: u64, tolerance: u64) -> Window
     }
 }
 
+// Sizes are two-byte numbers: a proof knows the numbers of a list that is handed over by itself, but not of one within a struct.
+pub(crate) fn two_byte_sizes(sizes: &[u16])
+    ensures { (f : ℕ) → get_or sizes.now f 0 < 65536 }
+{}
+
 // C, N and P.
-pub(crate) fn extent_of(c: usize, bounds: &[u16], pins: &[u16]) -> Extent
-    requires { (c < 65536) × (length bounds.now < 65536) × (length pins.now < 65536) }
-    ensures { result ≡ extent_of c (length bounds.now - 1) (length pins.now) }
+pub(crate) fn extent_of(book: Book) -> Extent
+    requires { (length book.files.sizes.now < 65536) × (length book.recipes.bounds.now < 65536) × (length book.recipes.pins.now < 65536) }
+    ensures { result ≡ extent_of (length book.entry.files.sizes.now) (length book.entry.recipes.bounds.now - 1) (length book.entry.recipes.pins.now) }
 {
     Extent {
-        files: c as u16,
-        recipes: recipe_count(bounds) as u16,
-        pins: pins.len() as u16,
+        files: book.files.sizes.len() as u16,
+        recipes: book.recipes.count() as u16,
+        pins: book.recipes.pins.len() as u16,
     }
 }
 
-// A refusal: all other numbers are 0.
-pub fn refused(verdict: Verdict) -> Figures
-    ensures { result ≡ no_figures verdict }
+// How long the lists of moves and of scans are.
+pub(crate) fn lengths_of(moves: &Moves, scans: &Scans) -> ListLengths
+    ensures { result ≡ lengths_of moves.now scans.now }
 {
-    Figures {
-        verdict,
-        before: 0,
-        cut: 0,
-        size: 0,
-        tried: 0,
-        kept: 0,
-        scans: 0,
-        visits: 0,
-        unread: 0,
-        holding: 0,
+    ListLengths {
+        tried: moves.tried.len(),
+        gained: moves.gained.len(),
+        cuts: moves.cuts.len(),
+        ends: moves.ends.len(),
+        recipes: scans.recipes.len(),
+        kinds: scans.kinds.len(),
     }
 }

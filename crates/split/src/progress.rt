@@ -1,11 +1,12 @@
 // A pass in progress: a small record of numbers, handed in and handed back with each move.
 // `best` moves are the shortest prefix of least cut so far, `least` is its cut and `atbest` its |A|.
 ghost use Rattle.std.specs.Prelude.{◌≡◌, ◌+◌, ◌<◌, ◌^◌};
+ghost use Rattle.rules.specs.Cases.{pass_numbers, balance_numbers};
 ghost use Rattle.split.specs.Scanning.{visited_by};
 ghost use Rattle.split.specs.Moving.{begun, shifted_to, counted_on};
 ghost use Rattle.split.specs.Playing.{figures_from, balanced_from};
 
-use rules::{BalanceFigures, Figures, Verdict};
+use rules::{Balanced, Passed};
 
 #[derive(Clone, Copy)]
 pub(crate) struct Progress {
@@ -36,15 +37,15 @@ impl Progress {
     }
 
     // |A| and the cut after a move.
-    pub fn shifted(mut self, size: u64, cut: usize) -> Self
+    #[tactic(auto, unfolding(crate::specs::Moving::shifted_to))]
+    pub fn shifted(self, size: u64, cut: usize) -> Self
         ensures { result ≡ shifted_to self size cut }
     {
-        self.size = size;
-        self.cut = cut;
-        self
+        Self { size, cut, ..self }
     }
 
     // One scan more, which visits so many files.
+    #[tactic(auto, unfolding(crate::specs::Scanning::visited_by))]
     pub fn visited(mut self, len: usize) -> Self
         requires { (self.scans < 2 ^ 63) × (self.visits + len < 2 ^ 63) }
         ensures { result ≡ visited_by self len }
@@ -55,6 +56,7 @@ impl Progress {
     }
 
     // One move more: the best prefix so far is the shortest of least cut.
+    #[tactic(auto, unfolding(crate::specs::Moving::counted_on))]
     pub fn counted(mut self) -> Self
         requires { self.moves < 2 ^ 32 }
         ensures { result ≡ counted_on self }
@@ -64,21 +66,15 @@ impl Progress {
             self.best = self.moves;
             self.least = self.cut;
             self.atbest = self.size;
-            return self;
         }
         self
     }
 
     // The figures of the pass, once its moves have ended; what could not be read is the job's.
-    pub fn figures(self, before: usize, unread: usize, holding: usize) -> Figures
-        ensures { result ≡ figures_from before unread holding self }
+    pub fn figures(self, before: usize, unread: usize, holding: usize) -> Passed
+        ensures { pass_numbers result ≡ figures_from before unread holding self }
     {
-        let verdict = Verdict {
-            number: 0,
-            place: 0,
-        };
-        Figures {
-            verdict,
+        Passed {
             before,
             cut: self.least,
             size: self.atbest,
@@ -90,16 +86,12 @@ impl Progress {
             holding,
         }
     }
+
     // The answer of the balancing, once its moves have ended.
-    pub fn balanced(self, unread: usize, holding: usize) -> BalanceFigures
-        ensures { result ≡ balanced_from unread holding self }
+    pub fn balanced(self, unread: usize, holding: usize) -> Balanced
+        ensures { balance_numbers result ≡ balanced_from unread holding self }
     {
-        let verdict = Verdict {
-            number: 0,
-            place: 0,
-        };
-        BalanceFigures {
-            verdict,
+        Balanced {
             moves: self.moves,
             cut: self.cut,
             size: self.size,

@@ -1,24 +1,38 @@
--- A block as it is filled, and what is said of it. Assumes nothing.
-use mathlib.Core.Path.{◌≡◌, ap, ◌∙◌}
-use Prim.Native.Nat.{ℕ, ◌+◌, ◌<◌}
-use native.Mathlib.Numerals.{add-one}
-use native.Mathlib.Omega.{arith}
-use mathlib.Core.List.{List}
-use lib.ListN.{length, get_or, take, drop, set, length-drop}
-use lib.Seq.{take-suc, take-suc-set, get_or-drop}
-use Rattle.rules.specs.declared.Verdict.{Verdict}
-use Rattle.rules.specs.declared.Header.{Header}
-use Rattle.rules.specs.Stored.{block_at, kind_of, values_in, block_verdict}
-use Rattle.stored.specs.Steps.{verdict_of}
+-- The numbers of the kinds as the code tells them, and the verdict on the blocks one after the other. Assumes nothing.
+use Rattle.std.proofs.Common.{◌≡◌, ℕ, suc, ◌+◌, ◌-◌, ◌<◌, ◌≤◌, List, eqb, refl, arith}
+use denote.Enum.Declared.{tag_of}
+use denote.Enum.Bare.{sameb}
+use Rattle.rules.specs.declared.Header.{Header as Figures}
+use Rattle.rules.specs.Check.{done, ◌or_else◌}
+use Rattle.rules.specs.Stored.{block_verdict, further_rows, blocks_verdict}
+use Rattle.layout.specs.contracts.kinds.Kind.{the_type}
+use Rattle.layout.specs.declared.kinds.Kind.{Kind}
+use Rattle.layout.specs.declared.kinds.Kind.TheVariants.{Header, Files, Bounds, Pins}
+use Rattle.layout.specs.Kinds.{kind_number}
 
--- one byte more of the block is in place
-pub fill_more : (s : List ℕ) (at : ℕ) (block : List ℕ) (i : ℕ) → i < length block → at + i < length s → take i block ≡ take i (drop at s)
-    → take (i + 1) (set block i (get_or s (at + i) 0)) ≡ take (i + 1) (drop at s)
-fill_more s at block i h k e =
-    let l : i < length (drop at s) = simp length-drop (omega arith) in
-    rw (add-one, take-suc-set block i (get_or s (at + i) 0) h, take-suc (drop at s) i 0 l, e, get_or-drop at s i 0)
+pub byte-kind : (k : Kind) → tag_of the_type k + 1 ≡ kind_number k
+byte-kind Header = refl
+byte-kind Files = refl
+byte-kind Bounds = refl
+byte-kind Pins = refl
 
--- the verdict on the block that was filled is that on the block of the bytes
-pub block-told : (h : Header) (bytes : List ℕ) (b : ℕ) {block : List ℕ} {v : Verdict} → block ≡ block_at bytes b → v ≡ verdict_of block b (kind_of h b) (values_in h b) → v ≡ block_verdict h bytes b
-unfolding block_verdict
-block-told h bytes b q e = e ∙ ap (λ (x : List ℕ). verdict_of x b (kind_of h b) (values_in h b)) q
+pub files-kind : (k : Kind) → sameb the_type k Files ≡ eqb (kind_number k) 2
+files-kind Header = refl
+files-kind Files = refl
+files-kind Bounds = refl
+files-kind Pins = refl
+
+-- ---- the blocks past the header, one after the other
+
+-- block b, then those after it up to block e
+pub block-first : (h : Figures) (bytes : List ℕ) {b e : ℕ} → b < e
+    → blocks_verdict h bytes b (e - b) ≡ (block_verdict h bytes b or_else blocks_verdict h bytes (b + 1) (e - (b + 1)))
+unfolding blocks_verdict block_verdict further_rows
+block-first h bytes {b} {e} l =
+    let n : e - b ≡ suc (e - (b + 1)) = omega arith in
+    let s : b + 1 ≡ suc b = omega arith in
+    rw (n, s)
+
+pub blocks-past : (h : Figures) (bytes : List ℕ) {b e : ℕ} → e ≤ b → blocks_verdict h bytes b (e - b) ≡ done
+unfolding blocks_verdict further_rows
+blocks-past h bytes {b} {e} l = let n : e - b ≡ 0 = omega arith in rw n

@@ -1,42 +1,23 @@
 -- Lists as they are filled from blocks. Assumes nothing.
-use mathlib.Core.Path.{◌≡◌, refl, sym, ap, ap₂, ◌∙◌}
-use Prim.Native.Nat.{ℕ, ◌+◌, ◌-◌, ◌*◌, ◌/◌, ◌%◌, ◌<◌, ◌≤◌, min}
-use native.Mathlib.Decide.{ℕ_discrete, dec_lt}
-use native.Mathlib.Nat.{add-zero, mul-one, mul-add, mul-add-div, div-eq_of_lt, mul-add-mod_self_left, mod-eq_of_lt}
-use native.Mathlib.Numerals.{add-one}
-use native.Mathlib.Omega.{arith}
-use mathlib.Core.List.{List, map}
-use lib.ListN.{length, get_or, take, set, length-set}
-use lib.Seq.{take-suc, length-take-le, get_or-set_same, get_or-set_other, ext_get_or}
+use Rattle.std.proofs.Common.{◌≡◌, ℕ, ◌+◌, ◌-◌, ◌*◌, ◌/◌, ◌%◌, ◌<◌, ◌≤◌, min, List, map, length, refl, sym, ap, ap₂, ◌∙◌, arith}
+use Rattle.std.proofs.lemmas.Bool.Decides.{nat_tests}
+use Rattle.std.proofs.Math.Nat.{add-zero, mul-one, mul-add, mul-add-div, div-eq_of_lt, mul-add-mod_self_left, mod-eq_of_lt}
+use Rattle.std.proofs.Math.Seq.{ext_get_or}
+use native.Mathlib.Decide.{dec_lt}
+use Rattle.rules.specs.declared.Header.{Header}
 use Rattle.rules.specs.Lists.{up_to, onto}
-use Rattle.rules.specs.Stored.{held_in}
+use Rattle.rules.specs.Stored.{Room, block_at, value_in, held_in, bounds_at, pins_at, block_count, kind_of, values_in}
 use Rattle.rules.proofs.Count.{get_d-tabled, length-tabled}
-use Rattle.rules.proofs.Entries.{onto-length, onto-in, onto-stays, onto-set}
-use Rattle.stored.specs.Steps.{Put, Taken}
-
--- ---- one block's values
-
-pub put-none : (f : ℕ → ℕ) (a : ℕ) (xs : List ℕ) → Put f a 0 xs xs
-put-none f a xs = record { long = refl; put = λ v h. absurd (omega arith); before = λ i h. refl; after = λ i h. refl }
-
-pub put-more : {f : ℕ → ℕ} {a n : ℕ} {old new : List ℕ} (x : ℕ) → Put f a n old new → a + n < length new → x ≡ f n → Put f a (n + 1) old (set new (a + n) x)
-put-more {f} {a} {n} {old} {new} x p h e = record {
-  long = length-set new (a + n) x ∙ p.long;
-  put = λ v l. elim (ℕ_discrete v n) [
-    | yes q ↦ rw q (get_or-set_same new (a + n) x 0 h ∙ e)
-    | no z ↦ get_or-set_other new (a + n) (a + v) x 0 (λ q. z (omega arith)) ∙ p.put v (omega arith)
-  ];
-  before = λ i l. get_or-set_other new (a + n) i x 0 (λ q. omega arith) ∙ p.before i l;
-  after = λ i l. get_or-set_other new (a + n) i x 0 (λ q. omega arith) ∙ p.after i (omega arith);
-}
+use Rattle.rules.proofs.Entries.{onto-length, onto-in, onto-stays}
+use Rattle.stored.specs.Steps.{Put, Taken, TakenTo}
 
 -- ---- the blocks of a kind
 
-pub taken_none : (g : ℕ → ℕ) (xs : List ℕ) → Taken g 0 xs xs
-taken_none g xs = record { long = refl; taken = λ i h. absurd (omega arith); after = λ i h. refl }
+taken_none : (g : ℕ → ℕ) (xs : List ℕ) (n : ℕ) → n ≡ 0 → Taken g n xs xs
+taken_none g xs n e = record { long = refl; taken = λ i h. absurd (omega arith); after = λ i h. refl }
 
 -- n entries more, those of g from a on
-pub taken_more : {f g : ℕ → ℕ} {a n m : ℕ} {old mid new : List ℕ} → Taken g a old mid → Put f a n mid new → m ≡ a + n → ((v : ℕ) → v < n → f v ≡ g (a + v)) → Taken g m old new
+taken_more : {f g : ℕ → ℕ} {a n m : ℕ} {old mid new : List ℕ} → Taken g a old mid → Put f a n mid new → m ≡ a + n → ((v : ℕ) → v < n → f v ≡ g (a + v)) → Taken g m old new
 taken_more {f} {g} {a} {n} {m} {old} {mid} {new} t p h e = record {
   long = p.long ∙ t.long;
   taken = λ i l. elim (dec_lt i a) [
@@ -75,19 +56,83 @@ taken-all {g} {n} {old} {new} t h =
       | no q ↦ t.after i (omega arith) ∙ sym (onto-stays 0 xs old i (omega arith))
     ])
 
--- ---- the first entries of one list handed over to another
+-- ---- the blocks past the header, kind after kind
 
-module _ (from old : List ℕ) {into : List ℕ} (k : ℕ) (e : into ≡ onto (take k from) old) where
-  pub handed-long : k ≤ length from → k ≤ length old → length into ≡ length old
-  handed-long h l = ap length e ∙ onto-length 0 (take k from) old (omega (arith, length-take-le k from h))
+pub none-taken : (bytes : List ℕ) (h : Header) (room : Room) → TakenTo bytes h 1 room room
+none-taken bytes h room = record {
+  sizes = taken_none _ _ _ (omega arith);
+  sides = taken_none _ _ _ (omega arith);
+  marks = taken_none _ _ _ (omega arith);
+  bounds = taken_none _ _ _ (omega arith);
+  pins = taken_none _ _ _ (omega arith);
+}
 
-  pub handed-more : k < length from → k < length old → set into k (get_or from k 0) ≡ onto (take (k + 1) from) old
-  handed-more h l =
-      let xs : List ℕ = take k from in
-      let v : ℕ = get_or from k 0 in
-      let n : length xs ≡ k = length-take-le k from (omega arith) in
-      ap (λ (x : List ℕ). set x k v) e
-      ∙ ap (λ (i : ℕ). set (onto xs old) i v) (sym n)
-      ∙ onto-set xs old v (omega arith)
-      ∙ ap (λ (t : List ℕ). onto t old) (sym (take-suc from k 0 h))
-      ∙ ap (λ (j : ℕ). onto (take j from) old) (sym (add-one k))
+-- where a block of each kind lies, and how many things it has
+files-block : (h : Header) (b : ℕ) → kind_of h b ≡ 2 → (0 < b) × (b < bounds_at h) × (values_in h b ≡ 2 * held_in 126 h.files (b - 1))
+files-block h b e = (grind (arith, nat_tests), grind (arith, nat_tests), grind (arith, nat_tests))
+
+bounds-block : (h : Header) (b : ℕ) → kind_of h b ≡ 3 → (bounds_at h ≤ b) × (b < pins_at h) × (values_in h b ≡ held_in 253 (h.recipes + 1) (b - bounds_at h))
+bounds-block h b e = (grind (arith, nat_tests), grind (arith, nat_tests), grind (arith, nat_tests))
+
+pins-block : (h : Header) (b : ℕ) → kind_of h b ≡ 4 → (pins_at h ≤ b) × (values_in h b ≡ held_in 253 h.pins (b - pins_at h))
+pins-block h b e = (grind (arith, nat_tests), grind (arith, nat_tests))
+
+module _ {bytes : List ℕ} {h : Header} {b : ℕ} {first old : Room} (t : TakenTo bytes h b first old)
+    {block : List ℕ} (e : block ≡ block_at bytes b) {n : ℕ} (m : n ≡ values_in h b) where
+  -- entry v of block b of a kind whose blocks start at block a: what a value of the block is, it is of the stored job
+  entries-of : (f : List ℕ → ℕ → ℕ) (l a v : ℕ) → a ≤ b → v < l → f block v ≡ f (block_at bytes (a + (l * (b - a) + v) / l)) ((l * (b - a) + v) % l)
+  entries-of f l a v h k =
+      let w : a + (b - a) ≡ b = omega arith in
+      ap (λ (s : List ℕ). f s v) (e ∙ ap (block_at bytes) (sym w)) ∙ spread (λ q r. f (block_at bytes (a + q)) r) l (b - a) v k
+
+  pub files-taken : kind_of h b ≡ 2 → {sizes sides marks : List ℕ}
+      → Put (λ f. value_in block (2 * f)) (126 * (b - 1)) (n / 2) old.sizes sizes
+      → Put (λ f. value_in block (2 * f + 1) % 2) (126 * (b - 1)) (n / 2) old.sides sides
+      → Put (λ f. value_in block (2 * f + 1) / 2) (126 * (b - 1)) (n / 2) old.marks marks
+      → TakenTo bytes h (b + 1) first (record { sizes = sizes; sides = sides; marks = marks; bounds = old.bounds; pins = old.pins })
+  files-taken k p q r =
+      let z = files-block h b k in
+      let c : n / 2 ≡ held_in 126 h.files (b - 1) = omega (arith, z.2) in
+      let w : b - 1 + 1 ≡ b + 1 - 1 = omega arith in
+      let l : 126 * (b - 1) ≤ h.files = omega (arith, z.1) in
+      let i : min (253 * (b - bounds_at h)) (h.recipes + 1) ≡ min (253 * (b + 1 - bounds_at h)) (h.recipes + 1) = omega (arith, z.1) in
+      let j : min (253 * (b - pins_at h)) h.pins ≡ min (253 * (b + 1 - pins_at h)) h.pins = omega (arith, z.1) in
+      record {
+        sizes = rw (← w) (taken-block 126 (b - 1) h.files l c t.sizes p (λ v x. entries-of (λ s f. value_in s (2 * f)) 126 1 v z.0 x));
+        sides = rw (← w) (taken-block 126 (b - 1) h.files l c t.sides q (λ v x. entries-of (λ s f. value_in s (2 * f + 1) % 2) 126 1 v z.0 x));
+        marks = rw (← w) (taken-block 126 (b - 1) h.files l c t.marks r (λ v x. entries-of (λ s f. value_in s (2 * f + 1) / 2) 126 1 v z.0 x));
+        bounds = rw i at t.bounds;
+        pins = rw j at t.pins;
+      }
+
+  pub bounds-taken : kind_of h b ≡ 3 → {bounds : List ℕ} → Put (value_in block) (253 * (b - bounds_at h)) n old.bounds bounds
+      → TakenTo bytes h (b + 1) first (record { sizes = old.sizes; sides = old.sides; marks = old.marks; bounds = bounds; pins = old.pins })
+  bounds-taken k p =
+      let z = bounds-block h b k in
+      let w : b - bounds_at h + 1 ≡ b + 1 - bounds_at h = omega (arith, z.0) in
+      let l : 253 * (b - bounds_at h) ≤ h.recipes + 1 = omega (arith, z.1) in
+      let i : min (126 * (b - 1)) h.files ≡ min (126 * (b + 1 - 1)) h.files = omega (arith, z.0) in
+      let j : min (253 * (b - pins_at h)) h.pins ≡ min (253 * (b + 1 - pins_at h)) h.pins = omega (arith, z.1) in
+      record {
+        sizes = rw i at t.sizes;
+        sides = rw i at t.sides;
+        marks = rw i at t.marks;
+        bounds = rw (← w) (taken-block 253 (b - bounds_at h) (h.recipes + 1) l (m ∙ z.2) t.bounds p (λ v x. entries-of value_in 253 (bounds_at h) v z.0 x));
+        pins = rw j at t.pins;
+      }
+
+  pub pins-taken : b < block_count h → kind_of h b ≡ 4 → {pins : List ℕ} → Put (value_in block) (253 * (b - pins_at h)) n old.pins pins
+      → TakenTo bytes h (b + 1) first (record { sizes = old.sizes; sides = old.sides; marks = old.marks; bounds = old.bounds; pins = pins })
+  pins-taken less k p =
+      let z = pins-block h b k in
+      let w : b - pins_at h + 1 ≡ b + 1 - pins_at h = omega (arith, z.0) in
+      let l : 253 * (b - pins_at h) ≤ h.pins = omega arith in
+      let i : min (126 * (b - 1)) h.files ≡ min (126 * (b + 1 - 1)) h.files = omega (arith, z.0) in
+      let j : min (253 * (b - bounds_at h)) (h.recipes + 1) ≡ min (253 * (b + 1 - bounds_at h)) (h.recipes + 1) = omega (arith, z.0) in
+      record {
+        sizes = rw i at t.sizes;
+        sides = rw i at t.sides;
+        marks = rw i at t.marks;
+        bounds = rw j at t.bounds;
+        pins = rw (← w) (taken-block 253 (b - pins_at h) h.pins l (m ∙ z.1) t.pins p (λ v x. entries-of value_in 253 (pins_at h) v z.0 x));
+      }

@@ -1,13 +1,12 @@
 -- What the reader's inner steps promise one another; the promise of reading itself cites nothing here. Assumes nothing.
-use Rattle.std.specs.Prelude.{◌≡◌, ℕ, ◌+◌, ◌*◌, ◌%◌, ◌/◌, ◌<◌, ◌≤◌, Bool, not, cond, ◌&&◌, List, length, get_or, take, leb, ltb, eqb}
+use Rattle.std.specs.Prelude.{◌≡◌, ℕ, ◌+◌, ◌-◌, ◌*◌, min, ◌%◌, ◌/◌, ◌<◌, ◌≤◌, Bool, not, cond, ◌&&◌, List, length, get_or, take, leb, ltb, eqb}
 use Rattle.rules.specs.declared.Verdict.{Verdict}
 use Rattle.rules.specs.declared.Header.{Header}
-use Rattle.rules.specs.declared.ReadFigures.{ReadFigures}
 use Rattle.job.specs.declared.Job.{Job as Figures}
 use Rattle.rules.specs.Job.{Job, Limits, as_job}
-use Rattle.rules.specs.Check.{is_done, refuse_if, ◌or_else◌, bad_k, check_counts}
-use Rattle.rules.specs.Stored.{Room, word, value_in, value, header_of, block_check, over_second, laid_out, block_count, block_verdict, job_of, roomy, no_header}
-use Rattle.stored.specs.declared.TakenUp.{TakenUp}
+use Rattle.rules.specs.Check.{refuse_if, ◌or_else◌, bad_k, check_counts}
+use Rattle.rules.specs.Stored.{Room, word, value_in, value, header_of, block_check, over_second, laid_out, bounds_at, pins_at, block_count, block_verdict, roomy}
+use Rattle.stored.specs.declared.taken.TakenUp.{TakenUp}
 use Rattle.stored.specs.Room.{lists_of}
 
 -- value v is beyond the n that the block has, and is not zero
@@ -19,8 +18,8 @@ abbrev pub bad_second : List ℕ → ℕ → ℕ → Bool
 bad_second block n f = ltb (2 * f) n && over_second (value_in block (2 * f + 1))
 
 -- the check of a block, then its layout
-abbrev pub verdict_of : List ℕ → ℕ → ℕ → ℕ → Verdict
-verdict_of block b kind n =
+abbrev pub block_numbers : List ℕ → ℕ → ℕ → ℕ → Verdict
+block_numbers block b kind n =
     refuse_if (not (eqb (word block 510) (block_check block))) 21 b
     or_else refuse_if (not (laid_out block b kind n)) 22 b
 
@@ -67,20 +66,17 @@ stored_side bytes i = value bytes (1 + i / 126) (2 * (i % 126) + 1) % 2
 abbrev pub stored_mark : List ℕ → ℕ → ℕ
 stored_mark bytes i = value bytes (1 + i / 126) (2 * (i % 126) + 1) / 2
 
--- the three lists of files
-pub record Files : Type 0 where
-  pub sizes : List ℕ
-  pub sides : List ℕ
-  pub marks : List ℕ
+-- of a room that was old, the blocks before block b are taken: files first, then bounds, then pins
+pub record TakenTo (bytes : List ℕ) (h : Header) (b : ℕ) (old new : Room) : Type 0 where
+  pub sizes : Taken (stored_size bytes) (min (126 * (b - 1)) h.files) old.sizes new.sizes
+  pub sides : Taken (stored_side bytes) (min (126 * (b - 1)) h.files) old.sides new.sides
+  pub marks : Taken (stored_mark bytes) (min (126 * (b - 1)) h.files) old.marks new.marks
+  pub bounds : Taken (stored_value bytes (bounds_at h)) (min (253 * (b - bounds_at h)) (h.recipes + 1)) old.bounds new.bounds
+  pub pins : Taken (stored_value bytes (pins_at h)) (min (253 * (b - pins_at h)) h.pins) old.pins new.pins
 
-abbrev pub files_of : List ℕ → List ℕ → List ℕ → Files
-files_of sizes sides marks = record { sizes = sizes; sides = sides; marks = marks }
-
--- the first n entries are those of the stored files
-pub record TakenFiles (bytes : List ℕ) (n : ℕ) (old new : Files) : Type 0 where
-  pub sizes : Taken (stored_size bytes) n old.sizes new.sizes
-  pub sides : Taken (stored_side bytes) n old.sides new.sides
-  pub marks : Taken (stored_mark bytes) n old.marks new.marks
+-- block b is taken too
+abbrev pub TakesBlock : List ℕ → Header → ℕ → Room → Room → Type 0
+TakesBlock bytes h b old new = (first : Room) → TakenTo bytes h b first old → TakenTo bytes h (b + 1) first new
 
 -- 22 for k, then 1 to 3, in the order of layout_verdict
 abbrev pub figures_verdict : Limits → Header → Room → Verdict
@@ -88,6 +84,10 @@ figures_verdict most h room =
     refuse_if (bad_k h.k) 22 0
     or_else check_counts most h.files h.recipes h.pins
     or_else refuse_if (not (roomy h room)) 3 0
+
+-- block 0, in the order of layout_verdict
+abbrev pub header_verdict : List ℕ → Verdict
+header_verdict bytes = refuse_if (ltb (length bytes) 512) 20 0 or_else block_verdict (header_of bytes) bytes 0
 
 -- block 0 and what follows from its header, in the order of layout_verdict
 unfoldable pub opening_verdict : Limits → List ℕ → Room → Verdict
@@ -124,24 +124,12 @@ first_of h r =
     as_job (take h.files r.sizes) (take h.files r.sides) (take h.files r.marks) (take (h.recipes + 1) r.bounds) (take h.pins r.pins)
     h.num h.den h.cap h.k
 
--- the stored job stands in the first entries of the lists
-pub record Gathered (bytes : List ℕ) (h : Header) (r : Room) : Type 0 where
-  pub enough : Ample h.files h.recipes h.pins r
-  pub job : first_of h r ≡ job_of bytes
-
 -- the job that was taken up, and that there is one, within the limits
 abbrev pub job_taken : TakenUp → Job
-job_taken t = first_of t.read.header (lists_of t)
+job_taken t = first_of t.header (lists_of t)
 
 pub record Held (most : Limits) (t : TakenUp) : Type 0 where
-  pub enough : Ample t.read.header.files t.read.header.recipes t.read.header.pins (lists_of t)
-  pub few_files : t.read.header.files ≤ most.files
-  pub few_recipes : t.read.header.recipes ≤ most.recipes
-  pub few_pins : t.read.header.pins ≤ most.pins
-
-abbrev pub read_figures : Verdict → Header → ReadFigures
-read_figures v h = record { verdict = v; header = h }
-
--- a refused answer has no header
-abbrev pub answer_by : Verdict → Header → ReadFigures
-answer_by v h = cond (is_done v) (read_figures v h) (read_figures v no_header)
+  pub enough : Ample t.header.files t.header.recipes t.header.pins (lists_of t)
+  pub few_files : t.header.files ≤ most.files
+  pub few_recipes : t.header.recipes ≤ most.recipes
+  pub few_pins : t.header.pins ≤ most.pins

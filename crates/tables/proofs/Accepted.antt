@@ -17,8 +17,8 @@ use Rattle.rules.proofs.Fits.{numbers-least, LongEnough, long-enough}
 use Rattle.rules.proofs.SoundJob.{ratio-pass, goal-pass, sound, views-distinct}
 use Rattle.rules.proofs.Verdicts.{zero_of, passes-both}
 use Rattle.rules.proofs.Proved.{lent-sound}
-use Rattle.job.specs.declared.figures.Survey.{Survey}
-use Rattle.job.specs.Survey.{check_for, survey_of}
+use Rattle.job.specs.Given.{the_limits}
+use Rattle.job.specs.Survey.{Survey, check_for, survey_of}
 use Rattle.job.specs.Totals.{start_for}
 use Rattle.job.proofs.Whole.{start-last}
 use Rattle.tables.specs.Zones.{counts_at}
@@ -46,7 +46,15 @@ module _ (balancing : Bool) (most : Limits) (job : Job) (word : Bool) where
   ]
 
   pub survey-is : (check_for balancing most job word).number ≡ 0
-      → survey_of balancing most job word ≡ record { verdict = check_for balancing most job word; weight = weight job; tolerance = tolerance job; size = size_a job job.sides; cut = cut job.sides (recipes job); unread = unread_files job; holding = unread_recipes job }
+      → survey_of balancing most job word ≡ record {
+        verdict = check_for balancing most job word;
+        weight = weight job;
+        tolerance = tolerance job;
+        size = size_a job job.sides;
+        cut = cut job.sides (recipes job);
+        unread = unread_files job;
+        holding = unread_recipes job;
+      }
   unfolding survey_of
   survey-is e = rw (eq-eqb (check_for balancing most job word).number 0 e, survey_of)
 
@@ -74,15 +82,15 @@ survey-late balancing most job a b h =
       | no n ↦ rw (ne_eqb (check_for balancing most job a).number 0 n, ne_eqb (check_for balancing most job b).number 0 (λ e. n (number ∙ e)), survey_of, w)
     ]
 
--- s is the survey's answer, told whether the lent lists fit
-pub record Surveyed (balancing : Bool) (most : Limits) (job : Job) (word : Bool) (s : Survey) : Type 0 where
-  pub narrow : Narrow most
-  pub answered : s ≡ survey_of balancing most job word
+-- those of the kind of job
+pub narrow : Narrow the_limits
+narrow = record { files = omega arith; recipes = omega arith; pins = omega arith; den = omega arith; links = omega arith }
 
--- from what the steps before it promise
-pub surveyed : {s : Survey} (balancing : Bool) (most : Limits) (job : Job) (a b : Bool) → Narrow most
-    → WordOn most.files most.recipes most.pins (file_count job) (recipe_count job) (pin_count job) a b → s ≡ survey_of balancing most job a → Surveyed balancing most job b s
-surveyed balancing most job a b n h e = record { narrow = n; answered = e ∙ survey-late balancing most job a b h }
+-- what the survey answers is the survey told whether the lent lists fit
+pub answered : (balancing : Bool) (job : Job) {a b : Bool} {s : Survey}
+    → WordOn the_limits.files the_limits.recipes the_limits.pins (file_count job) (recipe_count job) (pin_count job) a b
+    → s ≡ survey_of balancing the_limits job a → s ≡ survey_of balancing the_limits job b
+answered balancing job {a} {b} h e = e ∙ survey-late balancing the_limits job a b h
 
 -- ---- what the builders ask
 
@@ -111,18 +119,31 @@ module _ (edition : ℕ) (job : Job) (gains : List ℤ) (z : List ℕ) (l : List
       lent_of gains (replicate l.tried 0) (replicate l.gained (pos 0)) (replicate l.cuts 0) (replicate l.ends 0) (replicate l.recipes 0) (replicate l.kinds 0) z
 
   some_fit : fits edition job some ≡ fit_word
-  some_fit = rw (length-replicate {A = ℕ} l.tried 0, length-replicate l.gained (pos 0), length-replicate {A = ℕ} l.cuts 0, length-replicate {A = ℕ} l.ends 0, length-replicate {A = ℕ} l.recipes 0, length-replicate {A = ℕ} l.kinds 0) refl
+  some_fit = rw (
+    length-replicate {A = ℕ} l.tried 0,
+    length-replicate l.gained (pos 0),
+    length-replicate {A = ℕ} l.cuts 0,
+    length-replicate {A = ℕ} l.ends 0,
+    length-replicate {A = ℕ} l.recipes 0,
+    length-replicate {A = ℕ} l.kinds 0,
+  ) refl
 
-  pub builders-ask : (most : Limits) → Narrow most → (check_sound most job fit_word).number ≡ 0
-      → Buildable job.bounds job.pins (length job.sides)
-      × (((length gains ≡ length job.sides) × (length job.marks ≡ length job.sides))
-      × ((counts_at (length job.sides) (pin_count job) + 4 * recipe_count job ≤ length z) × Binary job.sides))
-  builders-ask most n ok =
-      let s = sound most job fit_word ok in
-      let r : LongEnough edition job some = long-enough edition job some (some_fit ∙ lent-sound most job fit_word ok) in (
-        buildable n s,
-        (
-          (r.gains ∙ sym s.sides_long, s.marks_long ∙ sym s.sides_long),
-          (omega (arith, r.scratch, numbers-least edition (pin_count job) (file_count job) (recipe_count job), s.sides_long), s.binary),
-        ),
-      )
+  -- the lengths of the lists, and what a sound job has
+  pub record Asked : Type 0 where
+    pub marks_long : length job.marks ≡ length job.sides
+    pub binary : Binary job.sides
+    pub buildable : Buildable job.bounds job.pins (length job.sides)
+    pub gains_long : length gains ≡ length job.sides
+    pub room : counts_at (length job.sides) (pin_count job) + 4 * recipe_count job ≤ length z
+
+  pub builders-ask : (check_sound the_limits job fit_word).number ≡ 0 → Asked
+  builders-ask ok =
+      let s = sound the_limits job fit_word ok in
+      let r : LongEnough edition job some = long-enough edition job some (some_fit ∙ lent-sound the_limits job fit_word ok) in
+      record {
+        marks_long = s.marks_long ∙ sym s.sides_long;
+        binary = s.binary;
+        buildable = buildable narrow s;
+        gains_long = r.gains ∙ sym s.sides_long;
+        room = omega (arith, r.scratch, numbers-least edition (pin_count job) (file_count job) (recipe_count job), s.sides_long);
+      }

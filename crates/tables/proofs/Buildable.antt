@@ -1,4 +1,4 @@
--- What bounds and pins that can be built from say of their recipes. Assumes nothing.
+-- What the bounds and pins of a sound job say of its recipes. Assumes nothing.
 use mathlib.Core.Path.{◌≡◌, refl, sym, ap, ap₂, ◌∙◌}
 use Prim.Native.Nat.{ℕ, zero, suc, ◌+◌, ◌-◌, ◌≤◌, ◌<◌}
 use mathlib.Core.Bool.{Bool, true, false, cond}
@@ -17,14 +17,28 @@ use Rattle.rules.specs.Theorems.{Distinct}
 use Rattle.rules.proofs.Readable.{read-times, read-distinct}
 use Rattle.job.specs.Parts.{of_marked}
 use Rattle.tables.specs.Zones.{part}
-use Rattle.tables.specs.Building.{views_of, read_of, readable, two_readable, Buildable}
+use Rattle.tables.specs.declared.sound_job.SoundJob.{SoundJob}
+use Rattle.tables.specs.Building.{views_of, readable, two_readable, Buildable}
+use Rattle.tables.specs.SoundJob.{read_recipes, many_files, many_recipes}
 use Rattle.tables.proofs.Parts.{part_length, part-entry}
 
 pub times-append : (f : ℕ) (a b : List ℕ) → times f (a ++ b) ≡ times f a + times f b
 unfolding times count
 times-append f a b = total-append (λ x. bit (eqb x f)) a b
 
-module _ (bounds pins : List ℕ) (c : ℕ) (able : Buildable bounds pins c) where
+module _ (job : SoundJob) where
+  abbrev bounds : List ℕ
+  bounds = job.recipes.bounds.now
+
+  abbrev pins : List ℕ
+  pins = job.recipes.pins.now
+
+  abbrev marks : List ℕ
+  marks = job.marks.now
+
+  abbrev able : Buildable bounds pins (many_files job)
+  able = job.buildable
+
   -- the two bounds of a recipe that is there are in order and within the pins
   bounds-fit : (j : ℕ) → j < length bounds - 1 → (get_or bounds j 0 ≤ get_or bounds (j + 1) 0) × (get_or bounds (j + 1) 0 ≤ length pins)
   bounds-fit j h =
@@ -38,7 +52,7 @@ module _ (bounds pins : List ℕ) (c : ℕ) (able : Buildable bounds pins c) whe
   view-length j h = ap length (view-part j h) ∙ part_length (get_or bounds j 0) (get_or bounds (j + 1) 0 - get_or bounds j 0) pins (omega (arith, bounds-fit j h))
 
   -- every pin of it is a file
-  view-file : (j k : ℕ) → j < length bounds - 1 → k < length (view_of bounds pins j) → get_or (view_of bounds pins j) k 0 < c
+  view-file : (j k : ℕ) → j < length bounds - 1 → k < length (view_of bounds pins j) → get_or (view_of bounds pins j) k 0 < many_files job
   view-file j k h l =
       let m : k < get_or bounds (j + 1) 0 - get_or bounds j 0 = omega (arith, view-length j h) in
       rw (view-part j h, part-entry (get_or bounds j 0) (get_or bounds (j + 1) 0 - get_or bounds j 0) pins k m) (able.files (get_or bounds j 0 + k) (omega (arith, bounds-fit j h)))
@@ -65,51 +79,51 @@ module _ (bounds pins : List ℕ) (c : ℕ) (able : Buildable bounds pins c) whe
 
   -- ---- by the marks
 
-  module _ (marks : List ℕ) where
-    abbrev read : List ℕ → List ℕ
-    read = read_in (of_marked marks bounds pins)
+  abbrev read : List ℕ → List ℕ
+  read = read_in (of_marked marks bounds pins)
 
-    pub read-long : length (read_of marks bounds pins) ≡ length bounds - 1
-    read-long = length-map (views_of bounds pins) read ∙ length-tabled (view_of bounds pins) (length bounds - 1)
+  pub read-long : length (read_recipes job) ≡ length bounds - 1
+  read-long = length-map (views_of bounds pins) read ∙ length-tabled (view_of bounds pins) (length bounds - 1)
 
-    pub read-once : Distinct (read_of marks bounds pins)
-    read-once = read-distinct (of_marked marks bounds pins) (views_of bounds pins) able.distinct
+  pub read-once : Distinct (read_recipes job)
+  read-once = read-distinct (of_marked marks bounds pins) (views_of bounds pins) able.distinct
 
-    -- no file more often than the pins have it
-    pub times-read : (f : ℕ) → total (times f) (read_of marks bounds pins) ≤ times f pins
-    times-read f =
-        omega (
-          arith,
-          total-map (times f) read (views_of bounds pins),
-          total-le (times f) (λ r. times f (read r)) (read-times (of_marked marks bounds pins) f) (views_of bounds pins),
-          times-recipes f,
-        )
+  -- no file more often than the pins have it
+  pub times-read : (f : ℕ) → total (times f) (read_recipes job) ≤ times f pins
+  times-read f =
+      omega (
+        arith,
+        total-map (times f) read (views_of bounds pins),
+        total-le (times f) (λ r. times f (read r)) (read-times (of_marked marks bounds pins) f) (views_of bounds pins),
+        times-recipes f,
+      )
 
-    two-readable-read : (r : List ℕ) → read r ≡ readable marks (two_readable marks r)
-    unfolding read_in those
-    two-readable-read r = go (leb 2 (length (readable marks r)))
+  two-readable-read : (r : List ℕ) → read r ≡ readable marks (two_readable marks r)
+  unfolding read_in those
+  two-readable-read r = go (leb 2 (length (readable marks r)))
+    where
+      go : (b : Bool) → cond b (readable marks r) [] ≡ readable marks (cond b r [])
+      go true = refl
+      go false = refl
+
+  -- recipe j, as it may be scanned
+  module _ {j : ℕ} (h : j < many_recipes job) {own : List ℕ} (is : own ≡ two_readable marks (view_of bounds pins j)) where
+    pub own_read : readable marks own ≡ get_or (read_recipes job) j []
+    own_read =
+        ap (readable marks) is ∙ sym (two-readable-read (view_of bounds pins j))
+        ∙ sym (get_d-mapped read (views_of bounds pins) j [] [] (rw (length-tabled (view_of bounds pins) (length bounds - 1)) h)
+        ∙ ap read (get_d-tabled (view_of bounds pins) (length bounds - 1) j [] h))
+
+    pub own-file : (k : ℕ) → k < length own → get_or own k 0 < many_files job
+    own-file = rw is (go (leb 2 (length (readable marks (view_of bounds pins j)))))
       where
-        go : (b : Bool) → cond b (readable marks r) [] ≡ readable marks (cond b r [])
-        go true = refl
-        go false = refl
+        go : (b : Bool) → AllBelow (many_files job) (cond b (view_of bounds pins j) [])
+        go true k l = view-file j k h l
+        go false k l = absurd (omega arith)
 
-    -- recipe j, as it may be scanned
-    module _ (j : ℕ) (h : j < length bounds - 1) (own : List ℕ) (is : own ≡ two_readable marks (view_of bounds pins j)) where
-      pub own_read : readable marks own ≡ get_or (read_of marks bounds pins) j []
-      own_read =
-          ap (readable marks) is ∙ sym (two-readable-read (view_of bounds pins j))
-          ∙ sym (get_d-mapped read (views_of bounds pins) j [] [] (rw (length-tabled (view_of bounds pins) (length bounds - 1)) h) ∙ ap read (get_d-tabled (view_of bounds pins) (length bounds - 1) j [] h))
-
-      pub own-file : (k : ℕ) → k < length own → get_or own k 0 < c
-      own-file = rw is (go (leb 2 (length (readable marks (view_of bounds pins j)))))
-        where
-          go : (b : Bool) → AllBelow c (cond b (view_of bounds pins j) [])
-          go true k l = view-file j k h l
-          go false k l = absurd (omega arith)
-
-      pub own-short : length own ≤ length pins
-      own-short = rw is (go (leb 2 (length (readable marks (view_of bounds pins j)))))
-        where
-          go : (b : Bool) → length (cond b (view_of bounds pins j) []) ≤ length pins
-          go true = omega (arith, view-length j h, bounds-fit j h)
-          go false = omega arith
+    pub own-short : length own ≤ length pins
+    own-short = rw is (go (leb 2 (length (readable marks (view_of bounds pins j)))))
+      where
+        go : (b : Bool) → length (cond b (view_of bounds pins j) []) ≤ length pins
+        go true = omega (arith, view-length j h, bounds-fit j h)
+        go false = omega arith

@@ -8,11 +8,12 @@ use lib.Seq.{length-take-le, take-take, take_at, drop_at, drop-drop, take_all, g
 use borrow.Rule.Slice.PartMut.{put_mid, same_len_mid, take_put, drop_put}
 use Rattle.rules.specs.Move.{State}
 use Rattle.rules.specs.Split.{recipes_of}
-use Rattle.tables.specs.Zones.{cells_at, starts_at, counts_at, side_at, part, start_in, end_in, Cells, Counts}
+use Rattle.tables.specs.declared.zones.Zones.{Zones}
+use Rattle.tables.specs.Zones.{cells_at, starts_at, counts_at, side_at, zones_of, part, start_in, end_in, Cells, Counts}
 use Rattle.tables.specs.Filling.{start_at, end_at, start_of, Filled}
 use Rattle.tables.proofs.Parts.{part_length, part-entry, front-entry, front-part}
 use Rattle.tables.proofs.Filling.{start-after, starts-are}
-use Rattle.tables.proofs.Sides.{side-within, side-from}
+use Rattle.tables.proofs.Sides.{zones-are, side-within, side-from}
 
 -- ---- `put_mid a (e - a) xs ys`: the entries of xs from a up to e were lent and came back as ys
 
@@ -130,9 +131,18 @@ pub record ThreeZones (c p n a d e : ℕ) (z z₁ z₂ z₃ : List ℕ) : Type 0
   pub before : TwoZones c p n a d e z z₁ z₂
   pub third : length z₃ ≡ length (part d (e - d) (two_zones a d z z₁ z₂))
 
--- the zone that is lent for the locks
-pub locks-room : {c p n a d e : ℕ} (z : List ℕ) → Begins c p n a d e → counts_at c p + 4 * n ≤ length z → length (part 0 (a - 0) z) ≡ c
-locks-room {a = a} z g fits = part_length 0 (a - 0) z (omega (arith, g.cells)) ∙ omega (arith, g.cells)
+-- so they come back, where the code has the zones begin as it says
+pub lend : {c p n : ℕ} {at : Zones} {k : ℕ} {z z₁ z₂ z₃ : List ℕ} → at ≡ zones_of c p → k ≡ n → counts_at c p + 4 * n ≤ length z
+    → length z₁ ≡ length (part 0 (at.cells - 0) z)
+    → length z₂ ≡ length (part at.cells (at.counts - at.cells) (one_zone at.cells z z₁))
+    → length z₃ ≡ length (part at.counts (at.counts + 4 * k - at.counts) (two_zones at.cells at.counts z z₁ z₂))
+    → ThreeZones c p n at.cells at.counts (at.counts + 4 * k) z z₁ z₂ z₃
+lend {c} {p} e m fits a b d =
+    let o = zones-are c p e in
+    record {
+      before = record { before = record { begins = record { cells = o.0; counts = o.2; end = omega (arith, o.2, m) }; fits = fits; first = a }; second = b };
+      third = d;
+    }
 
 module _ {c p n a d e : ℕ} {z z₁ : List ℕ} (l : OneZone c p n a d e z z₁) where
   one-long : length (one_zone a z z₁) ≡ length z
@@ -150,10 +160,6 @@ module _ {c p n a d e : ℕ} {z z₁ : List ℕ} (l : OneZone c p n a d e z z₁
   second_fits : length (part a (d - a) (one_zone a z z₁)) ≡ d - a
   second_fits = part_length a (d - a) (one_zone a z z₁) (omega (arith, second-in))
 
-  -- the zone that is lent for the cells
-  pub cells-room : length (part a (d - a) (one_zone a z z₁)) ≡ p + c + 1
-  cells-room = second_fits ∙ omega (arith, l.begins)
-
 module _ {c p n a d e : ℕ} {z z₁ z₂ : List ℕ} (l : TwoZones c p n a d e z z₁ z₂) where
   two-long : length (two_zones a d z z₁ z₂) ≡ length z
   two-long = same_len_mid a (d - a) (one_zone a z z₁) z₂ l.second ∙ one-long l.before
@@ -166,10 +172,6 @@ module _ {c p n a d e : ℕ} {z z₁ z₂ : List ℕ} (l : TwoZones c p n a d e 
 
   third-fits : length (part d (e - d) (two_zones a d z z₁ z₂)) ≡ e - d
   third-fits = part_length d (e - d) (two_zones a d z z₁ z₂) (omega (arith, third-in))
-
-  -- the zone that is lent for the counts
-  pub counts-room : length (part d (e - d) (two_zones a d z z₁ z₂)) ≡ 4 * n
-  counts-room = third-fits ∙ omega (arith, l.before.begins)
 
 module _ {c p n a d e : ℕ} {z z₁ z₂ z₃ : List ℕ} (l : ThreeZones c p n a d e z z₁ z₂ z₃) where
   abbrev g : Begins c p n a d e
@@ -203,8 +205,8 @@ module _ {c p n a d e : ℕ} {z z₁ z₂ z₃ : List ℕ} (l : ThreeZones c p n
   pub zones-long : length all ≡ length z
   zones-long = same_len_mid d (e - d) two z₃ l.third ∙ two-long l.before
 
-  pub zones-fit : counts_at c p + 4 * n ≤ length all
-  zones-fit = omega (arith, l.before.before.fits, zones-long)
+  pub zones-room : counts_at c p + 4 * n ≤ length all
+  zones-room = omega (arith, l.before.before.fits, zones-long)
 
   pub zones-beyond : drop (counts_at c p + 4 * n) all ≡ drop (counts_at c p + 4 * n) z
   zones-beyond =

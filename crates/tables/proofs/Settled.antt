@@ -1,5 +1,5 @@
 -- What is prepared is settled: two scratches prepared from one are the same, entry by entry. Assumes nothing.
-use mathlib.Core.Path.{◌≡◌, sym, ap, ap₂, ◌∙◌}
+use mathlib.Core.Path.{◌≡◌, refl, sym, ap, ap₂, ◌∙◌}
 use Prim.Native.Nat.{ℕ, ◌+◌, ◌-◌, ◌*◌, ◌≤◌, ◌<◌}
 use mathlib.Core.Bool.{Bool}
 use mathlib.Core.List.{List}
@@ -11,7 +11,11 @@ use lib.Seq.{get_or-drop, ext_get_or}
 use lib.IntN.{ℤ}
 use Rattle.rules.specs.Job.{Job, Limits}
 use Rattle.rules.specs.Split.{recipes_of}
-use Rattle.job.specs.declared.figures.Survey.{Survey}
+use Rattle.std.specs.Prelude.{Result, Ok, Err}
+use Rattle.rules.specs.declared.refusal.Refusal.{Refusal}
+use Rattle.rules.proofs.CasesOne.{undone, case_of, case-refused}
+use Rattle.job.specs.declared.figures.Surveyed.{Surveyed}
+use Rattle.job.specs.Survey.{Survey, as_survey}
 use Rattle.tables.specs.Zones.{cells_at, starts_at, counts_at, side_at, part, start_in, end_in}
 use Rattle.tables.specs.Building.{read_of}
 use Rattle.tables.specs.Filling.{start_of}
@@ -38,7 +42,8 @@ module _ {bounds pins sides marks z₀ z : List ℕ} {g : List ℤ} {n : ℕ} (d
   mine f = recipes_of rs f
 
   -- a cell of file f is the recipe of its place
-  cell-is : (f i : ℕ) → f < length sides → start_of rs f ≤ i → i < start_of rs f + length (mine f) → get_or z (cells_at (length sides) + i) 0 ≡ get_or (mine f) (i - start_of rs f) 0
+  cell-is : (f i : ℕ) → f < length sides → start_of rs f ≤ i → i < start_of rs f + length (mine f)
+      → get_or z (cells_at (length sides) + i) 0 ≡ get_or (mine f) (i - start_of rs f) 0
   cell-is f i h from to =
       let e : cells_at (length sides) + start_of rs f + (i - start_of rs f) ≡ cells_at (length sides) + i = omega arith in
       let next : starts_at (length sides) (length pins) + (f + 1) ≡ starts_at (length sides) (length pins) + f + 1 = omega arith in
@@ -109,10 +114,21 @@ module _ {bounds pins sides marks z₀ z z' : List ℕ} {g g' : List ℤ} {n : �
 
 -- ---- the answer, the gains and the scratch
 
+-- the numbers of a survey tell its whole answer
+abbrev survey_case : Survey → Result Surveyed Refusal
+survey_case n = case_of n.verdict (record { weight = n.weight; tolerance = n.tolerance; size = n.size; cut = n.cut; unread = n.unread; holding = n.holding })
+
+survey-back : (r : Result Surveyed Refusal) → survey_case (as_survey r) ≡ r
+survey-back (Ok x) = refl
+survey-back (Err r) = case-refused r _
+
+pub as_survey-one : (r s : Result Surveyed Refusal) → as_survey r ≡ as_survey s → r ≡ s
+as_survey-one = undone as_survey survey_case survey-back
+
 module _ {balancing : Bool} {most : Limits} {job : Job} {word : Bool} {gains₀ : List ℤ} {z₀ : List ℕ} where
-  pub laid-once : {g g' : List ℤ} {z z' : List ℕ} {s s' : Survey} → LaysOut balancing most job word gains₀ z₀ g z s → LaysOut balancing most job word gains₀ z₀ g' z' s'
+  numbers-once : {g g' : List ℤ} {z z' : List ℕ} {s s' : Survey} → LaysOut balancing most job word gains₀ z₀ g z s → LaysOut balancing most job word gains₀ z₀ g' z' s'
       → (s ≡ s') × (g ≡ g') × (z ≡ z')
-  laid-once {g} {g'} {z} {z'} {s} {s'} a b = elim (ℕ_discrete s.verdict.number 0) [
+  numbers-once {g} {g'} {z} {z'} {s} {s'} a b = elim (ℕ_discrete s.verdict.number 0) [
     | yes e ↦
         let d = a.laid e in
         let d' = b.laid (sym number ∙ e) in
@@ -128,3 +144,10 @@ module _ {balancing : Bool} {most : Limits} {job : Job} {word : Bool} {gains₀ 
 
       number : s.verdict.number ≡ s'.verdict.number
       number = ap (λ (x : Survey). x.verdict.number) same
+
+  pub laid-once : {g g' : List ℤ} {z z' : List ℕ} (r r' : Result Surveyed Refusal) → LaysOut balancing most job word gains₀ z₀ g z (as_survey r)
+      → LaysOut balancing most job word gains₀ z₀ g' z' (as_survey r')
+      → (r ≡ r') × (g ≡ g') × (z ≡ z')
+  laid-once {g} {g'} {z} {z'} r r' a b =
+      let t = numbers-once a b in
+      (as_survey-one r r' t.0, t.1, t.2)

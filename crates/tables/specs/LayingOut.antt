@@ -2,8 +2,7 @@
 use Rattle.std.specs.Prelude.{◌≡◌, ◌≢◌, ℕ, ◌+◌, ◌*◌, ◌≤◌, ◌<◌, Bool, List, length, get_or, take, drop, ℤ}
 use Rattle.rules.specs.Job.{Job, Limits, recipe_count}
 use Rattle.rules.specs.Pass.{start_gains}
-use Rattle.job.specs.declared.figures.Survey.{Survey}
-use Rattle.job.specs.Survey.{survey_of}
+use Rattle.job.specs.Survey.{Survey, survey_of}
 use Rattle.tables.specs.Zones.{cells_at, counts_at, start_in, state_of, Cells, Counts}
 use Rattle.tables.specs.Building.{read_of}
 use Rattle.tables.specs.Filling.{start_of}

@@ -1,5 +1,6 @@
 pub mod Zones
 pub mod Building
+pub mod SoundJob
 pub mod Filling
 pub mod Counting
 pub mod Clearing

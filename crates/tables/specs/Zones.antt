@@ -3,10 +3,8 @@
 -- For C files, N recipes and P pins: C locks; P cells, the recipes of file after file; C + 1 starts, where each file's cells begin, counted from the
 -- first cell: they end where the next one's begin; 4N counts of a recipe's files: on A, on B, locked on A, locked on B; the rest is room.
 use Rattle.std.specs.Prelude.{◌≡◌, ℕ, ◌+◌, ◌-◌, ◌*◌, ◌≤◌, ◌<◌, cond, List, [], get_or, take, drop, eqb}
-use Rattle.rules.specs.Split.{count_on}
-use Rattle.rules.specs.Move.{State}
-use Rattle.rules.specs.Move.{locked_on}
-use Rattle.rules.specs.Split.{recipes_of}
+use Rattle.rules.specs.Split.{count_on, recipes_of}
+use Rattle.rules.specs.Move.{State, locked_on}
 use Rattle.tables.specs.declared.zones.Extent.{Extent}
 use Rattle.tables.specs.declared.zones.Zones.{Zones}
 

@@ -4,83 +4,53 @@
 ghost use Rattle.std.specs.Prelude.{◌≡◌, ◌-◌, ◌*◌, pos};
 ghost use Rattle.rules.specs.Split.{side_of};
 ghost use Rattle.rules.specs.Job.{scratch_numbers};
+ghost use Rattle.job.specs.Given.{SameMoves, SameScans};
 ghost use Rattle.tables.specs.Clearing.{cleared_in};
 ghost use Rattle.tables.specs.Ending.{turned, back_to};
 
-use super::zones::{Extent, numbers_for, scans_for};
-use job::{entry_at, wide};
+use super::zones::Extent;
+use job::{Moves, Scans, entry_at};
 
-pub(crate) fn clear(list: &mut [u16], from: usize, to: usize)
-    ensures { list.new ≡ cleared_in from to 0 list.old }
+// `fill` would ask here that the element's `clone` cannot fail, and gives the same value.
+pub(crate) fn clear<T: Copy>(list: &mut [T], from: usize, to: usize, zero: T)
+    ensures { list.new ≡ cleared_in from to zero list.old }
 {
-    if (to < from) | (list.len() < to) {
-        return;
-    }
-    let mut k = from;
-    while k < to {
-        list[k] = 0;
-        k += 1;
-    }
-}
-
-fn clear_signed(list: &mut [i32], from: usize, to: usize)
-    ensures { list.new ≡ cleared_in from to (pos 0) list.old }
-{
-    if (to < from) | (list.len() < to) {
-        return;
-    }
-    let mut k = from;
-    while k < to {
-        list[k] = 0;
-        k += 1;
+    if from <= to && to <= list.len() {
+        for entry in &mut list[from..to] {
+            *entry = zero;
+        }
     }
 }
 
 // The moves from best on are taken back; the move lists end in zeros, from the number of moves up to the number of files.
-pub fn end_moves(
-    sides: &mut [u16],
-    tried: &mut [u16],
-    gained: &mut [i32],
-    cuts: &mut [u16],
-    ends: &mut [u16],
-    best: usize,
-    moves: usize,
-    files: usize,
-)
-    ensures { (sides.new ≡ back_to tried.old best (moves - best) sides.old) × (tried.new ≡ cleared_in moves files 0 tried.old) × (gained.new ≡ cleared_in moves files (pos 0) gained.old) × (cuts.new ≡ cleared_in moves files 0 cuts.old) × (ends.new ≡ cleared_in moves files 0 ends.old) }
+pub fn end_moves(sides: &mut [u16], moves: &mut Moves, best: usize, made: usize, files: usize)
+    ensures same_lists { SameMoves moves.old moves.new }
+    ensures sides_after { sides.new ≡ back_to moves.old.tried.now best (made - best) sides.old }
+    ensures moves_after { (moves.new.tried.now ≡ cleared_in made files 0 moves.old.tried.now) × (moves.new.gained.now ≡ cleared_in made files (pos 0) moves.old.gained.now) × (moves.new.cuts.now ≡ cleared_in made files 0 moves.old.cuts.now) × (moves.new.ends.now ≡ cleared_in made files 0 moves.old.ends.now) }
 {
-    take_back(sides, tried, best, moves);
-    clear(tried, moves, files);
-    clear_signed(gained, moves, files);
-    clear(cuts, moves, files);
-    clear(ends, moves, files);
+    take_back(sides, moves, best, made);
+    clear(moves.tried, made, files, 0);
+    clear(moves.gained, made, files, 0);
+    clear(moves.cuts, made, files, 0);
+    clear(moves.ends, made, files, 0);
 }
 
 // The scan lists end in zeros, from the number of scans up to 4N; all numbers of the scratch that the edition and the extent ask are zeros.
 pub fn end_scans(
-    recipes: &mut [u16],
-    kinds: &mut [u16],
+    scans: &mut Scans,
     scratch: &mut [u16],
-    scans: usize,
+    listed: usize,
     edition: u16,
     extent: Extent,
 )
-    ensures { (recipes.new ≡ cleared_in scans (4 * extent.recipes) 0 recipes.old) × (kinds.new ≡ cleared_in scans (4 * extent.recipes) 0 kinds.old) × (scratch.new ≡ cleared_in 0 (scratch_numbers edition extent.pins extent.files extent.recipes) 0 scratch.old) }
+    ensures same_lists { SameScans scans.old scans.new }
+    ensures scans_after { (scans.new.recipes.now ≡ cleared_in listed (4 * extent.recipes) 0 scans.old.recipes.now) × (scans.new.kinds.now ≡ cleared_in listed (4 * extent.recipes) 0 scans.old.kinds.now) }
+    ensures scratch_after { scratch.new ≡ cleared_in 0 (scratch_numbers edition extent.pins extent.files extent.recipes) 0 scratch.old }
 {
-    let most = scans_for(extent);
-    let numbers = numbers_for(edition, extent);
-    clear(recipes, scans, most);
-    clear(kinds, scans, most);
-    clear(scratch, 0, numbers);
-}
-
-fn other(side: u16) -> u16
-    ensures { result ≡ 1 - side }
-{
-    if side == 0 {
-        return 1;
-    }
-    0
+    let most = extent.scans();
+    clear(scans.recipes, listed, most, 0);
+    clear(scans.kinds, listed, most, 0);
+    clear(scratch, 0, extent.numbers_for(edition), 0);
 }
 
 // The file changes its side; the side it is on now.
@@ -90,18 +60,16 @@ pub fn turn(sides: &mut [u16], f: usize) -> u16
     if sides.len() <= f {
         return 1;
     }
-    let side = other(sides[f]);
+    let side = 1u16.saturating_sub(sides[f]);
     sides[f] = side;
     side
 }
 
 // The moves from best up to moves taken back, the latest first.
-fn take_back(sides: &mut [u16], tried: &[u16], best: usize, moves: usize)
-    ensures { sides.new ≡ back_to tried.now best (moves - best) sides.old }
+fn take_back(sides: &mut [u16], moves: &Moves, best: usize, made: usize)
+    ensures { sides.new ≡ back_to moves.now.tried.now best (made - best) sides.old }
 {
-    let mut k = moves;
-    while best < k {
-        k -= 1;
-        turn(sides, wide(entry_at(tried, k)));
+    for k in (best..made).rev() {
+        turn(sides, entry_at(moves.tried, k) as usize);
     }
 }

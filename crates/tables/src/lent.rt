@@ -1,10 +1,10 @@
 // The lengths of the lent lists.
-ghost use Rattle.tables.specs.LentFits.{fits_of, WordOn};
+ghost use Rattle.tables.specs.LentFits.{WordFor};
 
-use super::zones::{Extent, numbers_for, scans_for};
-use job::Job;
+use super::zones::Extent;
+use job::{Book, Job};
 
-// How long the lists of moves and of scans are.
+// How long the lists of moves and of scans are: lengths and not lists, since the balancing has no move lists.
 #[derive(Clone, Copy)]
 pub struct ListLengths {
     pub tried: usize,
@@ -19,16 +19,17 @@ pub struct ListLengths {
 // A job over its most is refused before this is looked at.
 pub(crate) fn lists_fit(
     edition: u16,
-    c: usize,
-    n: usize,
-    p: usize,
+    book: Book,
     gains: usize,
     scratch: usize,
     lists: ListLengths,
 ) -> bool
-    ensures { WordOn Job.MOST_FILES Job.MOST_RECIPES Job.MOST_PINS c n p result (fits_of edition c n p gains scratch lists) }
+    ensures { WordFor book.entry edition gains scratch lists result }
 {
-    if (Job::MOST_FILES < c) | (Job::MOST_RECIPES < n) | (Job::MOST_PINS < p) {
+    let c = book.files.sizes.len();
+    let n = book.recipes.count();
+    let p = book.recipes.pins.len();
+    if Job::MOST_FILES < c || Job::MOST_RECIPES < n || Job::MOST_PINS < p {
         return false;
     }
     let extent = Extent {
@@ -36,12 +37,13 @@ pub(crate) fn lists_fit(
         recipes: n as u16,
         pins: p as u16,
     };
-    let scans = scans_for(extent);
-    let numbers = numbers_for(edition, extent);
-    let moves = (gains == c)
-        & (c <= lists.tried)
-        & (c <= lists.gained)
-        & (c <= lists.cuts)
-        & (c <= lists.ends);
-    moves & (scans <= lists.recipes) & (scans <= lists.kinds) & (numbers <= scratch)
+    let scans = extent.scans();
+    gains == c
+        && c <= lists.tried
+        && c <= lists.gained
+        && c <= lists.cuts
+        && c <= lists.ends
+        && scans <= lists.recipes
+        && scans <= lists.kinds
+        && extent.numbers_for(edition) <= scratch
 }

@@ -1,9 +1,9 @@
-// The zones of the scratch, by the extent of a job.
+// The zones of the scratch, by the extent of a job: places in one slice of numbers, as document 01 lends it.
 ghost use Rattle.std.specs.Prelude.{◌≡◌, ◌*◌};
 ghost use Rattle.rules.specs.Job.{scratch_numbers};
 ghost use Rattle.tables.specs.Zones.{counts_at, side_at, zones_of};
 
-use job::{Job, wide};
+use job::Job;
 
 // C, N and P of a job that is not refused.
 #[derive(Clone, Copy)]
@@ -21,50 +21,54 @@ pub struct Zones {
     pub counts: usize,
 }
 
-pub fn zones_of(extent: Extent) -> Zones
-    ensures { result ≡ zones_of extent.files extent.pins }
-{
-    let c = wide(extent.files);
-    let starts = c + wide(extent.pins);
-    Zones {
-        cells: c,
-        starts,
-        counts: starts + c + 1,
+impl Extent {
+    pub fn zones(self) -> Zones
+        ensures { result ≡ zones_of self.files self.pins }
+    {
+        let c = self.files as usize;
+        let starts = c + self.pins as usize;
+        Zones {
+            cells: c,
+            starts,
+            counts: starts + c + 1,
+        }
+    }
+
+    // Where the counts of side u begin.
+    pub fn side_at(self, u: u16) -> usize
+        ensures { result ≡ side_at (counts_at self.files self.pins) self.recipes u }
+    {
+        let counts = self.zones().counts;
+        if u == 0 {
+            return counts;
+        }
+        counts + self.recipes as usize
+    }
+
+    // The numbers of the scratch by an edition; by edition 2 the largest job has the most.
+    pub(crate) fn numbers_for(self, edition: u16) -> usize
+        ensures numbers { result ≡ scratch_numbers edition self.pins self.files self.recipes }
+        ensures most { MOST_NUMBERS ≡ scratch_numbers 2 Job.MOST_PINS Job.MOST_FILES Job.MOST_RECIPES }
+    {
+        let counts = self.scans();
+        let numbers = self.pins as usize + 4 * self.files as usize + counts + 16;
+        if edition == 2 {
+            return numbers + counts;
+        }
+        numbers
+    }
+
+    // The scans that a pass may list.
+    pub(crate) fn scans(self) -> usize
+        ensures scans { result ≡ 4 * self.recipes }
+        ensures most { MOST_SCANS ≡ 4 * Job.MOST_RECIPES }
+    {
+        4 * self.recipes as usize
     }
 }
 
-// Where the counts of side u begin.
-pub fn side_at(extent: Extent, u: u16) -> usize
-    ensures { result ≡ side_at (counts_at extent.files extent.pins) extent.recipes u }
-{
-    let zones = zones_of(extent);
-    if u == 0 {
-        return zones.counts;
-    }
-    zones.counts + wide(extent.recipes)
-}
-
-// The numbers of the scratch by an edition, and those of the largest job by edition 2, which has the most; they agree.
+// The numbers of the scratch of the largest job by edition 2: `numbers_for` promises that they agree with its own.
 pub const MOST_NUMBERS: usize = Job::MOST_PINS + 4 * Job::MOST_FILES + 8 * Job::MOST_RECIPES + 16;
 
-pub(crate) fn numbers_for(edition: u16, extent: Extent) -> usize
-    ensures value { result ≡ scratch_numbers edition extent.pins extent.files extent.recipes }
-    ensures do_value { MOST_NUMBERS ≡ scratch_numbers 2 Job.MOST_PINS Job.MOST_FILES Job.MOST_RECIPES }
-{
-    let counts = scans_for(extent);
-    let numbers = wide(extent.pins) + 4 * wide(extent.files) + counts + 16;
-    if edition == 2 {
-        return numbers + counts;
-    }
-    numbers
-}
-
-// The scans that a pass may list, and those of the largest job.
+// The scans of the largest job, and so does `scans`.
 pub const MOST_SCANS: usize = 4 * Job::MOST_RECIPES;
-
-pub(crate) fn scans_for(extent: Extent) -> usize
-    ensures value { result ≡ 4 * extent.recipes }
-    ensures do_value { MOST_SCANS ≡ 4 * Job.MOST_RECIPES }
-{
-    4 * wide(extent.recipes)
-}

@@ -1,8 +1,8 @@
 -- A word that names an edition is that edition's digits, and each edition is named by its own. Assumes nothing.
-use mathlib.Core.Path.{◌≡◌, refl, sym, ◌∙◌}
+use mathlib.Core.Path.{◌≡◌, refl, sym, ap, ◌∙◌}
 use mathlib.Core.Logic.{◌≢◌}
-use Prim.Native.Nat.{ℕ, ◌≤◌, ◌<◌}
-use mathlib.Core.Bool.{Bool, true, false}
+use Prim.Native.Nat.{ℕ, zero, suc, ◌≤◌, ◌<◌}
+use mathlib.Core.Bool.{Bool, true, false, not}
 use mathlib.Core.List.{List, [], ◌∷◌}
 use native.Mathlib.Omega.{arith}
 use lib.ListN.{length, get_or}
@@ -10,7 +10,9 @@ use lib.Dec.{eqb}
 use borrow.Author.Tests.{eqb-true, eqb-false, eq-eqb, ne_eqb, lt-ltb, le-ltb}
 use Rattle.rules.specs.Check.{is_edition}
 use Rattle.rules.specs.Report.{digits_in, digits}
-use Rattle.teller.specs.Arguments.{of_digit, edition_in, edition_named, NamesHold}
+use Rattle.std.specs.Prelude.{Option, Some, None, IfSome}
+use Rattle.std.specs.Bool.{then_some}
+use Rattle.teller.specs.Arguments.{of_digit, edition_in, edition_named, as_edition, NamesHold}
 
 -- ---- as the code tells them apart
 
@@ -32,6 +34,10 @@ module _ (word : List ℕ) (l : length word ≡ 1) where
 
     pub no_digit : get_or word 0 0 ≢ 50 → 0 ≡ edition_in word
     no_digit n = rw (ne_eqb (get_or word 0 0) 49 other, ne_eqb (get_or word 0 0) 50 n) at by-digit
+
+pub unsaid-named : (unsaid : ℕ) → as_edition (then_some (not (eqb unsaid 0)) unsaid) ≡ unsaid
+unsaid-named zero = refl
+unsaid-named (suc n) = rw (ne_eqb (suc n) 0 (λ e. omega (arith, e))) refl
 
 module _ (words : ℕ) (word : List ℕ) (unsaid : ℕ) where
   pub named-unsaid : words < 2 → unsaid ≡ edition_named words word unsaid
@@ -66,3 +72,10 @@ only-digits (b ∷ c ∷ bs) e q n = absurd (n (sym q ∙ sym (other_length (b �
 pub names-hold : NamesHold
 unfolding edition_in digits_in
 names-hold = record { one = refl; two = refl; only = only-digits }
+
+-- no edition is 0, so that the answer is settled
+pub edition-one : (a b : Option ℕ) → as_edition a ≡ as_edition b → IfSome a (λ e. e ≢ 0) → IfSome b (λ e. e ≢ 0) → a ≡ b
+edition-one None None e p q = refl
+edition-one None (Some y) e p q = absurd (q (sym e))
+edition-one (Some x) None e p q = absurd (p e)
+edition-one (Some x) (Some y) e p q = let some : ℕ → Option ℕ = λ z. Some z in ap some e

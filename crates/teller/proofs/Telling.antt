@@ -6,28 +6,48 @@ use mathlib.Core.Bool.{true}
 use mathlib.Core.List.{List}
 use lib.ListN.{length, length-replicate}
 use lib.IntN.{pos}
-use borrow.Author.Tests.{eq-eqb}
+use borrow.Author.Tests.{eq-eqb, ne_eqb}
 use Rattle.rules.specs.declared.Verdict.{Verdict}
-use Rattle.rules.specs.declared.Figures.{Figures}
-use Rattle.rules.specs.declared.RunFigures.{RunFigures}
-use Rattle.rules.specs.declared.Printed.{Printed}
+use Rattle.rules.specs.Numbers.{Figures}
+use Rattle.rules.specs.Numbers.{RunFigures}
+use Rattle.rules.specs.Numbers.{Printed}
 use Rattle.rules.specs.Job.{Job, Limits, file_count, Lent}
-use Rattle.rules.specs.Run.{Ended, ended_of, no_run_figures, pass_ends, run_ends}
+use Rattle.rules.specs.Run.{Ended, ended_of, no_figures, no_run_figures, pass_ends, run_ends}
 use Rattle.rules.specs.Stored.{read_verdict}
-use Rattle.rules.specs.Report.{refusal, Printing, printed, into_room, reporting, prints, all_room, all_lent, all_run}
-use Rattle.rules.specs.Trace.{listing, holds_pass, tracing, traces}
-use Rattle.rules.proofs.CutOff.{prints-no, traces-no}
-use Rattle.rules.proofs.Reports.{into-number, reporting-refusal, run-told, pass-held, pass-long, pass-traced}
-use Rattle.stored.specs.declared.TakenUp.{TakenUp}
-use Rattle.stored.specs.Room.{taking_up, lists_of}
+use Rattle.rules.specs.Report.{refusal, printed, into_room, reporting, prints, all_room, all_lent, all_run}
+use Rattle.rules.specs.Trace.{Listing, listing, holds_pass, tracing, traces}
+use Rattle.rules.proofs.Reports.{into-number, reporting-refusal, tracing-refusal, run-told, pass-held, pass-long, pass-traced}
+use Rattle.stored.specs.declared.taken.TakenUp.{TakenUp}
+use Rattle.std.specs.Prelude.{Result, Ok, Err}
+use Rattle.rules.specs.declared.refusal.Refusal.{Refusal}
+use Rattle.rules.specs.Numbers.{verdict_of, in_numbers}
+use Rattle.rules.specs.declared.Ran.{Ran}
+use Rattle.rules.specs.declared.Passed.{Passed}
+use Rattle.rules.specs.Cases.{as_figures, as_run_figures}
+use Rattle.rules.proofs.Exits.{not-done}
+use Rattle.report.specs.Tracing.{EnoughTold}
+use Rattle.report.specs.Cases.{run_telling, pass_telling, pass_told}
+use Rattle.stored.specs.Room.{taking_up, lists_of, as_taken}
 use Rattle.stored.specs.Steps.{job_taken}
-use Rattle.stored.proofs.JobTaken.{verdict-read, number_read, job_read}
-use Rattle.teller.specs.Telling.{run_report, pass_trace}
+use Rattle.stored.proofs.JobTaken.{refused-read, zero_read, job_read}
+use Rattle.teller.specs.Telling.{run_report, pass_trace, told_of}
 
--- what is refused is told as a refused run is
-pub refusal-told : (most : Limits) {v : Verdict} {a : RunFigures} {x : Printing} (sizes marks sides room : List ℕ) → x ≡ reporting most sizes marks a sides room → a ≡ no_run_figures v → v.number ≢ 0
-    → x ≡ into_room (refusal v) room
-refusal-told most {v} sizes marks sides room e f h = e ∙ ap (λ (r : RunFigures). reporting most sizes marks r sides room) f ∙ reporting-refusal most sizes marks (no_run_figures v) sides room h
+-- an answer by its numbers is told as documents 01 and 02 tell of it
+pub run-numbered : (most : Limits) (sizes marks sides room : List ℕ) (answer : Result Ran Refusal) → run_telling most sizes marks (in_numbers answer) sides room ≡ reporting most sizes marks (as_run_figures answer) sides room
+run-numbered most sizes marks sides room (Ok r) = refl
+run-numbered most sizes marks sides room (Err r) = sym (reporting-refusal most sizes marks (no_run_figures (verdict_of r)) sides room (not-done r))
+
+pub pass-numbered : (most : Limits) (sizes marks sides room : List ℕ) (l : Listing) (answer : Result Passed Refusal) → pass_telling most sizes marks (in_numbers answer) sides l room ≡ tracing most sizes marks (as_figures answer) sides l room
+pass-numbered most sizes marks sides room l (Ok p) = refl
+pass-numbered most sizes marks sides room l (Err r) = sym (tracing-refusal most sizes marks (no_figures (verdict_of r)) sides l room (not-done r))
+
+pub pass-told : (answer : Result Passed Refusal) → pass_told (in_numbers answer) ≡ as_figures answer
+pass-told (Ok p) = refl
+pass-told (Err r) = refl
+
+-- room that is enough by other names is enough
+pub enough-as : (v : Verdict) (sizes sides marks room : List ℕ) {f g : Figures} {l m : Listing} → f ≡ g → l ≡ m → EnoughTold v sizes f sides marks l room → EnoughTold v sizes g sides marks m room
+enough-as v sizes sides marks room p q h = coe 0 1 (i. EnoughTold v sizes (p i) sides marks (q i) room) h
 
 -- a run with the teller's own lists, reported
 pub run-printed : (edition : ℕ) (most : Limits) (job : Job) (a : Printed) (f : RunFigures) (sides room room' : List ℕ) (own lent : Lent) → ended_of f sides lent ≡ run_ends edition most job own → own ≡ all_lent most job
@@ -56,29 +76,26 @@ pass-printed edition most job a f sides room room' own lent e q g =
       ap (λ (x : Ended Figures). length x.lent.recipes) made ∙ long.1 ∙ length-replicate (4 * most.recipes) 0,
     )
 
--- ---- of a stored job that was taken up
+-- ---- of a stored job, by what is told of a job
 
-module _ (edition : ℕ) (most : Limits) (bytes : List ℕ) (t : TakenUp) (e : t.read ≡ (taking_up most bytes).answer) (f : lists_of t ≡ (taking_up most bytes).room) where
+module _ (text : Job → List ℕ) (most : Limits) (bytes : List ℕ) where
   -- what reading refuses
-  module _ (n : t.read.verdict.number ≢ 0) where
-    refused : (read_verdict most bytes (all_room most)).number ≢ 0
-    refused z = n (number_read most bytes t e f ∙ z)
-
-    pub night-refused : refusal t.read.verdict ≡ prints edition most bytes
-    night-refused = ap refusal (verdict-read most bytes t e f) ∙ sym (prints-no edition most bytes refused)
-
-    pub trace-refused : refusal t.read.verdict ≡ traces edition most bytes
-    trace-refused = ap refusal (verdict-read most bytes t e f) ∙ sym (traces-no edition most bytes refused)
+  pub told-refused : (r : Refusal) → as_taken (Err r) ≡ (taking_up most bytes).answer → refusal (verdict_of r) ≡ told_of text most bytes
+  unfolding told_of
+  told-refused r e =
+      let v = refused-read most bytes r e in
+      ap refusal v ∙ sym (rw (ne_eqb (read_verdict most bytes (all_room most)).number 0 (λ z. not-done r (ap (λ (x : Verdict). x.number) v ∙ z)), told_of) refl)
 
   -- and what it lets through
-  module _ (z : t.read.verdict.number ≡ 0) where
-    let_through : (read_verdict most bytes (all_room most)).number ≡ 0
-    let_through = sym (number_read most bytes t e f) ∙ z
+  pub told-read : (t : TakenUp) → as_taken (Ok t) ≡ (taking_up most bytes).answer → lists_of t ≡ (taking_up most bytes).room → text (job_taken t) ≡ told_of text most bytes
+  unfolding told_of
+  told-read t e f = ap text (job_read most bytes t e f) ∙ sym (rw (eq-eqb (read_verdict most bytes (all_room most)).number 0 (zero_read most bytes t e f), told_of) refl)
 
-    pub night-read : run_report edition most (job_taken t) ≡ prints edition most bytes
-    unfolding prints
-    night-read = ap (run_report edition most) (job_read most bytes t e f z) ∙ sym (rw (eq-eqb (read_verdict most bytes (all_room most)).number 0 let_through, prints) refl)
+-- the night's report and the trace are told so
+pub prints-told : (edition : ℕ) (most : Limits) (bytes : List ℕ) → told_of (run_report edition most) most bytes ≡ prints edition most bytes
+unfolding told_of prints
+prints-told edition most bytes = refl
 
-    pub trace-read : pass_trace edition most (job_taken t) ≡ traces edition most bytes
-    unfolding traces
-    trace-read = ap (pass_trace edition most) (job_read most bytes t e f z) ∙ sym (rw (eq-eqb (read_verdict most bytes (all_room most)).number 0 let_through, traces) refl)
+pub traces-told : (edition : ℕ) (most : Limits) (bytes : List ℕ) → told_of (pass_trace edition most) most bytes ≡ traces edition most bytes
+unfolding told_of traces
+traces-told edition most bytes = refl

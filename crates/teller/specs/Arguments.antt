@@ -1,5 +1,5 @@
 -- Which edition of the choice the arguments of a program name, 0 where they name none (document 02, order 9). Assumes nothing.
-use Rattle.std.specs.Prelude.{◌≡◌, ◌≢◌, ℕ, true, cond, List, length, get_or, ltb, eqb}
+use Rattle.std.specs.Prelude.{◌≡◌, ◌≢◌, ℕ, true, cond, List, length, get_or, ltb, eqb, Option, Some, None}
 use Rattle.rules.specs.Check.{is_edition}
 use Rattle.rules.specs.Report.{digits}
 
@@ -21,3 +21,8 @@ pub record NamesHold : Type 0 where
   pub one : edition_in (digits 1) ≡ 1
   pub two : edition_in (digits 2) ≡ 2
   pub only : (word : List ℕ) (e : ℕ) → edition_in word ≡ e → e ≢ 0 → (is_edition e ≡ true) × (word ≡ digits e)
+
+-- the edition as src/ answers it: 0 is none
+abbrev pub as_edition : Option ℕ → ℕ
+as_edition None = 0
+as_edition (Some edition) = edition

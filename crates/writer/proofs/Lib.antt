@@ -1,4 +1,5 @@
 pub mod Filled
+pub mod ByKind
 pub mod Walked
 pub mod Counts
 pub mod Unique

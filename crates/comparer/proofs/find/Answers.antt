@@ -1,31 +1,29 @@
-use native.Mathlib.Omega.{arith}
-use Rattle.rules.specs.Job.{limits_of}
-use Rattle.stored.proofs.JobTaken.{held-read}
-use Rattle.comparer.proofs.Found.{first-refused, second-refused, both_read}
+use Rattle.std.proofs.Common.{ℕ, rules}
+use Rattle.rules.specs.declared.refusal.Refusal.{Refusal}
+use Rattle.job.specs.Given.{the_limits}
+use Rattle.comparer.proofs.Found.{Took, took_up, first-exit, second-exit, both-found, both-noted}
 use Rattle.comparer.proofs.find.Goals as goal
 
-pub returns-then-v-ne0 : goal.returns-then-v-ne0
-returns-then-v-ne0 c =
-    let a = c.args in
-    let t = c.take_up-t in
-    let w = first-refused (limits_of _ _ _ _) a.old.now a.new.now t.result t.ensures.read_value t.ensures.result_value c.if-v-ne0.true c.refused.result a.numbers.now c.refused.ensures in record { result_value = w.0; found = w.1 }
+abbrev of : ℕ → Refusal → ℕ × Refusal
+of job e = (job, e)
 
-pub returns-then-w-ne0 : goal.returns-then-w-ne0
-returns-then-w-ne0 c =
-    let a = c.args in
-    let t = c.take_up-t in
-    let u = c.take_up-u in
-    let w = second-refused (limits_of _ _ _ _) a.old.now a.new.now t.result t.ensures.read_value t.ensures.result_value c.if-v-ne0.false u.result u.ensures.read_value u.ensures.result_value c.if-w-ne0.true c.refused-then-w-ne0.result a.numbers.now c.refused-then-w-ne0.ensures in record { result_value = w.0; found = w.1 }
+pub returns-in_err-first-clause-answer : goal.returns-in_err-first-clause-answer
+returns-in_err-first-clause-answer c = first-exit _ _ _ _ _ _ _ (search rules) c.in_err-first.was c.from_residual.ensures.1 c.take_up.ensures.read_value
 
-pub note_taken-count-requires : goal.note_taken-count-requires
-note_taken-count-requires c =
-    let t = c.take_up-t in
-    let u = c.take_up-u in record { fact = held-read (limits_of _ _ _ _) _ t.result t.ensures.read_value t.ensures.result_value c.if-v-ne0.false; fact_2 = held-read (limits_of _ _ _ _) _ u.result u.ensures.read_value u.ensures.result_value c.if-w-ne0.false; in_bounds = omega (arith, c.requires) }
+pub returns-in_err-second-clause-answer : goal.returns-in_err-second-clause-answer
+returns-in_err-second-clause-answer c =
+    let t = c.take_up.ensures in
+    let first : Took the_limits c.args.old.now c.in_ok-first.first =
+    took_up the_limits _ (of 1) _ c.map_err.result _ (search rules) c.in_ok-first.was t.read_value t.result_value in
+    second-exit _ _ _ first _ _ _ _ (search rules) c.in_err-second.was c.from_residual-in_err-second.ensures.1 c.take_up-2.ensures.read_value
 
 pub returns : goal.returns
 returns c =
-    let a = c.args in
-    let t = c.take_up-t in
-    let u = c.take_up-u in
-    let s = c.note_taken-count in
-    let w = both_read (limits_of _ _ _ _) a.old.now a.new.now t.result t.ensures.read_value t.ensures.result_value c.if-v-ne0.false u.result u.ensures.read_value u.ensures.result_value c.if-w-ne0.false s.result a.numbers.now s.new.numbers s.ensures.noted (omega (arith, s.ensures.upper_bound, s.auto, c.requires)) in record { result_value = w.0; found = w.1 }
+    let t = c.take_up.ensures in
+    let u = c.take_up-2.ensures in
+    let first : Took the_limits c.args.old.now c.in_ok-first.first =
+    took_up the_limits _ (of 1) _ c.map_err.result _ (search rules) c.in_ok-first.was t.read_value t.result_value in
+    let second : Took the_limits c.args.new.now c.in_ok-second.second =
+    took_up the_limits _ (of 2) _ c.map_err-2.result _ (search rules) c.in_ok-second.was u.read_value u.result_value in
+    let noted = c.note_jobs.ensures.noted in
+    record { answer = both-found _ _ _ first second noted; records = both-noted _ _ _ first second noted; few = c.note_jobs.ensures.few }

@@ -1,12 +1,9 @@
-use Rattle.std.proofs.Common.{◌≡◌, arith}
+use Rattle.std.proofs.Common.{arith}
 use Rattle.comparer.proofs.Storing.{stored-none, stored_more}
 use Rattle.comparer.proofs.store.Goals as goal
 
 pub loop-i-init : goal.loop-i-init
-loop-i-init c = (omega arith, stored-none c.args.numbers.now c.args.list.now)
+loop-i-init c = stored-none c.args.numbers.now c.args.list.now
 
 pub loop-i-preserved : goal.loop-i-preserved
-loop-i-preserved c = (omega arith, rw (c.loop-i.invariant.1, c.record_at.ensures) (stored_more c.args.numbers.now c.args.list.now c.loop-i.i (omega arith)))
-
-pub returns : goal.returns
-returns c = let e : c.loop-i.i ≡ c.args.n = omega arith in rw e at c.loop-i.invariant.1
+loop-i-preserved c = rw (c.loop-i.invariant, c.record_at.ensures) (stored_more c.args.numbers.now c.args.list.now c.loop-i.i (omega arith))

@@ -1,28 +1,30 @@
 use mathlib.Core.Path.{ap, ◌∙◌}
 use native.Mathlib.Omega.{arith}
-use Rattle.rules.specs.Job.{limits_of}
 use Rattle.rules.specs.Writing.{HandedOut, hand_into}
 use Rattle.rules.specs.Balance.{balances}
-use Rattle.stored.proofs.JobTaken.{held-read, bytes_read, within-read}
-use Rattle.hander.proofs.Handing.{both-lendable}
+use Rattle.job.specs.Given.{the_limits}
+use Rattle.stored.proofs.JobTaken.{bytes_read, within-read}
+use Rattle.hander.proofs.Handing.{result-both-lendable}
 use Rattle.hander.proofs.Balancing.{balance-refused, balance-read}
 use Rattle.hander.proofs.balance.Goals as goal
 
-pub returns-then-v-ne0 : goal.returns-then-v-ne0
-returns-then-v-ne0 c =
-    let a = c.args in
-    let t = c.take_up-t in
-    let h = c.hand_refusal in
-    let e = h.ensures.room_after ∙ ap (λ (x : HandedOut). hand_into x a.room.now) (balance-refused (limits_of _ _ _ _) a.input.now t.result t.ensures.read_value t.ensures.result_value c.if-v-ne0.true) in record { room_after = e; answered = (λ long. h.ensures.answered (omega (arith, long)), both-lendable (balances (limits_of _ _ _ _) a.input.now) a.room.now _ h.result e) }
-
 pub balance_job-requires : goal.balance_job-requires
 balance_job-requires c =
-    let t = c.take_up-t in
-    let z = c.if-v-ne0.false in record { fact = held-read (limits_of _ _ _ _) _ t.result t.ensures.read_value t.ensures.result_value z; fact_2 = (bytes_read (limits_of _ _ _ _) _ t.result t.ensures.read_value t.ensures.result_value z, within-read (limits_of _ _ _ _) _ t.result t.ensures.read_value t.ensures.result_value z _ (omega arith)) }
+    let t = c.in-Ok in
+    let bytes = c.args.input.now in
+    record { blocks = (bytes_read the_limits bytes t.taken t.ensures.read_value t.ensures.result_value, within-read the_limits bytes t.taken t.ensures.read_value t.ensures.result_value _ (omega arith)) }
 
-pub returns : goal.returns
-returns c =
+pub returns-in-Ok : goal.returns-in-Ok
+returns-in-Ok c =
     let a = c.args in
-    let t = c.take_up-t in
+    let t = c.in-Ok in
     let j = c.balance_job in
-    let e = j.ensures.room_after ∙ ap (λ (x : HandedOut). hand_into x a.room.now) (balance-read (limits_of _ _ _ _) a.input.now t.result t.ensures.read_value t.ensures.result_value c.if-v-ne0.false) in record { room_after = e; answered = (j.ensures.fact_3, both-lendable (balances (limits_of _ _ _ _) a.input.now) a.room.now _ j.result e) }
+    let e = j.ensures.room_after ∙ ap (λ (x : HandedOut). hand_into x a.room.now) (balance-read the_limits a.input.now t.taken t.ensures.read_value t.ensures.result_value) in
+    record { room_after = e; answered = (j.ensures.answered, result-both-lendable (balances the_limits a.input.now) a.room.now _ j.result e) }
+
+pub returns-in-Err : goal.returns-in-Err
+returns-in-Err c =
+    let a = c.args in
+    let h = c.hand_refusal in
+    let e = h.ensures.room_after ∙ ap (λ (x : HandedOut). hand_into x a.room.now) (balance-refused the_limits a.input.now c.in-Err.refusal c.in-Err.ensures.read_value) in
+    record { room_after = e; answered = (λ long. h.ensures.answered (omega (arith, long)), result-both-lendable (balances the_limits a.input.now) a.room.now _ h.result e) }

@@ -1,27 +1,26 @@
-use mathlib.Core.Path.{ap, ◌∙◌}
+use mathlib.Core.Path.{refl, ap, ◌∙◌}
 use native.Mathlib.Omega.{arith}
-use Rattle.rules.specs.Job.{Job, limits_of}
 use Rattle.rules.specs.Writing.{HandedOut, hand_into}
-use Rattle.job.specs.Parts.{whole_job}
+use Rattle.rules.proofs.Exits.{not-done}
+use Rattle.job.specs.Given.{the_limits, the_job}
 use Rattle.hander.proofs.Balancing.{refused-out, made-out, after-made}
 use Rattle.hander.proofs.balance_with.Goals as goal
 
-pub returns-then-verdict-ne0 : goal.returns-then-verdict-ne0
-returns-then-verdict-ne0 c =
+pub returns-in-Err : goal.returns-in-Err
+returns-in-Err c =
     let a = c.args in
-    let job : Job = whole_job a.job a.sizes.now a.sides.now a.marks.now a.bounds.now a.pins.now in
-    let o = refused-out (limits_of _ _ _ _) job _ _ _ _ c.balance-answer.ensures c.requires.scratch_value c.if-verdict-ne0.true in
-    let h = c.hand_refusal.ensures in record { room_after = h.room_after ∙ ap (λ (x : HandedOut). hand_into x a.room.now) o; answered = λ long. h.answered (omega (arith, long)) }
+    let o = refused-out the_limits (the_job a.job a.book a.sides.now) _ _ _ _ c.in-Err.ensures c.requires.zeros_lent (not-done c.in-Err.refusal) in
+    let h = c.hand_refusal.ensures in
+    record { room_after = h.room_after ∙ ap (λ (x : HandedOut). hand_into x a.room.now) o; answered = λ long. h.answered (omega (arith, long)) }
 
 pub hand_made-requires : goal.hand_made-requires
 hand_made-requires c =
     let a = c.args in
-    let job : Job = whole_job a.job a.sizes.now a.sides.now a.marks.now a.bounds.now a.pins.now in
-    after-made (limits_of _ _ _ _) job _ _ _ _ c.balance-answer.ensures c.requires.scratch_value c.if-verdict-ne0.false a.bytes c.requires.fact.0
+    after-made the_limits (the_job a.job a.book a.sides.now) _ _ _ _ c.in-Ok.ensures c.requires.zeros_lent refl a.bytes c.requires.blocks.0
 
-pub returns : goal.returns
-returns c =
+pub returns-in-Ok : goal.returns-in-Ok
+returns-in-Ok c =
     let a = c.args in
-    let job : Job = whole_job a.job a.sizes.now a.sides.now a.marks.now a.bounds.now a.pins.now in
-    let o = made-out (limits_of _ _ _ _) job _ _ _ _ c.balance-answer.ensures c.requires.scratch_value c.if-verdict-ne0.false in
-    let h = c.hand_made.ensures in record { room_after = h.room_after ∙ ap (λ (x : HandedOut). hand_into x a.room.now) o; answered = λ long. h.answered (omega (arith, long, c.requires.fact.1)) }
+    let o = made-out the_limits (the_job a.job a.book a.sides.now) _ _ _ _ c.in-Ok.ensures c.requires.zeros_lent refl in
+    let h = c.hand_made.ensures in
+    record { room_after = h.room_after ∙ ap (λ (x : HandedOut). hand_into x a.room.now) o; answered = λ long. h.answered (omega (arith, long, c.requires.blocks.1)) }

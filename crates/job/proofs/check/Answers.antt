@@ -1,28 +1,20 @@
-use mathlib.Core.Path.{refl, sym, ◌∙◌}
-use native.Mathlib.Omega.{arith}
-use Rattle.rules.proofs.Refusals.{check-chain, rest-chain}
-use Rattle.rules.proofs.Verdicts.{chain-stop, chain-go, zero_of}
-use Rattle.rules.proofs.SoundJob.{sound}
-use Rattle.job.specs.Totals.{totals_of}
-use Rattle.job.proofs.AddingUp.{within_more}
-use Rattle.job.proofs.Whole.{lists-only}
+use mathlib.Core.Path.{sym, ◌∙◌}
+use mathlib.Core.Bool.{false}
+use Rattle.rules.proofs.Exits.{exit-stops, done-goes}
+use Rattle.job.specs.Given.{the_job}
+use Rattle.job.proofs.Whole.{lists-only, start-last, placed-has}
 use Rattle.job.proofs.check.Goals as goal
 
-pub returns-then-v-ne0 : goal.returns-then-v-ne0
-returns-then-v-ne0 c = chain-stop _ (c.check_sound-v.ensures ∙ lists-only _ _ _) c.if-v-ne0.true ∙ sym (rest-chain _ _ _)
-
-pub totals_of-requires : goal.totals_of-requires
-totals_of-requires c =
-    let s = sound _ _ _ (zero_of c.check_sound-v.ensures c.if-v-ne0.false) in record { sizes_bound = s.few_files; sides_len = (s.sides_long, s.marks_long) }
-
-pub check_rest-requires : goal.check_rest-requires
-check_rest-requires c =
-    let s = sound _ _ _ (zero_of c.check_sound-v.ensures c.if-v-ne0.false) in
-    within_more (omega (arith, s.few_files)) c.totals_of.ensures.within
+pub returns-in_err-sound : goal.returns-in_err-sound
+returns-in_err-sound c =
+    let a = c.args in
+    let job = the_job a.job a.book a.sides.now in
+    exit-stops _ _ _ c.from_residual.ensures.1 (c.in_err-sound.ensures.verdict ∙ lists-only _ job _) ∙ sym (start-last false _ job _)
 
 pub returns : goal.returns
-unfolding totals_of
 returns c =
-    chain-go (c.check_sound-v.ensures ∙ lists-only _ _ _) c.if-v-ne0.false
-    (c.check_rest.ensures _ (record { job_is = refl; totals = c.totals_of.ensures.is }))
-    ∙ sym (check-chain _ _ _)
+    let a = c.args in
+    let job = the_job a.job a.book a.sides.now in
+    let p = c.in_ok-sound in
+    let has = placed-has a.job a.book a.sides p.field-0 c.new.result p.ensures.lists.0 p.ensures.lists.1 c.new.ensures.job c.new.ensures.totals in
+    done-goes (p.ensures.verdict ∙ lists-only _ job _) (c.check_rest.ensures job has) ∙ sym (start-last false _ job _)

@@ -1,52 +1,38 @@
-use mathlib.Core.Path.{refl, sym, ap, ◌∙◌}
-use native.Mathlib.Omega.{arith}
-use Rattle.rules.specs.Job.{views, read_in, recipes}
+use mathlib.Core.Path.{ap, ◌∙◌}
+use Rattle.rules.specs.Job.{views}
 use Rattle.rules.specs.Split.{unread_recipes}
-use Rattle.rules.proofs.Verdicts.{chain-stop, chain-go, zero_of}
-use Rattle.rules.proofs.SoundJob.{sound}
-use Rattle.rules.proofs.Unread.{none-holding}
-use Rattle.job.specs.declared.figures.Totals.{Totals}
-use Rattle.job.specs.Totals.{totals_of}
-use Rattle.job.proofs.AddingUp.{within_more}
-use Rattle.job.proofs.Whole.{lists-only, survey-refused, survey-done}
+use Rattle.rules.proofs.Exits.{exit-is, refusal-stops, done-goes}
+use Rattle.job.specs.Given.{the_job}
+use Rattle.job.specs.Survey.{as_survey}
+use Rattle.job.proofs.Whole.{lists-only, placed-has, placed-cut, none-unread, survey-refused, survey-done}
 use Rattle.job.proofs.survey.Goals as goal
 
-pub returns-then-v-ne0 : goal.returns-then-v-ne0
-returns-then-v-ne0 c =
-    survey-refused _ _ _ _ (chain-stop _ (c.check_sound-v.ensures ∙ lists-only _ _ _) c.if-v-ne0.true) c.if-v-ne0.true
+pub returns-in_err-placed : goal.returns-in_err-placed
+returns-in_err-placed c =
+    let a = c.args in
+    let job = the_job a.job a.book a.sides.now in
+    ap as_survey (exit-is _ _ c.from_residual.ensures.1) ∙ survey-refused _ job a.balancing a.lent _ (refusal-stops _ _ (c.in_err-placed.ensures.verdict ∙ lists-only _ job _))
 
-pub totals_of-t-requires : goal.totals_of-t-requires
-totals_of-t-requires c =
-    let s = sound _ _ _ (zero_of c.check_sound-v.ensures c.if-v-ne0.false) in record { sizes_bound = s.few_files; sides_len = (s.sides_long, s.marks_long) }
-
-pub check_rest-verdict-requires : goal.check_rest-verdict-requires
-check_rest-verdict-requires c =
-    let s = sound _ _ _ (zero_of c.check_sound-v.ensures c.if-v-ne0.false) in
-    within_more (omega (arith, s.few_files)) c.totals_of-t.ensures.within
-
-pub returns-then-verdict-ne0 : goal.returns-then-verdict-ne0
-unfolding totals_of
-returns-then-verdict-ne0 c =
-    survey-refused _ _ _ _
-    (chain-go (c.check_sound-v.ensures ∙ lists-only _ _ _) c.if-v-ne0.false
-    (c.check_rest-verdict.ensures _ (record { job_is = refl; totals = c.totals_of-t.ensures.is })))
-    c.if-verdict-ne0.true
-
-pub tolerance-requires : goal.tolerance-requires
-tolerance-requires c =
-    let s = sound _ _ _ (zero_of c.check_sound-v.ensures c.if-v-ne0.false) in
-    within_more (omega (arith, s.few_files)) c.totals_of-t.ensures.within
+pub returns-in_err-check_rest : goal.returns-in_err-check_rest
+returns-in_err-check_rest c =
+    let a = c.args in
+    let job = the_job a.job a.book a.sides.now in
+    let p = c.in_ok-placed in
+    let has = placed-has a.job a.book a.sides p.placed c.new-weighed.result p.ensures.lists.0 p.ensures.lists.1 c.new-weighed.ensures.job c.new-weighed.ensures.totals in
+    ap as_survey (exit-is _ _ c.from_residual-in_err-check_rest.ensures.1)
+    ∙ survey-refused _ job a.balancing a.lent _ (done-goes (p.ensures.verdict ∙ lists-only _ job _) (c.in_err-check_rest.ensures job has))
 
 pub holding-requires : goal.holding-requires
-unfolding totals_of
-holding-requires c e =
-    let s = sound _ _ _ (zero_of c.check_sound-v.ensures c.if-v-ne0.false) in
-    none-holding _ _ (omega (arith, s.marks_long)) (sym (ap (λ (y : Totals). y.unread) c.totals_of-t.ensures.is) ∙ e)
+holding-requires c = none-unread c.args.book c.in_ok-placed.placed c.in_ok-placed.ensures.lists.0 c.new-weighed.ensures.totals
 
 pub returns : goal.returns
-unfolding totals_of recipes read_in views unread_recipes
+unfolding unread_recipes views
 returns c =
-    survey-done _ _ _ _
-    (chain-go (c.check_sound-v.ensures ∙ lists-only _ _ _) c.if-v-ne0.false
-    (c.check_rest-verdict.ensures _ (record { job_is = refl; totals = c.totals_of-t.ensures.is })))
-    _ _ _ _ c.if-verdict-ne0.false c.tolerance.ensures.0 c.cut.ensures c.holding.ensures c.totals_of-t.ensures.is
+    let a = c.args in
+    let job = the_job a.job a.book a.sides.now in
+    let p = c.in_ok-placed in
+    let has = placed-has a.job a.book a.sides p.placed c.new-weighed.result p.ensures.lists.0 p.ensures.lists.1 c.new-weighed.ensures.job c.new-weighed.ensures.totals in
+    survey-done _ job a.balancing a.lent (done-goes (p.ensures.verdict ∙ lists-only _ job _) (c.in_ok-check_rest.ensures job has))
+    (rw c.new-weighed.ensures.job at c.tolerance.ensures.0)
+    (placed-cut a.job a.book a.sides p.placed p.ensures.lists.0 p.ensures.lists.1 c.cut.ensures)
+    c.holding.ensures has.totals

@@ -1,33 +1,43 @@
-use mathlib.Core.Path.{sym, ◌∙◌}
-use native.Mathlib.Omega.{arith}
-use lib.ListN.{length}
-use Rattle.rules.specs.Trace.{listing_of, holds_pass}
-use Rattle.rules.proofs.Reports.{tracing-refusal}
-use Rattle.report.specs.Bytes.{trace_bytes}
-use Rattle.report.proofs.Printings.{pass-tells, pass-enough, told_none, told-short, told-whole, told-enough, tracing-told}
+use mathlib.Core.Path.{refl, ap, ◌∙◌}
+use mathlib.Core.Bool.{not}
+use Rattle.rules.specs.Cases.{pass_numbers}
+use Rattle.rules.specs.Check.{refuse_if}
+use Rattle.rules.specs.Trace.{holds_pass}
+use Rattle.rules.proofs.Exits.{not-done, done-goes}
+use Rattle.rules.proofs.Verdicts.{chain-stop}
+use Rattle.job.specs.declared.book.Files.{Files}
+use Rattle.job.specs.Given.{the_limits}
+use Rattle.report.specs.Cases.{listed}
+use Rattle.report.proofs.Printings.{told-none, told-all, refused-verdict}
+use Rattle.report.proofs.Tellings.{lengths-enough, tracing-told}
 use Rattle.report.proofs.trace.Goals as goal
 
-pub returns-then-answer-ne0 : goal.returns-then-answer-ne0
-returns-then-answer-ne0 c =
-    let a = c.args in let e = c.print_refusal.ensures in record { out_after = e.out_after ∙ sym (tracing-refusal _ _ _ _ _ (listing_of a.gains.now a.tried.now a.gained.now a.cuts.now a.ends.now a.recipes.now a.kinds.now) _ c.if-answer-ne0.true); enough_told = λ sided marked hold long. e.number_nonzero (omega (arith, long)) }
+pub returns-in_err-split-in-Ok-clause-out_after : goal.returns-in_err-split-in-Ok-clause-out_after
+returns-in_err-split-in-Ok-clause-out_after c =
+    let a = c.args in
+    let told = tracing-told the_limits a.files.sizes.now a.files.marks.now (pass_numbers c.in-Ok.passed) a.sides.now (listed a.lists) a.out.now refl in
+    rw c.in-Ok.is (told-none told _ _ c.from_residual.ensures.1 (chain-stop _ c.in_err-split-in-Ok.ensures.verdict (not-done _)))
 
-pub returns-then-verdict-ne0 : goal.returns-then-verdict-ne0
-returns-then-verdict-ne0 c =
-    let a = c.args in record { out_after = told_none (tracing-told _ a.sizes.now a.marks.now a.answer a.sides.now (listing_of a.gains.now a.tried.now a.gained.now a.cuts.now a.ends.now a.recipes.now a.kinds.now) a.out.now c.if-answer-ne0.false) c.pass_verdict-verdict.ensures c.if-verdict-ne0.true; enough_told = λ sided marked hold long. pass-enough _ _ _ _ _ c.pass_verdict-verdict.ensures sided marked hold }
+pub returns-in_err-split-in-Ok-clause-enough_told : goal.returns-in_err-split-in-Ok-clause-enough_told
+returns-in_err-split-in-Ok-clause-enough_told c =
+    λ sided marked held long. lengths-enough _ _ _ _ (refused-verdict _ _ c.from_residual.ensures.1 c.in_err-split-in-Ok.ensures.verdict) sided marked
 
-pub put_pass-bytes-requires : goal.put_pass-bytes-requires
-put_pass-bytes-requires c =
-    let a = c.args in let h = pass-tells _ c.args.sizes.now c.args.sides.now c.args.marks.now (holds_pass a.sizes.now a.answer (listing_of a.gains.now a.tried.now a.gained.now a.cuts.now a.ends.now a.recipes.now a.kinds.now)) c.pass_verdict-verdict.ensures c.if-verdict-ne0.false in record { fact = h.0; kinds_value = h.1 }
+pub returns-in_err-lines-in-Ok-clause-out_after : goal.returns-in_err-lines-in-Ok-clause-out_after
+returns-in_err-lines-in-Ok-clause-out_after c =
+    let a = c.args in
+    let f = pass_numbers c.in-Ok.passed in
+    let told = tracing-told the_limits a.files.sizes.now a.files.marks.now f a.sides.now (listed a.lists) a.out.now refl in
+    let s = c.in_ok-split-in-Ok.ensures in
+    let e = ap (λ (files : Files). refuse_if (not (holds_pass files.sizes.now f (listed a.lists))) 3 0) s.same_lists.0 in
+    rw c.in-Ok.is (told-none told _ _ c.from_residual-in_err-lines-in-Ok.ensures.1 (done-goes s.verdict (c.in_err-lines-in-Ok.ensures.verdict ∙ e)))
 
-pub returns-then-verdict-ne0-2 : goal.returns-then-verdict-ne0-2
-returns-then-verdict-ne0-2 c =
-    let a = c.args in let t = tracing-told _ a.sizes.now a.marks.now a.answer a.sides.now (listing_of a.gains.now a.tried.now a.gained.now a.cuts.now a.ends.now a.recipes.now a.kinds.now) a.out.now c.if-answer-ne0.false in
-    let l = c.put_pass-bytes.ensures in record { out_after = told-short t c.pass_verdict-verdict.ensures c.if-verdict-ne0.false l.laid c.room_verdict-verdict.ensures c.if-verdict-ne0-2.true; enough_told = λ sided marked hold long. told-enough t c.pass_verdict-verdict.ensures c.if-verdict-ne0.false l.laid c.room_verdict-verdict.ensures (trace_bytes (length c.args.sizes.now) (length c.args.recipes.now)) l.upper_bound long }
-
-pub put_pass-requires : goal.put_pass-requires
-put_pass-requires c =
-    let a = c.args in let h = pass-tells _ c.args.sizes.now c.args.sides.now c.args.marks.now (holds_pass a.sizes.now a.answer (listing_of a.gains.now a.tried.now a.gained.now a.cuts.now a.ends.now a.recipes.now a.kinds.now)) c.pass_verdict-verdict.ensures c.if-verdict-ne0.false in record { fact = h.0; kinds_value = h.1 }
-
-pub returns : goal.returns
-returns c =
-    let a = c.args in record { out_after = told-whole (tracing-told _ a.sizes.now a.marks.now a.answer a.sides.now (listing_of a.gains.now a.tried.now a.gained.now a.cuts.now a.ends.now a.recipes.now a.kinds.now) a.out.now c.if-answer-ne0.false) c.pass_verdict-verdict.ensures c.if-verdict-ne0.false c.put_pass-bytes.ensures.laid c.room_verdict-verdict.ensures c.if-verdict-ne0-2.false c.put_pass.ensures.laid; enough_told = λ sided marked hold long three. omega (arith, c.if-verdict-ne0-2.false, three) }
+pub returns-in_ok-lines-in-Ok-clause-out_after : goal.returns-in_ok-lines-in-Ok-clause-out_after
+returns-in_ok-lines-in-Ok-clause-out_after c =
+    let a = c.args in
+    let f = pass_numbers c.in-Ok.passed in
+    let told = tracing-told the_limits a.files.sizes.now a.files.marks.now f a.sides.now (listed a.lists) a.out.now refl in
+    let s = c.in_ok-split-in-Ok.ensures in
+    let p = c.in_ok-lines-in-Ok.ensures in
+    let e = ap (λ (files : Files). refuse_if (not (holds_pass files.sizes.now f (listed a.lists))) 3 0) s.same_lists.0 in
+    rw c.in-Ok.is
+    (told-all told _ _ _ (done-goes s.verdict (p.verdict ∙ e)) (rw (p.same_pass.0, p.same_pass.1, p.same_pass.2, s.same_lists.0, s.same_lists.1) refl) c.tell.ensures.told)

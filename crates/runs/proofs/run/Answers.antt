@@ -1,45 +1,48 @@
-use mathlib.Core.Path.{sym, ◌∙◌}
-use native.Mathlib.Omega.{arith}
-use Rattle.rules.specs.Job.{Limits, limits_of, lent_of}
-use Rattle.job.specs.declared.TheConstants.Job.{MOST_FILES, MOST_RECIPES, MOST_PINS, MOST_DEN}
-use Rattle.job.specs.Parts.{whole_job}
+use Rattle.std.proofs.Common.{◌≡◌, ◌+◌, sym, ap, arith, rules}
+use Rattle.rules.specs.Numbers.{RunFigures}
+use Rattle.rules.proofs.Exits.{exit-is, not-done}
+use Rattle.job.specs.Given.{the_limits, the_job, contents}
 use Rattle.tables.proofs.Accepted.{Narrow}
-use Rattle.runs.proofs.RunOn.{before-first, turn-made, run-ended}
+use Rattle.runs.proofs.RunOn.{running-of, first-refused, first-made, later-done, later-made, later-fits, later-less, run-ended}
 use Rattle.runs.proofs.run.Goals as goal
 
--- the job's own limits
-abbrev most : Limits
-most = limits_of MOST_FILES MOST_RECIPES MOST_PINS MOST_DEN
-
-narrow : Narrow most
+narrow : Narrow the_limits
 narrow = record { files = omega arith; recipes = omega arith; pins = omega arith; den = omega arith; links = omega arith }
 
+pub returns-in_err-pass_once-clause-value : goal.returns-in_err-pass_once-clause-value
+returns-in_err-pass_once-clause-value c = rw (exit-is _ _ c.from_residual.ensures.1) (first-refused _ the_limits _ _ _ c.in_err-pass_once.ensures.value)
+
 pub loop-job-init : goal.loop-job-init
-loop-job-init c = before-first _ most _ _ c.no_pass-sum.ensures
+loop-job-init c =
+    let a = c.args in
+    let first = first-made a.edition the_limits (the_job a.job a.book a.sides.now) (contents a.lent.now) _ _ _ c.in_ok-pass_once.ensures.value in
+    record { same = search rules; passes = first.0; running = running-of c.with_first-sum.ensures first.1 }
+
+pub returns-in_err-last-clause-value : goal.returns-in_err-last-clause-value
+returns-in_err-last-clause-value c =
+    let i = c.loop-job.invariant in
+    absurd (not-done _ (later-done _ the_limits _ _ i.passes i.running (sym c.loop-job-test.ensures) c.in_err-last.ensures.value))
 
 pub with_pass-sum-requires : goal.with_pass-sum-requires
 with_pass-sum-requires c =
-    let a = c.args in
-    let job = whole_job a.job a.sizes.now a.sides.now a.marks.now a.bounds.now a.pins.now in
-    let lent = lent_of a.gains.now a.tried.now a.gained.now a.cuts.now a.ends.now a.recipes.now a.kinds.now a.scratch.now in
-    let turn = turn-made a.edition most job lent narrow c.loop-job.invariant (sym c.goes_on.ensures ∙ c.loop-job-test.true) _ _ _ c.pass_once-last.ensures in
-    record { sums_fit = turn.fit; passes_bound = turn.few }
+    let i = c.loop-job.invariant in
+    let fits = later-fits _ the_limits _ _ i.passes i.running (sym c.loop-job-test.ensures) c.in_ok-last.ensures.value narrow in
+    record { sums_fit = fits.0; passes_bound = fits.1 }
 
 pub loop-job-smaller : goal.loop-job-smaller
 loop-job-smaller c =
-    let a = c.args in
-    let job = whole_job a.job a.sizes.now a.sides.now a.marks.now a.bounds.now a.pins.now in
-    let lent = lent_of a.gains.now a.tried.now a.gained.now a.cuts.now a.ends.now a.recipes.now a.kinds.now a.scratch.now in
-    let turn = turn-made a.edition most job lent narrow c.loop-job.invariant (sym c.goes_on.ensures ∙ c.loop-job-test.true) _ _ _ c.pass_once-last.ensures in
-    rw c.with_pass-sum.ensures turn.less
+    let i = c.loop-job.invariant in
+    let one : c.with_pass-sum.result.passes ≡ c.loop-job.sum.passes + 1 = ap (λ (x : RunFigures). x.passes) c.with_pass-sum.ensures in
+    rw one (later-less _ the_limits _ _ i.passes i.running (sym c.loop-job-test.ensures) c.in_ok-last.ensures.value)
 
 pub loop-job-preserved : goal.loop-job-preserved
 loop-job-preserved c =
-    let a = c.args in
-    let job = whole_job a.job a.sizes.now a.sides.now a.marks.now a.bounds.now a.pins.now in
-    let lent = lent_of a.gains.now a.tried.now a.gained.now a.cuts.now a.ends.now a.recipes.now a.kinds.now a.scratch.now in
-    let turn = turn-made a.edition most job lent narrow c.loop-job.invariant (sym c.goes_on.ensures ∙ c.loop-job-test.true) _ _ _ c.pass_once-last.ensures in
-    rw c.with_pass-sum.ensures turn.on
+    let i = c.loop-job.invariant in
+    record {
+      same = search rules;
+      passes = i.passes;
+      running = running-of c.with_pass-sum.ensures (later-made _ the_limits _ _ i.passes i.running (sym c.loop-job-test.ensures) c.in_ok-last.ensures.value);
+    }
 
-pub returns : goal.returns
-returns c = run-ended _ most _ _ c.loop-job.invariant (sym c.goes_on.ensures ∙ c.loop-job-test.false)
+pub returns-clause-value : goal.returns-clause-value
+returns-clause-value c = let i = c.loop-job.invariant in run-ended _ the_limits _ _ i.passes i.running (sym c.loop-job-test.ensures)

@@ -1,29 +1,35 @@
-use mathlib.Core.Path.{sym, ap, ◌∙◌}
-use Rattle.rules.specs.declared.ReadFigures.{ReadFigures}
-use Rattle.stored.proofs.Readings.{room-enough, answer-gathered, stopped-opening, opened-header, opened-tells, stopped-further, all-taken}
+use Rattle.std.proofs.Common.{ap, ◌∙◌}
+use Rattle.std.specs.Prelude.{Result}
+use Rattle.rules.specs.declared.Verdict.{Verdict}
+use Rattle.rules.specs.declared.refusal.Refusal.{Refusal}
+use Rattle.rules.proofs.Exits.{exit-is}
+use Rattle.stored.specs.declared.taken.TakenUp.{TakenUp}
+use Rattle.stored.specs.Room.{as_taken}
+use Rattle.stored.proofs.Readings.{opening-refused, blocks-refused, contents-told}
 use Rattle.stored.proofs.take_job.Goals as goal
 
-pub returns-then-opened-ne0 : goal.returns-then-opened-ne0
-returns-then-opened-ne0 c =
-    let n = c.if-opened-ne0.true in record { result_value = stopped-opening _ _ _ c.opening-opened.ensures n; gathered = λ z. absurd (n z) }
+abbrev verdict_in : Result TakenUp Refusal → Verdict
+verdict_in r = (as_taken r).verdict
 
-pub take_blocks-further-requires : goal.take_blocks-further-requires
-take_blocks-further-requires c =
-    let e = c.opening-opened.ensures in
-    let z = c.if-opened-ne0.false in
-    let t = opened-tells _ _ _ e z in record { h_value = (opened-header _ _ _ e z, t.0); ample = room-enough t.1 c.requires }
+pub returns-in_err-header-clause-verdict : goal.returns-in_err-header-clause-verdict
+returns-in_err-header-clause-verdict c = ap verdict_in (exit-is _ _ c.from_residual.ensures.1) ∙ opening-refused _ _ _ _ c.in_err-header.ensures.verdict
 
-pub returns-then-further-ne0 : goal.returns-then-further-ne0
-returns-then-further-ne0 c =
-    let n = c.if-further-ne0.true in
-    let r = c.refused.ensures in record { result_value = stopped-further _ _ _ c.opening-opened.ensures c.if-opened-ne0.false c.take_blocks-further.ensures.value n r; gathered = λ y. absurd (n (sym (ap (λ (x : ReadFigures). x.verdict.number) r) ∙ y)) }
+pub returns-in_err-take_blocks-clause-verdict : goal.returns-in_err-take_blocks-clause-verdict
+returns-in_err-take_blocks-clause-verdict c =
+    let o = c.in_ok-header.ensures in
+    ap verdict_in (exit-is _ _ c.from_residual-in_err-take_blocks.ensures.1) ∙ blocks-refused _ _ _ o.verdict o.header _ c.in_err-take_blocks.ensures.verdict
 
-pub sound_verdict-requires : goal.sound_verdict-requires
-sound_verdict-requires c =
-    let e = c.opening-opened.ensures in
-    let z = c.if-opened-ne0.false in record { fact = (opened-tells _ _ _ e z).1; ample = (c.take_blocks-further.ensures.gathered c.if-further-ne0.false).enough }
+pub returns-in_err-sound_verdict-clause-verdict : goal.returns-in_err-sound_verdict-clause-verdict
+returns-in_err-sound_verdict-clause-verdict c =
+    let o = c.in_ok-header.ensures in
+    let b = c.in_ok-take_blocks.ensures in
+    let h = b.header ∙ o.header in
+    ap verdict_in (exit-is _ _ c.from_residual-in_err-sound_verdict.ensures.1)
+    ∙ contents-told _ _ _ o.verdict h (rw (← b.header) at b.verdict) _ b.lists c.in_err-sound_verdict.ensures
 
-pub returns : goal.returns
-returns c =
-    let t = c.take_blocks-further.ensures in
-    let y = c.if-further-ne0.false in record { result_value = all-taken _ _ _ c.opening-opened.ensures c.if-opened-ne0.false t.value y (t.gathered y) c.sound_verdict.ensures c.answer_by.ensures; gathered = answer-gathered c.sound_verdict.result _ c.answer_by.ensures (t.gathered y) }
+pub returns-clause-verdict : goal.returns-clause-verdict
+returns-clause-verdict c =
+    let o = c.in_ok-header.ensures in
+    let b = c.in_ok-take_blocks.ensures in
+    let h = b.header ∙ o.header in
+    contents-told _ _ _ o.verdict h (rw (← b.header) at b.verdict) _ b.lists c.in_ok-sound_verdict.ensures

@@ -1,29 +1,10 @@
 use mathlib.Core.Path.{ap, ◌∙◌}
-use native.Mathlib.Omega.{arith}
 use mathlib.Core.List.{List}
 use Prim.Native.Nat.{ℕ}
-use Rattle.rules.specs.Job.{limits_of}
-use Rattle.rules.specs.Report.{into_room, prints}
-use Rattle.report.proofs.Lending.{into-lendable}
-use Rattle.stored.proofs.JobTaken.{held-read}
-use Rattle.teller.proofs.Telling.{night-refused, night-read}
+use Rattle.rules.specs.Report.{into_room}
+use Rattle.job.specs.Given.{the_limits}
+use Rattle.teller.proofs.Telling.{prints-told}
 use Rattle.teller.proofs.night.Goals as goal
 
-pub returns-then-v-ne0 : goal.returns-then-v-ne0
-returns-then-v-ne0 c =
-    let a = c.args in
-    let t = c.take_up-t in
-    let p = c.print_refusal in
-    let e = p.ensures.out_after ∙ ap (λ (l : List ℕ). into_room l a.out.now) (night-refused a.edition (limits_of _ _ _ _) a.input.now t.result t.ensures.read_value t.ensures.result_value c.if-v-ne0.true) in record { out_after = e; answered = (λ long. p.ensures.answered (omega (arith, long)), into-lendable (prints a.edition (limits_of _ _ _ _) a.input.now) a.out.now _ p.result e) }
-
-pub report_job-requires : goal.report_job-requires
-report_job-requires c =
-    let t = c.take_up-t in
-    held-read (limits_of _ _ _ _) _ t.result t.ensures.read_value t.ensures.result_value c.if-v-ne0.false
-
-pub returns : goal.returns
-returns c =
-    let a = c.args in
-    let t = c.take_up-t in
-    let p = c.report_job in
-    let e = p.ensures.out_after ∙ ap (λ (l : List ℕ). into_room l a.out.now) (night-read a.edition (limits_of _ _ _ _) a.input.now t.result t.ensures.read_value t.ensures.result_value c.if-v-ne0.false) in record { out_after = e; answered = (p.ensures.fact, into-lendable (prints a.edition (limits_of _ _ _ _) a.input.now) a.out.now _ p.result e) }
+pub returns-clause-out_after : goal.returns-clause-out_after
+returns-clause-out_after c = c.tell.ensures.out_after ∙ ap (λ (l : List ℕ). into_room l c.args.out.now) (prints-told c.args.edition the_limits c.args.input.now)

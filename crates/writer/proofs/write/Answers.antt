@@ -1,60 +1,44 @@
-use mathlib.Core.Path.{refl, sym, ap, ◌∙◌}
-use Prim.Native.Nat.{◌*◌}
-use native.Mathlib.Omega.{arith}
-use lib.ListN.{length}
+use Rattle.std.proofs.Common.{sym, ap, ◌∙◌, ◌*◌, refl, arith}
 use Rattle.rules.specs.declared.Header.{Header}
-use Rattle.rules.specs.Job.{Job, limits_of}
-use Rattle.rules.specs.Check.{check_counts}
+use Rattle.rules.specs.Job.{Job}
 use Rattle.rules.specs.Stored.{block_count}
-use Rattle.rules.specs.Writing.{blocks_of}
-use Rattle.rules.proofs.RoundTrip.{blocks-length}
-use Rattle.rules.proofs.Writes.{write-stays, write_done, write-exact}
-use Rattle.job.specs.Parts.{whole_job}
-use Rattle.writer.proofs.Counts.{counts-stop, counts-few, verdict-is, own-job, writable}
+use Rattle.rules.proofs.Writes.{write_done, write-exact}
+use Rattle.job.specs.Given.{the_limits, the_job}
+use Rattle.writer.proofs.Counts.{counts-refuse, counts-few, sound-refuse, is-sound, k-last, k-refuse}
 use Rattle.writer.proofs.write.Goals as goal
 
-pub returns-then-counts-ne0 : goal.returns-then-counts-ne0
-returns-then-counts-ne0 c =
-    let a = c.args in
-    let job : Job = whole_job a.job a.sizes.now a.sides.now a.marks.now a.bounds.now a.pins.now in
-    write-stays _ job a.out.now (counts-stop _ job c.recipe_count-n.ensures c.check_counts-counts.ensures _ c.if-counts-ne0.true) c.if-counts-ne0.true
+pub returns-in_err-check_counts : goal.returns-in_err-check_counts
+returns-in_err-check_counts c =
+    counts-refuse _ _ _ c.count.ensures _ _ c.from_residual.ensures.1 c.in_err-check_counts.ensures
 
-pub header_for-h-requires : goal.header_for-h-requires
-unfolding check_counts
-header_for-h-requires c =
-    let a = c.args in
-    let job : Job = whole_job a.job a.sizes.now a.sides.now a.marks.now a.bounds.now a.pins.now in
-    let r = counts-few (limits_of _ _ _ 0) job c.recipe_count-n.ensures c.check_counts-counts.ensures c.if-counts-ne0.false in
-    (omega (arith, r.0), omega (arith, r.1), omega (arith, r.2))
+pub header_for-header-requires : goal.header_for-header-requires
+header_for-header-requires c =
+    let few = counts-few the_limits (the_job c.args.job c.args.book c.args.sides.now) c.args.out.now c.count.ensures c.in_ok-check_counts.ensures in
+    (omega (arith, few.0), omega (arith, few.1), omega (arith, few.2))
 
-pub returns-then-v-ne0 : goal.returns-then-v-ne0
-returns-then-v-ne0 c =
-    let h = c.header_for-h.ensures in
-    let a = c.args in
-    let job : Job = whole_job a.job a.sizes.now a.sides.now a.marks.now a.bounds.now a.pins.now in
-    let v = verdict-is _ job a.out.now c.check_sound-sound.ensures (c.wide.ensures ∙ c.block_count.ensures ∙ ap block_count h) refl c.bad_k.ensures c.refuse_if.ensures c.or_else-v.ensures in
-    write-stays _ job a.out.now v c.if-v-ne0.true
+pub returns-in_err-check_sound : goal.returns-in_err-check_sound
+returns-in_err-check_sound c =
+    sound-refuse _ _ _ c.header_for-header.ensures c.block_count.ensures _ _ c.from_residual-in_err-check_sound.ensures.1 c.in_err-check_sound.ensures
+
+pub returns-in_err-refuse_if : goal.returns-in_err-refuse_if
+returns-in_err-refuse_if c =
+    let exit = c.from_residual-in_err-refuse_if.ensures.1 in
+    k-refuse _ _ _ c.header_for-header.ensures c.block_count.ensures c.in_ok-check_sound.ensures _ _ c.bad_k.ensures exit c.in_err-refuse_if.ensures
+
+pub invariant_of-checked : goal.invariant_of-checked
+invariant_of-checked c =
+    let job : Job = the_job c.args.job c.args.book c.args.sides.now in
+    let s = is-sound the_limits job c.args.out.now c.header_for-header.ensures c.block_count.ensures c.in_ok-check_sound.ensures in
+    record { own_header = c.header_for-header.ensures; sides_binary = s.binary; marks_few = s.marks }
 
 pub put_blocks-requires : goal.put_blocks-requires
 put_blocks-requires c =
-    let h = c.header_for-h.ensures in
-    let a = c.args in
-    let job : Job = whole_job a.job a.sizes.now a.sides.now a.marks.now a.bounds.now a.pins.now in
-    let v = verdict-is _ job a.out.now c.check_sound-sound.ensures (c.wide.ensures ∙ c.block_count.ensures ∙ ap block_count h) refl c.bad_k.ensures c.refuse_if.ensures c.or_else-v.ensures in
-    let z = c.if-v-ne0.false in record { writable = writable job h _ a.out.now v z; out_len = write-exact _ job a.out.now v z ∙ ap (λ (k : Header). 512 * block_count k) (sym h) }
-
-pub shape_of-out : goal.shape_of-out
-shape_of-out c =
-    let h = c.header_for-h.ensures in
-    let a = c.args in
-    let job : Job = whole_job a.job a.sizes.now a.sides.now a.marks.now a.bounds.now a.pins.now in
-    let v = verdict-is _ job a.out.now c.check_sound-sound.ensures (c.wide.ensures ∙ c.block_count.ensures ∙ ap block_count h) refl c.bad_k.ensures c.refuse_if.ensures c.or_else-v.ensures in
-    ap length (c.put_blocks.ensures ∙ ap blocks_of (own-job job h)) ∙ blocks-length job ∙ sym (write-exact _ job a.out.now v c.if-v-ne0.false)
+    let own = c.header_for-header.ensures in
+    let job : Job = the_job c.args.job c.args.book c.args.sides.now in
+    let last = k-last the_limits job c.args.out.now own c.block_count.ensures c.in_ok-check_sound.ensures c.bad_k.ensures c.in_ok-refuse_if.ensures in
+    write-exact _ _ _ last refl ∙ ap (λ (h : Header). 512 * block_count h) (sym own)
 
 pub returns : goal.returns
 returns c =
-    let h = c.header_for-h.ensures in
-    let a = c.args in
-    let job : Job = whole_job a.job a.sizes.now a.sides.now a.marks.now a.bounds.now a.pins.now in
-    let v = verdict-is _ job a.out.now c.check_sound-sound.ensures (c.wide.ensures ∙ c.block_count.ensures ∙ ap block_count h) refl c.bad_k.ensures c.refuse_if.ensures c.or_else-v.ensures in
-    write_done _ job a.out.now v c.if-v-ne0.false (c.put_blocks.ensures ∙ ap blocks_of (own-job job h))
+    let last = k-last _ _ _ c.header_for-header.ensures c.block_count.ensures c.in_ok-check_sound.ensures c.bad_k.ensures c.in_ok-refuse_if.ensures in
+    write_done _ _ _ last refl c.put_blocks.ensures

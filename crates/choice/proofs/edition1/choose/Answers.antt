@@ -1,40 +1,29 @@
-use mathlib.Core.Path.{sym, ap, ◌∙◌}
-use mathlib.Core.Bool.{Bool, ◌&&◌}
-use native.Mathlib.Omega.{arith}
-use lib.Dec.{eqb}
-use lib.ListN.{length}
+use Rattle.std.proofs.Common.{sym, ◌∙◌}
 use Rattle.choice.proofs.Fitting.{all-lengths}
-use Rattle.choice.proofs.FilesPassed.{files-none, files-over, files-next, files-near, files-all, choice-unfit, choice-fit}
+use Rattle.choice.proofs.FilesPassed.{files-none, files-next, files-legal, files-done, choice-unfit, choice-fit}
 use Rattle.choice.proofs.edition1.choose.Goals as goal
 
-pub returns-then-not-fit : goal.returns-then-not-fit
-returns-then-not-fit c =
+pub returns-then-not-fits-clause-value : goal.returns-then-not-fits-clause-value
+returns-then-not-fits-clause-value c =
     let a = c.args in
-    choice-unfit a.window a.size a.sizes.now a.sides.now a.scratch.now a.gains.now
-    (ap (λ (t : Bool). eqb (length a.sides.now) (length a.sizes.now) && t) (sym c.fit_files.ensures) ∙ c.if-not-fit.true)
+    let s = a.standing in
+    choice-unfit a.window a.size s.sizes.now s.sides.now a.scratch.now s.gains.now (sym c.fits.ensures ∙ c.if-not-fits.true)
 
-pub loop-window-init : goal.loop-window-init
-loop-window-init c = files-none
+pub loop-next-init : goal.loop-next-init
+loop-next-init c = record { passed = files-none; file = tt }
 
--- the lists fit
-pub next_first-next-requires : goal.next_first-next-requires
-next_first-next-requires c =
+pub next_first-requires-clause-best_is_legal : goal.next_first-requires-clause-best_is_legal
+next_first-requires-clause-best_is_legal c = files-legal c.loop-next.best c.loop-next.invariant.file c.loop-next.invariant.passed
+
+pub loop-next-preserved : goal.loop-next-preserved
+loop-next-preserved c =
+    let h = c.in-Some.ensures in
+    record { passed = files-next h.file h.next c.loop-next.invariant.passed; file = h.file }
+
+pub returns-clause-value : goal.returns-clause-value
+returns-clause-value c =
     let a = c.args in
-    record {
-      sides_len = all-lengths (ap (λ (t : Bool). eqb (length a.sides.now) (length a.sizes.now) && t) (sym c.fit_files.ensures) ∙ c.if-not-fit.false);
-      from_in_bounds = (c.loop-window.invariant.few, files-near c.loop-window.invariant);
-    }
-
-pub returns-then-files-next : goal.returns-then-files-next
-returns-then-files-next c =
-    let a = c.args in
-    let t = all-lengths (ap (λ (t : Bool). eqb (length a.sides.now) (length a.sizes.now) && t) (sym c.fit_files.ensures) ∙ c.if-not-fit.false) in
-    files-all c.if-files-next.true (files-over c.next_first-next.result.file c.next_first-next.ensures.outdone c.loop-window.invariant)
-    ∙ sym (choice-fit a.window a.size a.sizes.now a.sides.now a.scratch.now a.gains.now t.0 t.1 t.2)
-
-pub loop-window-smaller : goal.loop-window-smaller
-loop-window-smaller c = omega (arith, c.next_first-next.ensures.outdone.least, c.if-files-next.false)
-
-pub loop-window-preserved : goal.loop-window-preserved
-loop-window-preserved c =
-    files-next c.if-files-next.false c.next_first-next.ensures c.loop-window.invariant
+    let s = a.standing in
+    let t = all-lengths (sym c.fits.ensures ∙ c.if-not-fits.false) in
+    files-done c.next_first.result c.in_default.not-Some c.next_first.ensures.next c.loop-next.invariant.passed
+    ∙ sym (choice-fit a.window a.size s.sizes.now s.sides.now a.scratch.now s.gains.now t.0 t.1 t.2)

@@ -1,37 +1,19 @@
--- Its tests are those of `leader_in`; gains are compared by their bits. Assumes nothing.
-use mathlib.Core.Path.{◌≡◌, sym, ap₂, ◌∙◌}
-use lib.IntN.{ℤ}
-use lib.Signed.{lt_z}
-use mir.Syntax.{w32}
-use mir.Val.{SFits, to_z, of_z}
-use mir.Facts.{to_z-of_z}
-use borrow.Author.Rules.{rules}
-use Rattle.choice.specs.Heavy.{gain_in}
-use Rattle.choice.proofs.Leading.{leader-stays, leader-first, leader-goes, leader-keeps}
+-- A file leads if it is free, and the first of its kind or of greater gain. Assumes nothing.
+use Rattle.std.proofs.Common.{rules, length, take}
+use Rattle.choice.proofs.Leading.{leader-stays, leader-goes, leader-keeps}
 use Rattle.choice.proofs.heavy.leader.Goals as goal
+use Rattle.choice.proofs.heavy.leader.Goals.{else-is_free_on-via-then-is_free_on+else-is_none_or, else-is_free_on-via-else-is_free_on}
 
--- the gains as they are compared
-compared : (a b : ℤ) → SFits w32 a → SFits w32 b → lt_z (to_z w32 (of_z w32 a)) (to_z w32 (of_z w32 b)) ≡ lt_z a b
-compared a b f g = ap₂ lt_z (to_z-of_z f) (to_z-of_z g)
+pub returns-then-is_none_or-clause-leads : goal.returns-then-is_none_or-clause-leads
+returns-then-is_none_or-clause-leads c =
+    let a = c.args in
+    leader-goes a.side a.sides.now (take (length a.sides.now) a.scratch.now) a.gains.now (length a.sides.now) a.f a.best c.requires.best_in_bounds.0 (search rules) (search rules)
 
-pub returns-then-scratch-f : goal.returns-then-scratch-f
-returns-then-scratch-f c =
-    leader-stays c.args.side c.args.sides.now c.args.scratch.now c.args.gains.now c.args.best c.args.f c.requires.best_in_bounds.1 c.if-scratch-f.true
-
-pub returns-then-best-sides : goal.returns-then-best-sides
-returns-then-best-sides c =
-    leader-first c.args.side c.args.sides.now c.args.scratch.now c.args.gains.now c.args.best c.args.f c.requires.best_in_bounds.1 c.if-scratch-f.false c.if-best-sides.true
-
-pub returns-then-gains-best : goal.returns-then-gains-best
-returns-then-gains-best c =
-    let a : SFits w32 (gain_in c.args.gains.now c.args.best) = search rules in
-    let b : SFits w32 (gain_in c.args.gains.now c.args.f) = search rules in
-    leader-goes c.args.side c.args.sides.now c.args.scratch.now c.args.gains.now c.args.best c.args.f c.requires.best_in_bounds.1
-    c.if-scratch-f.false c.if-best-sides.false (sym (compared (gain_in c.args.gains.now c.args.best) (gain_in c.args.gains.now c.args.f) a b) ∙ c.if-gains-best.true)
-
-pub returns : goal.returns
-returns c =
-    let a : SFits w32 (gain_in c.args.gains.now c.args.best) = search rules in
-    let b : SFits w32 (gain_in c.args.gains.now c.args.f) = search rules in
-    leader-keeps c.args.side c.args.sides.now c.args.scratch.now c.args.gains.now c.args.best c.args.f c.requires.best_in_bounds.1
-    c.if-best-sides.false (sym (compared (gain_in c.args.gains.now c.args.best) (gain_in c.args.gains.now c.args.f) a b) ∙ c.if-gains-best.false)
+pub returns-else-is_free_on-clause-leads : goal.returns-else-is_free_on-clause-leads
+returns-else-is_free_on-clause-leads c =
+    let a = c.args in
+    elim c.else-is_free_on.branch [
+      | else-is_free_on-via-then-is_free_on+else-is_none_or w ↦
+          leader-keeps a.side a.sides.now (take (length a.sides.now) a.scratch.now) a.gains.now (length a.sides.now) a.f a.best c.requires.best_in_bounds.0 (search rules)
+      | else-is_free_on-via-else-is_free_on w ↦ leader-stays a.side a.sides.now (take (length a.sides.now) a.scratch.now) a.gains.now (length a.sides.now) a.f a.best (search rules)
+    ]

@@ -1,16 +1,16 @@
-use mathlib.Core.Path.{sym, ◌∙◌}
-use native.Mathlib.Omega.{arith}
-use Rattle.rules.proofs.Searches.{passed_none, passed-more, passed-hit, passed-end}
+use mathlib.Core.Path.{◌≡◌}
+use Prim.Native.Nat.{ℕ}
+use mathlib.Core.Bool.{Bool, true, false}
+use borrow.Author.Tests.{tests}
+use Rattle.std.proofs.Common.{rules}
+use Rattle.std.proofs.lemmas.Iterator.{first_from_Range}
+use Rattle.rules.specs.Check.{bad_file}
+use Rattle.job.specs.Given.{the_files}
+use Rattle.job.proofs.Search.{find-first}
 use Rattle.job.proofs.files.first_bad_file.Goals as goal
 
-pub loop-f-init : goal.loop-f-init
-loop-f-init c = passed_none
-
-pub returns-then-is_bad_file : goal.returns-then-is_bad_file
-returns-then-is_bad_file c = passed-hit c.loop-f.invariant (omega arith) (sym c.is_bad_file.ensures ∙ c.if-is_bad_file.true)
-
-pub loop-f-preserved : goal.loop-f-preserved
-loop-f-preserved c = passed-more c.loop-f.invariant (omega arith) (sym c.is_bad_file.ensures ∙ c.if-is_bad_file.false)
-
 pub returns : goal.returns
-returns c = passed-end c.loop-f.invariant (omega arith)
+returns c =
+    let p = c.args.placed in
+    let bad : ℕ → Bool = bad_file (the_files p.book p.sides.now) in
+    find-first bad _ _ (first_from_Range _ _ _ _ (λ i. bad i ≡ true) (λ i. bad i ≡ false) c.find.ensures.ran (λ x q k. search (rules, tests)) (λ x q k. search (rules, tests)))

@@ -18,21 +18,21 @@ pub levels_of-requires : goal.levels_of-requires
 levels_of-requires c =
     let a = c.args in
     let x = a.extent in
-    let z = c.zones_of-zones.result in
-    let n = c.wide-n.result in
+    let z = c.zones-zones.result in
+    let n = c.from-n.result in
     let own = c.side_at-own.result in
     let other = z.counts + (z.counts + n - own) in
-    let at = zones-are x.files x.pins c.zones_of-zones.ensures in
-    let near = (across (counts_at x.files x.pins) x.recipes (get_or a.sides.now a.f 0) own c.side_at-own.ensures).0 in
+    let at = zones-are x.files x.pins c.zones-zones.ensures in
+    let near = (across (counts_at x.files x.pins) x.recipes (get_or a.standing.sides.now a.f 0) own c.side_at-own.ensures).0 in
     let long = c.requires.2 in
-    let few : length c.view-list.result.now < 65536
+    let few : length c.view.result.now < 65536
     = omega (
       arith,
-      ap length c.view-list.ensures,
+      ap length c.view.ensures,
       view-few (part z.starts (z.counts - z.starts) a.scratch.now) (part z.cells (z.starts - z.cells) a.scratch.now) a.f,
       length-take (z.starts - z.cells) (drop z.cells a.scratch.now),
       at,
-      c.wide-n.ensures,
+      c.from-n.ensures,
       near,
       long,
       c.well_formed,
@@ -40,16 +40,16 @@ levels_of-requires c =
     let mine : own + 3 * n - own ≡ 3 * n = omega arith in
     let theirs : other + 3 * n - other ≡ 3 * n = omega arith in (
       few,
-      rw (mine, part_length own (3 * n) a.scratch.now (omega (arith, at, c.wide-n.ensures, near, long))) (omega arith),
-      rw (theirs, part_length other (3 * n) a.scratch.now (omega (arith, at, c.wide-n.ensures, near, long))) (omega arith),
+      rw (mine, part_length own (3 * n) a.scratch.now (omega (arith, at, c.from-n.ensures, near, long))) (omega arith),
+      rw (theirs, part_length other (3 * n) a.scratch.now (omega (arith, at, c.from-n.ensures, near, long))) (omega arith),
     )
 
 pub returns : goal.returns
 returns c =
     let a = c.args in
     let x = a.extent in
-    let fits : SFits w32 (get_or a.gains.now a.f (pos 0)) = search rules in
+    let fits : SFits w32 (get_or a.standing.gains.now a.f (pos 0)) = search rules in
     c.levels_of.ensures
-    ∙ vector-is x.files x.recipes x.pins a.sides.now a.gains.now a.scratch.now a.f c.zones_of-zones.result
-    c.wide-n.result c.side_at-own.result (to_z w32 (of_z w32 (get_or a.gains.now a.f (pos 0)))) c.view-list.result.now c.zones_of-zones.ensures c.wide-n.ensures
-    c.side_at-own.ensures (to_z-of_z fits) c.view-list.ensures
+    ∙ vector-is x.files x.recipes x.pins a.standing.sides.now a.standing.gains.now a.scratch.now a.f c.zones-zones.result
+    c.from-n.result c.side_at-own.result (to_z w32 (of_z w32 (get_or a.standing.gains.now a.f (pos 0)))) c.view.result.now c.zones-zones.ensures c.from-n.ensures
+    c.side_at-own.ensures (to_z-of_z fits) c.view.ensures

@@ -1,27 +1,28 @@
-use mathlib.Core.Path.{◌∙◌}
+use mathlib.Core.Path.{refl}
+use Prim.Native.Nat.{◌*◌}
 use native.Mathlib.Omega.{arith}
-use Rattle.rules.specs.Report.{text}
-use Rattle.report.specs.Tracing.{gains_line}
-use Rattle.report.proofs.Gains.{gaining-none, gaining-more, gaining-end, gaining-short}
-use Rattle.report.proofs.Laying.{laid-length, laid_more}
+use lib.ListN.{length, get_or}
+use lib.IntN.{pos}
 use Rattle.std.proofs.Common.{rules}
+use Rattle.rules.specs.Report.{text}
+use Rattle.report.specs.Bytes.{gain_bytes}
+use Rattle.report.specs.Tracing.{gains_line}
+use Rattle.report.proofs.Gains.{signed_back, gain-pieces}
+use Rattle.report.proofs.Laying.{laying-none, laying-more, laying-end, wrote_as, wrote_more}
 use Rattle.report.proofs.moves.put_gains.Goals as goal
 
-pub loop-f-init : goal.loop-f-init
-loop-f-init c = gaining-none
+pub loop-gain-init : goal.loop-gain-init
+loop-gain-init c = laying-none
 
-pub put_signed-next-requires : goal.put_signed-next-requires
-put_signed-next-requires c = omega (arith, c.loop-f.invariant.short)
-
-pub loop-f-preserved : goal.loop-f-preserved
-loop-f-preserved c = gaining-more c.loop-f.invariant c.loop-f-test.true (search rules) c.put_signed-next.ensures.laid c.put_signed-next.ensures.upper_bound
-
-pub put-requires : goal.put-requires
-put-requires c = record { near = omega (arith, c.put_text-next.ensures.ends, gaining-short c.loop-f.invariant, c.requires) }
-
-pub shape_of-out : goal.shape_of-out
-shape_of-out c = laid-length c.put.ensures ∙ laid-length c.loop-f.invariant.laying.laid ∙ laid-length c.put_text-next.ensures
+pub loop-gain-preserved : goal.loop-gain-preserved
+loop-gain-preserved c =
+    let here = signed_back {g = get_or c.args.gains.now c.loop-gain.gain-index (pos 0)} (search rules) in
+    let gain = wrote_as gain_bytes c.put_signed.ensures here (omega arith) in
+    laying-more (pos 0) c.loop-gain.invariant _ c.loop-gain-test.true gain (omega arith)
 
 pub returns : goal.returns
 unfolding gains_line text
-returns c = record { laid = laid_more (laid_more c.put_text-next.ensures (gaining-end c.loop-f.invariant c.loop-f-test.false)) c.put.ensures; upper_bound = omega (arith, c.put_text-next.ensures.ends, gaining-short c.loop-f.invariant, c.put.ensures.ends) }
+returns c =
+    let l = c.loop-gain.invariant in
+    let gains = wrote_as (gain_bytes * length c.args.gains.now) (laying-end (pos 0) l c.loop-gain-test.false) (gain-pieces _) (omega (arith, l.stop)) in
+    wrote_as _ (wrote_more (wrote_more c.plain.ensures gains) c.put.ensures) refl (omega arith)

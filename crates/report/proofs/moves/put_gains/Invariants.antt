@@ -1,10 +1,8 @@
-use Prim.Native.Nat.{◌-◌}
-use lib.ListN.{length}
-use Rattle.report.proofs.Gains.{Gaining}
+use Prim.Native.Nat.{◌*◌}
+use Rattle.rules.specs.Trace.{signed}
+use Rattle.report.specs.Bytes.{gain_bytes}
+use Rattle.report.proofs.Laying.{Laying}
 use Rattle.report.proofs.moves.put_gains.Given as goal
 
-abbrev pub invariant-loop-f : goal.invariant-loop-f
-invariant-loop-f l = Gaining l.gains l.initial.next l.initial.out l.f l.next l.out
-
-abbrev pub decreases-loop-f : goal.decreases-loop-f
-decreases-loop-f l = length l.gains - l.f
+abbrev pub invariant-loop-gain : goal.invariant-loop-gain
+invariant-loop-gain l = Laying signed l.gains l.gain-index (gain_bytes * l.gain-index) l.initial.text l.text

@@ -1,18 +1,16 @@
-use Rattle.report.specs.Tracing.{ends_of}
-use Rattle.report.proofs.Traces.{ending-short, ending-none, ending-more, ending-hit, ending-end}
+use mathlib.Core.Path.{◌≡◌}
+use mathlib.Core.Bool.{true, false}
+use Rattle.std.proofs.Common.{rules}
+use Rattle.std.proofs.lemmas.Iterator.{YieldsList-from_range, cases_from_any}
+use borrow.Author.Tests.{tests}
+use Rattle.rules.specs.Trace.{bad_end}
+use Rattle.report.specs.Cases.{listed}
+use Rattle.report.proofs.Traces.{scans-held}
 use Rattle.report.proofs.pass.holds_scans.Goals as goal
 
-pub returns-then-ends-m : goal.returns-then-ends-m
-returns-then-ends-m c = ending-short (ends_of c.args.ends.now c.args.recipes.now c.args.kinds.now) c.args.n c.if-ends-m.true
-
-pub loop-i-init : goal.loop-i-init
-loop-i-init c = ending-none
-
-pub returns-then-is_bad_end : goal.returns-then-is_bad_end
-returns-then-is_bad_end c = ending-hit c.loop-i.invariant c.if-ends-m.false c.loop-i-test.true c.is_bad_end.ensures c.if-is_bad_end.true
-
-pub loop-i-preserved : goal.loop-i-preserved
-loop-i-preserved c = ending-more c.loop-i.invariant c.loop-i-test.true c.is_bad_end.ensures c.if-is_bad_end.false
-
 pub returns : goal.returns
-returns c = ending-end c.loop-i.invariant c.if-ends-m.false c.loop-i-test.false
+returns c =
+    let l = listed c.args.lists in
+    scans-held l c.args.n c.any.result
+    (cases_from_any _ _ _ (λ i. bad_end l i ≡ true) (λ i. bad_end l i ≡ false) c.any.ensures.ran (YieldsList-from_range 0 c.args.n c.args.n (cc) (search rules))
+    (λ x q k. search (rules, tests)) (λ x q k. search (rules, tests)))

@@ -1,28 +1,25 @@
 -- `fronts::choose_by` meets its contract: the links come back to their place. Assumes nothing.
-use mathlib.Core.Path.{ap, ap₂, ◌∙◌}
-use borrow.Author.Tests.{eq-eqb, ne_eqb}
-use Rattle.choice.specs.declared.edition1.Best.{Best}
+use mathlib.Core.Path.{sym, ap, ap₂, ◌∙◌}
+use Rattle.choice.specs.Cases.{as_best}
+use Rattle.buckets.specs.declared.slots.Shape.{Shape}
 use Rattle.buckets.specs.Offers.{Chosen, chosen_front}
 use Rattle.split.specs.Links.{picked_is, picked_by}
 use Rattle.split.proofs.LinksLent.{lent_back, lent-read}
 use Rattle.split.proofs.fronts.choose_by.Goals as goal
 
-pub returns-then-edition-ne2 : goal.returns-then-edition-ne2
+pub returns-in-Two-clause-best_or_none : goal.returns-in-Two-clause-best_or_none
 unfolding picked_by
-returns-then-edition-ne2 c =
-    rw (ne_eqb _ 2 c.if-edition-ne2.true) (ap (λ (b : Best). picked_is b c.args.scratch.now) c.choose.ensures)
-
-pub returns : goal.returns
-unfolding picked_by
-returns c =
+returns-in-Two-clause-best_or_none c =
     let a = c.args in
-    let at = c.links_of-at in
+    let st = a.standing in
+    let at = c.links_of.ensures in
     let shape = c.shape_of.ensures in
-    let q = c.choose_front.ensures in
-    rw (eq-eqb _ 2 c.if-edition-ne2.false)
+    let q = c.choose_front.ensures.best_or_none in
+    rw c.in-Two.is
     (ap₂ picked_is
-    (ap (λ (x : Chosen). x.best) q
-    ∙ lent-read a.extent.files a.extent.recipes a.extent.pins a.scratch.now at.ensures.0 at.ensures.1
-    (λ x l. (chosen_front x a.window a.size a.sizes.now a.sides.now a.gains.now l).best) shape)
-    (lent_back a.extent.files a.extent.recipes a.extent.pins a.scratch.now at.ensures.0 at.ensures.1
-    (λ x l. (chosen_front x a.window a.size a.sizes.now a.sides.now a.gains.now l).links) shape (ap (λ (x : Chosen). x.links) q)))
+    (ap (λ (x : Shape). as_best x.files c.choose_front.result) (sym shape)
+    ∙ ap (λ (x : Chosen). x.best) q
+    ∙ lent-read a.extent.files a.extent.recipes a.extent.pins a.scratch.now at.0 at.1
+    (λ x l. (chosen_front x a.window a.size st.sizes.now st.sides.now st.gains.now l).best) shape)
+    (lent_back a.extent.files a.extent.recipes a.extent.pins a.scratch.now at.0 at.1
+    (λ x l. (chosen_front x a.window a.size st.sizes.now st.sides.now st.gains.now l).links) shape (ap (λ (x : Chosen). x.links) q)))

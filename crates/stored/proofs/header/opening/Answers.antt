@@ -1,29 +1,34 @@
-use mathlib.Core.Path.{ap, ◌∙◌}
-use native.Mathlib.Omega.{arith}
+use Rattle.std.proofs.Common.{ap, ◌∙◌}
+use Rattle.std.specs.Prelude.{Result}
 use Rattle.rules.specs.declared.Verdict.{Verdict}
-use Rattle.stored.proofs.Readings.{refused-by, short-opening, stopped-zeroth, all-opened}
+use Rattle.rules.specs.declared.Header.{Header}
+use Rattle.rules.specs.declared.refusal.Refusal.{Refusal}
+use Rattle.rules.specs.Cases.{as_read_figures}
+use Rattle.rules.proofs.Exits.{exit-is}
+use Rattle.stored.proofs.Readings.{header-refused, figures-refused, total-told, figures-allowed}
 use Rattle.stored.proofs.header.opening.Goals as goal
 
-pub returns-then-bytes-lt512 : goal.returns-then-bytes-lt512
-returns-then-bytes-lt512 c =
-    let e = c.refuse_if.ensures in
-    c.refused.ensures ∙ refused-by _ (short-opening _ _ _ c.if-bytes-lt512.true e) (λ z. omega (arith, ap (λ (v : Verdict). v.number) e))
+abbrev verdict_in : Result Header Refusal → Verdict
+verdict_in r = (as_read_figures r).verdict
 
-pub block_at-block-requires : goal.block_at-block-requires
-block_at-block-requires c = omega arith
+pub returns-in_err-header-clause-verdict : goal.returns-in_err-header-clause-verdict
+returns-in_err-header-clause-verdict c = ap verdict_in (exit-is _ _ c.from_residual.ensures.1) ∙ header-refused _ _ _ _ c.in_err-header.ensures.verdict
 
-pub returns-then-first-ne0 : goal.returns-then-first-ne0
-returns-then-first-ne0 c =
-    let n = c.if-first-ne0.true in
-    c.refused-then-first-ne0.ensures ∙ refused-by _ (stopped-zeroth _ _ _ c.if-bytes-lt512.false c.block_at-block.ensures c.k_in.ensures c.header_values-n.ensures c.block_verdict-first.ensures n) n
+pub returns-in_err-figures_verdict-clause-verdict : goal.returns-in_err-figures_verdict-clause-verdict
+returns-in_err-figures_verdict-clause-verdict c =
+    let z = c.in_ok-header.ensures in
+    ap verdict_in (exit-is _ _ c.from_residual-in_err-figures_verdict.ensures.1) ∙ figures-refused _ _ _ z.verdict z.header _ c.in_err-figures_verdict.ensures
 
-pub overflow_cast-block_count : goal.overflow_cast-block_count
-overflow_cast-block_count c = omega arith
+pub returns-in_err-refuse_if-clause-verdict : goal.returns-in_err-refuse_if-clause-verdict
+returns-in_err-refuse_if-clause-verdict c =
+    let z = c.in_ok-header.ensures in
+    ap verdict_in (exit-is _ _ c.from_residual-in_err-refuse_if.ensures.1)
+    ∙ total-told _ _ _ z.verdict z.header c.in_ok-figures_verdict.ensures c.block_count.ensures c.in_err-refuse_if.ensures
 
-pub overflow_mul-block_count : goal.overflow_mul-block_count
-overflow_mul-block_count c = omega arith
+pub returns-clause-verdict : goal.returns-clause-verdict
+returns-clause-verdict c =
+    let z = c.in_ok-header.ensures in
+    total-told _ _ _ z.verdict z.header c.in_ok-figures_verdict.ensures c.block_count.ensures c.in_ok-refuse_if.ensures
 
-pub returns : goal.returns
-returns c =
-    all-opened _ _ _ c.if-bytes-lt512.false c.block_at-block.ensures c.k_in.ensures c.header_values-n.ensures c.block_verdict-first.ensures
-    c.if-first-ne0.false c.header_in-header.ensures c.figures_verdict-figures.ensures c.block_count.ensures c.refuse_if-total.ensures c.or_else.ensures c.answer_by.ensures
+pub returns-clause-allowed : goal.returns-clause-allowed
+returns-clause-allowed c = figures-allowed _ _ _ c.in_ok-figures_verdict.ensures

@@ -1,9 +1,11 @@
--- `ending::clear` meets its contract: one entry more is cleared, at a place of the list. Assumes nothing.
-use native.Mathlib.Omega.{arith}
-use lib.ListN.{length}
-use Rattle.tables.proofs.Filled.{clearing-more, places-in}
+-- One entry more is zero, and in the end the whole part. Assumes nothing.
+use Rattle.std.proofs.Common.{arith}
+use Rattle.tables.proofs.Filled.{cleared-lent, front-more}
 use Rattle.tables.proofs.ending.clear.Goals as goal
 
-pub loop-k-preserved : goal.loop-k-preserved
-loop-k-preserved c =
-    (omega arith, clearing-more (omega (arith, places-in c.args.from c.args.to (length c.args.list.now) c.if-to-from.false)) c.loop-k.invariant.1)
+pub loop-entry-preserved : goal.loop-entry-preserved
+loop-entry-preserved g c = front-more c.args.zero _ _ (omega arith) c.loop-entry.invariant
+
+pub returns-after-loop-entry : goal.returns-after-loop-entry
+returns-after-loop-entry g c =
+    cleared-lent c.args.from c.args.to c.args.zero c.args.list.now (omega arith) (omega arith) _ _ c.loop-entry.auto.entry-items (omega arith) c.loop-entry.invariant

@@ -1,6 +1,0 @@
--- Both counts fit. Assumes nothing.
-use Rattle.tables.proofs.Starting.{sub_back}
-use Rattle.levels.proofs.vector.signed.Goals as goal
-
-pub returns : goal.returns
-returns c = sub_back c.args.up c.args.down c.requires.0 c.requires.1
