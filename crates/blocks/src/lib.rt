@@ -26,7 +26,8 @@ fn take_block<R: Read>(reader: &mut R, room: &mut [u8], at: usize, end: usize) -
     Ok(got)
 }
 
-// The next bytes of the reader: `most` of them, or as many as the room holds, or fewer at the end of the input. How many came. Where a read fails, what came before it stands in the room.
+// The next bytes of the reader: `most` of them, or as many as the room holds, or fewer at the end of the input. How many came.
+// Where a read fails, what came before it stands in the room.
 pub fn take_from<R: Read>(reader: &mut R, room: &mut [u8], most: usize) -> io::Result<usize>
     ensures prefix_len { IfOk result (λ n. IsPrefixLen n room.new × (n ≤ most)) }
     ensures room_unchanged { IfOk result (λ n. drop n room.new ≡ drop n room.old) }

@@ -13,10 +13,15 @@ use std::io::{Read, Write};
 // The most bytes of a stored job.
 const MOST_BYTES: usize = 20000;
 
-// The longest list that is lent, and what each number of a record of it is before the call.
+// The longest list that is lent, and what a record of it is before the call.
 const MOST_LIST: usize = comparer::MOST_DIFFERENCES + 9;
 
-const FILLED: u16 = 165;
+const FILLED: Difference = Difference {
+    what: 165,
+    number: 165,
+    old: 165,
+    new: 165,
+};
 
 // ---- Writing
 
@@ -24,13 +29,9 @@ fn show_record<W: Write>(out: &mut W, d: &Difference) -> io::Result<()> {
     writeln!(out, "{} {} {} {}", d.what, d.number, d.old, d.new)
 }
 
-fn is_filled(d: &Difference) -> bool {
-    (d.what == FILLED) & (d.number == FILLED) & (d.old == FILLED) & (d.new == FILLED)
-}
-
 // Whether each of these records is as before the call.
 fn show_kept<W: Write>(out: &mut W, list: &[Difference]) -> io::Result<()> {
-    if list.iter().all(is_filled) {
+    if list.iter().all(|d| *d == FILLED) {
         return out.write_all(b"kept\n");
     }
     out.write_all(b"changed\n")
@@ -68,12 +69,7 @@ fn compared(
     new: &[u8],
     n: usize,
 ) -> (Result<usize, NotCompared>, [Difference; MOST_LIST]) {
-    let mut list = [Difference {
-        what: FILLED,
-        number: FILLED,
-        old: FILLED,
-        new: FILLED,
-    }; MOST_LIST];
+    let mut list = [FILLED; MOST_LIST];
     let lent = n.min(MOST_LIST);
     let answer = comparer::compare(old, new, &mut list[..lent]);
     (answer, list)

@@ -21,7 +21,7 @@ use Rattle.report.specs.Bytes.{figure_bytes, difference_bytes}
 use Rattle.report.specs.Steps.{room_verdict}
 use Rattle.report.specs.Cases.{differences_telling, differences_told}
 use Rattle.report.specs.Comparison.{records_in, records_verdict, comparison_telling, EnoughLines}
-use Rattle.report.specs.Lending.{Told, Lendable}
+use Rattle.report.specs.Lending.{Answered, Lendable}
 use Rattle.report.proofs.Comparisons.{records-few, no_sides, comparison-told}
 use Rattle.report.proofs.Lending.{into-lendable}
 use Rattle.comparer.specs.Finding.{as_found, answer_of}
@@ -96,7 +96,7 @@ module _ (most : Limits) (old new numbers room : List ℕ) where
       → IfOk found (λ n. records_in n numbers ≡ differences (job_of old) (job_of new)) → 4 * most_differences most ≤ length numbers → Remade refused_job found made
       → (n : ℕ) (r : Result ℕ Refusal) (room' : List ℕ) → printed (as_printed r) room' ≡ differences_telling most made numbers room
       → EnoughLines (as_printed r).verdict (differences_told made) numbers room → figure_bytes + difference_bytes * most_differences most ≤ n
-      → (printed (as_printed r) room' ≡ into_room (compares most old new) room) × (Told n r room × IfOk r (λ k. Lendable k room'))
+      → (printed (as_printed r) room' ≡ into_room (compares most old new) room) × (Answered n r room × IfOk r (λ k. Lendable k room'))
   tells found made e w held remade n r room' told enough h =
       let s = says found made e w held remade in
       let is : printed (as_printed r) room' ≡ into_room (compares most old new) room = told ∙ s.0 in (

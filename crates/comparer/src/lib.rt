@@ -15,7 +15,7 @@ ghost use Rattle.rules.specs.Compare.{differences, comparing_of, comparing, comp
 ghost use Rattle.job.specs.Given.{the_limits};
 ghost use Rattle.stored.specs.Steps.{job_taken};
 ghost use Rattle.report.specs.Comparison.{record_at, records_in};
-ghost use Rattle.report.specs.Lending.{Told, Lendable};
+ghost use Rattle.report.specs.Lending.{Answered, Lendable};
 ghost use Rattle.comparer.specs.Cases.{as_compared};
 ghost use Rattle.comparer.specs.Finding.{Noted, as_found, answer_of};
 
@@ -115,7 +115,7 @@ pub fn compare<'o, 'n, 'l>(
 // The lines of two stored jobs' differences, or of a refusal: what the program `compare` writes, for every two inputs.
 pub fn tell(old: &[u8], new: &[u8], out: &mut [u8]) -> Result<usize, Refusal>
     ensures out_after { «printed» (as_printed result) out.new ≡ into_room (compares the_limits old.now new.now) out.old }
-    ensures answered { Told TEXT_BYTES result out.old × IfOk result (λ n. Lendable n out.new) }
+    ensures answered { Answered TEXT_BYTES result out.old × IfOk result (λ n. Lendable n out.new) }
 {
     let mut numbers = [0u16; NUMBERS];
     let found = find(old, new, &mut numbers).map_err(|(job, refusal)| RefusedJob {

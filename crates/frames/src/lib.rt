@@ -5,6 +5,7 @@ ghost use Rattle.std.specs.Prelude.{◌≡◌, ℕ, ◌<◌, ◌≤◌, take, dr
 ghost use Rattle.blocks.specs.Counts.{IsPrefixLen};
 ghost use Rattle.frames.specs.Numbers.{NumbersPut};
 
+use std::fmt::Display;
 use std::io;
 use std::io::{Read, Write};
 
@@ -17,7 +18,8 @@ fn take_length<R: Read>(reader: &mut R) -> io::Result<usize>
     Ok(u16::from_le_bytes(two) as usize)
 }
 
-// The bytes of the next frame, as many as the room holds; the others are let go. How many came into the room: none at the end of the input. Where a read fails, so many bytes as came before it stand in the room.
+// The bytes of the next frame, as many as the room holds; the others are let go. How many came into the room: none at the end of the input.
+// Where a read fails, so many bytes as came before it stand in the room.
 pub fn take<R: Read>(reader: &mut R, room: &mut [u8]) -> io::Result<usize>
     ensures prefix_len { IfOk result (λ n. IsPrefixLen n room.new) }
     ensures room_unchanged { IfOk result (λ n. drop n room.new ≡ drop n room.old) }
@@ -76,6 +78,15 @@ impl<const N: usize> Numbers<N> {
     {
         &self.list[..self.len]
     }
+}
+
+// The line of a list: how many entries it has, then the entries.
+pub fn show_list<W: Write, T: Display>(out: &mut W, list: &[T]) -> io::Result<()> {
+    write!(out, "{}", list.len())?;
+    for x in list {
+        write!(out, " {x}")?;
+    }
+    out.write_all(b"\n")
 }
 
 // A frame that is a heading: a line of its own.

@@ -179,11 +179,6 @@ pub result-both-lendable : (h : HandedOut) (room room' : List ℕ) (r : Result A
 result-both-lendable h room room' (Ok a) e = both-lendable h room room' (as_handed (Ok a)) e
 result-both-lendable h room room' (Err r) e = tt
 
--- room that is enough is never refused
-pub handed-ok : (r : Result Answer Refusal) → (as_handed r).verdict.number ≡ 0 → IsOk r
-handed-ok (Ok a) z = refl
-handed-ok (Err r) z = absurd (not-done r z)
-
 -- what was handed out settles the answer and the room
 pub handed-one : (r s : Result Answer Refusal) (room room' : List ℕ) → handing_of (as_handed r) room ≡ handing_of (as_handed s) room' → ◌≡◌ {A = Result Answer Refusal × List ℕ} (r, room) (s, room')
 handed-one r s room room' e = λ i. (as_handed-one r s (ap (λ (h : Handing). h.answer) e) i, (e i).room)

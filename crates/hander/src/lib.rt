@@ -9,7 +9,7 @@ ghost use Rattle.rules.specs.Stored.{block_count};
 ghost use Rattle.rules.specs.Writing.{header_for, check_written, resettles, handing_of, hand_into};
 ghost use Rattle.rules.specs.Balance.{balances};
 ghost use Rattle.job.specs.Given.{the_limits, the_job, contents};
-ghost use Rattle.report.specs.Lending.{Told, BothLendable};
+ghost use Rattle.report.specs.Lending.{Answered, BothLendable};
 ghost use Rattle.stored.specs.Steps.{job_taken};
 ghost use Rattle.hander.specs.Handing.{refused_out, made_out, run_out, balanced_out, balancing_out, Made};
 
@@ -27,7 +27,7 @@ pub const ROOM_BYTES: usize = INPUT_BYTES + LINES_BYTES;
 // What is refused is told alone, for standard error.
 fn hand_refusal(refused: Refusal, room: &mut [u8]) -> Result<HandedOut, Refusal>
     ensures room_after { handing_of (as_handed result) room.new ≡ hand_into (refused_out (verdict_of refused)) room.old }
-    ensures answered { Told LINES_BYTES result room.old }
+    ensures answered { Answered LINES_BYTES result room.old }
 {
     let none = Files {
         sizes: &[],
@@ -48,7 +48,7 @@ fn hand_blocks(
     requires can_be_written { (check_written the_limits (the_job job book sides.now) true).number ≡ 0 }
     requires blocks { bytes ≡ 512 * block_count (header_for (the_job job book sides.now)) }
     ensures room_after { handing_of (as_handed result) room.new ≡ hand_into (made_out (the_job job book.entry sides.now) []) room.old }
-    ensures answered { Told bytes result room.old }
+    ensures answered { Answered bytes result room.old }
 {
     if room.len() < bytes {
         return Err(Refusal::WrongLength);
@@ -73,7 +73,7 @@ fn resettle_run(
     requires zeros_lent { contents lent.old ≡ all_lent the_limits (the_job job book sides.old) }
     requires blocks { (bytes ≡ 512 * block_count (header_for (the_job job book sides.old))) × (bytes ≤ INPUT_BYTES) }
     ensures room_after { handing_of (as_handed result) room.new ≡ hand_into (run_out edition the_limits (the_job job book.entry sides.old)) room.old }
-    ensures answered { Told INPUT_BYTES result room.old }
+    ensures answered { Answered INPUT_BYTES result room.old }
 {
     match runs::run(edition, job, book, sides, lent) {
         Ok(_) => hand_blocks(job, book, sides, room, bytes),
@@ -90,7 +90,7 @@ fn resettle_job(
 ) -> Result<HandedOut, Refusal>
     requires blocks { (bytes ≡ 512 * block_count (header_for (job_taken taken.now))) × (bytes ≤ INPUT_BYTES) }
     ensures room_after { handing_of (as_handed result) room.new ≡ hand_into (run_out edition the_limits (job_taken taken.now)) room.old }
-    ensures answered { Told INPUT_BYTES result room.old }
+    ensures answered { Answered INPUT_BYTES result room.old }
 {
     let c = taken.header.files as usize;
     let mut sides = taken.sides;
@@ -131,7 +131,7 @@ fn resettle_job(
 // The stored job with the sides after its run by an edition, or a refusal's line: what the program `resettle` writes to standard output and to standard error, for every input.
 pub fn resettle(edition: u16, input: &[u8], room: &mut [u8]) -> Result<HandedOut, Refusal>
     ensures room_after { handing_of (as_handed result) room.new ≡ hand_into (resettles edition the_limits input.now) room.old }
-    ensures answered { Told INPUT_BYTES result room.old × IfOk result (λ handed. BothLendable handed.output handed.errors room.new) }
+    ensures answered { Answered INPUT_BYTES result room.old × IfOk result (λ handed. BothLendable handed.output handed.errors room.new) }
 {
     match stored::take_up(input) {
         Ok(taken) => resettle_job(edition, &taken, room, input.len()),
@@ -151,7 +151,7 @@ fn hand_made(
 ) -> Result<HandedOut, Refusal>
     requires { Made the_limits (balance_numbers answer) (the_job job book sides.now) bytes }
     ensures room_after { handing_of (as_handed result) room.new ≡ hand_into (balanced_out (balance_numbers answer) (the_job job book.entry sides.now)) room.old }
-    ensures answered { Told (bytes + LINES_BYTES) result room.old }
+    ensures answered { Answered (bytes + LINES_BYTES) result room.old }
 {
     if room.len() < bytes {
         return Err(Refusal::WrongLength);
@@ -176,7 +176,7 @@ fn balance_with(
     requires zeros_lent { scratch.old ≡ (all_lent the_limits (the_job job book sides.old)).scratch }
     requires blocks { (bytes ≡ 512 * block_count (header_for (the_job job book sides.old))) × (bytes ≤ INPUT_BYTES) }
     ensures room_after { handing_of (as_handed result) room.new ≡ hand_into (balancing_out the_limits (the_job job book.entry sides.old)) room.old }
-    ensures answered { Told ROOM_BYTES result room.old }
+    ensures answered { Answered ROOM_BYTES result room.old }
 {
     match split::balance(job, book, sides, scratch) {
         Ok(answer) => hand_made(answer, job, book, sides, room, bytes),
@@ -188,7 +188,7 @@ fn balance_with(
 fn balance_job(taken: &TakenUp, room: &mut [u8], bytes: usize) -> Result<HandedOut, Refusal>
     requires blocks { (bytes ≡ 512 * block_count (header_for (job_taken taken.now))) × (bytes ≤ INPUT_BYTES) }
     ensures room_after { handing_of (as_handed result) room.new ≡ hand_into (balancing_out the_limits (job_taken taken.now)) room.old }
-    ensures answered { Told ROOM_BYTES result room.old }
+    ensures answered { Answered ROOM_BYTES result room.old }
 {
     let c = taken.header.files as usize;
     let mut sides = taken.sides;
@@ -207,7 +207,7 @@ fn balance_job(taken: &TakenUp, room: &mut [u8], bytes: usize) -> Result<HandedO
 // every input.
 pub fn balance(input: &[u8], room: &mut [u8]) -> Result<HandedOut, Refusal>
     ensures room_after { handing_of (as_handed result) room.new ≡ hand_into (balances the_limits input.now) room.old }
-    ensures answered { Told ROOM_BYTES result room.old × IfOk result (λ handed. BothLendable handed.output handed.errors room.new) }
+    ensures answered { Answered ROOM_BYTES result room.old × IfOk result (λ handed. BothLendable handed.output handed.errors room.new) }
 {
     match stored::take_up(input) {
         Ok(taken) => balance_job(&taken, room, input.len()),

@@ -16,8 +16,8 @@ use Rattle.job.specs.Survey.{Survey, as_survey}
 use Rattle.job.specs.declared.holds.Vaults.{Vaults}
 use Rattle.job.proofs.Job.new.Kinds as new-kinds
 use Rattle.job.proofs.Job.new.Reads as new
-use Rattle.job.proofs.book.Recipes.view.Kinds as view-kinds
-use Rattle.job.proofs.book.Recipes.view.Reads as view
+use Rattle.job.proofs.book.view.Kinds as view-kinds
+use Rattle.job.proofs.book.view.Reads as view
 use Rattle.job.proofs.check.Kinds as check-kinds
 use Rattle.job.proofs.check.Reads as check
 use Rattle.job.proofs.measure.Kinds as measure-kinds
@@ -32,8 +32,8 @@ use Rattle.job.proofs.figures.count_on.Kinds as count-on-kinds
 use Rattle.job.proofs.figures.count_on.Reads as count-on
 use Rattle.job.proofs.holds.tally.Kinds as tally-kinds
 use Rattle.job.proofs.holds.tally.Reads as tally
-use Rattle.job.proofs.book.Recipes.count.Kinds as recipe-count-kinds
-use Rattle.job.proofs.book.Recipes.count.Reads as recipe-count
+use Rattle.job.proofs.book.recipe_count.Kinds as recipe-count-kinds
+use Rattle.job.proofs.book.recipe_count.Reads as recipe-count
 use Rattle.job.proofs.verdict.refuse_if.Kinds as refuse-if-kinds
 use Rattle.job.proofs.verdict.refuse_if.Reads as refuse-if
 use Rattle.job.proofs.verdict.bad_k.Kinds as bad-k-kinds
@@ -64,7 +64,7 @@ pub survey-settled : Settles 2 survey-kinds.ps survey-kinds.r (Result Surveyed R
 survey-settled κs a x y e f p q = as_survey-one x y (both p q)
 
 -- the list that the part holds
-pub view-settled : Settles 1 view-kinds.ps view-kinds.r (List ℕ) (λ κs s _. s.now) view.Post
+pub view-settled : Settles 2 view-kinds.ps view-kinds.r (List ℕ) (λ κs s _. s.now) view.Post
 view-settled κs a x y e f p q = both p q
 
 pub new-settled : Settles 0 new-kinds.ps new-kinds.r Job (λ κs j _. j) new.Post

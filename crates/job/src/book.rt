@@ -25,24 +25,39 @@ pub struct Book<'a> {
     pub recipes: Recipes<'a>,
 }
 
+// N: with fewer than two bounds it is 0.
+pub fn recipe_count(bounds: &[u16]) -> usize
+    ensures { result ≡ length bounds.now - 1 }
+{
+    bounds.len().saturating_sub(1)
+}
+
+// Recipe j's own part of the pins, or an empty part; the bounds may be let go before it.
+pub fn view<'a, 'b>(bounds: &'b [u16], pins: &'a [u16], j: usize) -> &'a [u16]
+    ensures { result.now ≡ view_of bounds.now pins.now j }
+{
+    let none = &pins[..0];
+    if recipe_count(bounds) <= j {
+        return none;
+    }
+    let a = bounds[j] as usize;
+    let b = bounds[j + 1] as usize;
+    pins.get(a..b).unwrap_or(none)
+}
+
 impl<'a> Recipes<'a> {
-    // N: with fewer than two bounds it is 0.
+    // N.
     pub fn count(self) -> usize
         ensures { result ≡ length self.entry.bounds.now - 1 }
     {
-        self.bounds.len().saturating_sub(1)
+        recipe_count(self.bounds)
     }
 
     // Recipe j's own part of the pins, or an empty part.
     pub fn view(self, j: usize) -> &'a [u16]
         ensures { result.now ≡ view_of self.entry.bounds.now self.entry.pins.now j }
     {
-        if self.count() <= j {
-            return &[];
-        }
-        let a = self.bounds[j] as usize;
-        let b = self.bounds[j + 1] as usize;
-        self.pins.get(a..b).unwrap_or(&[])
+        view(self.bounds, self.pins, j)
     }
 
     // Recipe j has fewer than two pins.

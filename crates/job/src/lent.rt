@@ -1,4 +1,5 @@
 // What a pass or a run is lent besides the job: document 01.
+
 // The four move lists: file, gain when chosen, cut after, scans listed so far.
 #[derive(Drop)]
 pub struct Moves<'a> {
@@ -15,6 +16,7 @@ pub struct Scans<'a> {
     pub kinds: &'a mut [u16],
 }
 
+// The gain list, the move lists, the scan lists and the scratch.
 #[derive(Drop)]
 pub struct Lent<'a> {
     pub gains: &'a mut [i32],

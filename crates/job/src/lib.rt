@@ -18,7 +18,7 @@ ghost use Rattle.rules.specs.Check.{check_job, «measure»};
 ghost use Rattle.job.specs.Given.{the_limits, the_job};
 ghost use Rattle.job.specs.Survey.{survey_of, as_survey};
 
-pub use book::{Book, Files, Recipes};
+pub use book::{Book, Files, Recipes, recipe_count, view};
 pub use figures::{Surveyed, count_on};
 use figures::{cut, holding, totals_of};
 pub use holds::{Held, Vaults, tally};
@@ -78,6 +78,7 @@ pub fn measure(job: Job, book: Book, sides: &[u16]) -> Result<Measured, Refusal>
 }
 
 // 1 to 10, where `lent` says that the lent lists have the right lengths and `balancing` whose 9 it is, and the figures that a pass, a run or the balancing starts from.
+// Both are words that `survey_of` takes too.
 pub fn survey(
     job: Job,
     book: Book,

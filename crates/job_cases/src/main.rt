@@ -17,41 +17,11 @@ const MOST: usize = Job::MOST_PINS + 1;
 // Room for some numbers more than the largest job asks.
 const MOST_SCRATCH: usize = tables::MOST_NUMBERS + 16;
 
-// All other numbers of a refused answer are 0.
-const NOTHING_MEASURED: Measured = Measured {
-    cut: 0,
-    size: 0,
-    unread: 0,
-    holding: 0,
-};
-
-const NOTHING_BALANCED: Balanced = Balanced {
-    moves: 0,
-    cut: 0,
-    size: 0,
-    unread: 0,
-    holding: 0,
-};
-
 // ---- Writing
 
-fn show_list<W: Write>(out: &mut W, list: &[u16]) -> io::Result<()> {
-    write!(out, "{}", list.len())?;
-    for x in list {
-        write!(out, " {x}")?;
-    }
-    out.write_all(b"\n")
-}
-
-// A refusal's number and place; of what is done 0 and 0.
+// A refusal's number and place; of what is done 0 and 0. All other numbers of a refused answer are 0.
 fn show_verdict<W: Write>(out: &mut W, refused: Option<Refusal>) -> io::Result<()> {
-    let v = match refused {
-        Some(refusal) => Verdict::from(refusal),
-        None => Verdict {
-            number: 0,
-            place: 0,
-        },
-    };
+    let v = refused.map(Verdict::from).unwrap_or_default();
     write!(out, "{} {}", v.number, v.place)
 }
 
@@ -66,7 +36,7 @@ fn ask<W: Write>(out: &mut W, job: Job, book: Book, sides: &[u16]) -> io::Result
     out.write_all(b" ")?;
     let measured = job::measure(job, book, sides);
     show_verdict(out, measured.err())?;
-    show_measure(out, measured.unwrap_or(NOTHING_MEASURED))
+    show_measure(out, measured.unwrap_or_default())
 }
 
 fn show_balanced<W: Write>(out: &mut W, b: Balanced) -> io::Result<()> {
@@ -86,9 +56,9 @@ fn balance<W: Write>(
 ) -> io::Result<()> {
     let balanced = split::balance(job, book, sides, scratch);
     show_verdict(out, balanced.err())?;
-    show_balanced(out, balanced.unwrap_or(NOTHING_BALANCED))?;
-    show_list(out, sides)?;
-    show_list(out, scratch)
+    show_balanced(out, balanced.unwrap_or_default())?;
+    frames::show_list(out, sides)?;
+    frames::show_list(out, scratch)
 }
 
 fn take_job<R: Read>(reader: &mut R) -> io::Result<Job> {
@@ -135,7 +105,7 @@ fn show_view<R: Read, W: Write>(reader: &mut R, out: &mut W) -> io::Result<()> {
         bounds: bounds.all(),
         pins: pins.all(),
     };
-    show_list(out, recipes.view(j))
+    frames::show_list(out, recipes.view(j))
 }
 
 fn show_case<R: Read, W: Write>(reader: &mut R, out: &mut W, kind: u8) -> io::Result<()> {

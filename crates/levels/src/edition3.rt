@@ -26,9 +26,6 @@ pub(crate) struct Rival {
     pub(crate) dist: u64,
 }
 
-// The least gain that there can be: while there is no best, no gain is below it.
-const LEAST_GAIN: i32 = i32::MIN;
-
 // Whether a rival goes before the best so far, which is of lower number.
 fn goes_first(rival: Led, led: Led) -> bool
     ensures { result ≡ goes_first rival led }
@@ -53,7 +50,7 @@ fn least_of(led: Option<Led>) -> i32
 {
     match led {
         Some(led) => led.vector[0],
-        None => LEAST_GAIN,
+        None => i32::MIN,
     }
 }
 

@@ -23,19 +23,6 @@ const MOST_SCANS: usize = tables::MOST_SCANS + 16;
 
 const MOST_SCRATCH: usize = tables::MOST_NUMBERS + 16;
 
-// All other numbers of a refused answer are 0.
-const NO_PASS: Passed = Passed {
-    before: 0,
-    cut: 0,
-    size: 0,
-    tried: 0,
-    kept: 0,
-    scans: 0,
-    visits: 0,
-    unread: 0,
-    holding: 0,
-};
-
 // What a case asks for.
 #[derive(Clone, Copy, PartialEq, Eq)]
 enum Asked {
@@ -45,23 +32,6 @@ enum Asked {
 }
 
 // ---- Writing
-
-// How many entries, then the entries.
-fn show_list<W: Write>(out: &mut W, list: &[u16]) -> io::Result<()> {
-    write!(out, "{}", list.len())?;
-    for x in list {
-        write!(out, " {x}")?;
-    }
-    out.write_all(b"\n")
-}
-
-fn show_gains<W: Write>(out: &mut W, list: &[i32]) -> io::Result<()> {
-    write!(out, "{}", list.len())?;
-    for x in list {
-        write!(out, " {x}")?;
-    }
-    out.write_all(b"\n")
-}
 
 // How many entries of the list are equal to its first, from there on.
 fn stretch(list: &[u16]) -> usize
@@ -75,6 +45,7 @@ fn stretch(list: &[u16]) -> usize
 fn show_scratch<W: Write>(out: &mut W, list: &[u16]) -> io::Result<()> {
     write!(out, "{}", list.len())?;
     let mut rest = list;
+    // No walk by an index: a stretch is as long as it is.
     while !rest.is_empty() {
         let n = stretch(rest);
         write!(out, " {} {}", n, rest[0])?;
@@ -83,15 +54,9 @@ fn show_scratch<W: Write>(out: &mut W, list: &[u16]) -> io::Result<()> {
     out.write_all(b"\n")
 }
 
-// A refusal's number and place; of what is done 0 and 0.
+// A refusal's number and place; of what is done 0 and 0. All other numbers of a refused answer are 0.
 fn show_verdict<W: Write>(out: &mut W, refused: Option<Refusal>) -> io::Result<()> {
-    let v = match refused {
-        Some(refusal) => Verdict::from(refusal),
-        None => Verdict {
-            number: 0,
-            place: 0,
-        },
-    };
+    let v = refused.map(Verdict::from).unwrap_or_default();
     write!(out, "{} {}", v.number, v.place)
 }
 
@@ -103,46 +68,27 @@ fn show_figures<W: Write>(out: &mut W, f: Passed) -> io::Result<()> {
 
 fn show_passed<W: Write>(out: &mut W, answer: Result<Passed, Refusal>) -> io::Result<()> {
     show_verdict(out, answer.err())?;
-    show_figures(out, answer.unwrap_or(NO_PASS))?;
+    show_figures(out, answer.unwrap_or_default())?;
     out.write_all(b"\n")
 }
 
 fn show_ran<W: Write>(out: &mut W, answer: Result<Ran, Refusal>) -> io::Result<()> {
     show_verdict(out, answer.err())?;
-    let ran = answer.unwrap_or(Ran {
-        figures: NO_PASS,
-        passes: 0,
-        settled: false,
-    });
+    let ran = answer.unwrap_or_default();
     show_figures(out, ran.figures)?;
     writeln!(out, " {} {}", ran.passes, ran.settled as u64)
 }
 
 fn show_rest<W: Write>(out: &mut W, lent: &Lent) -> io::Result<()> {
-    show_gains(out, lent.moves.gained)?;
-    show_list(out, lent.moves.cuts)?;
-    show_list(out, lent.moves.ends)?;
-    show_list(out, lent.scans.recipes)?;
-    show_list(out, lent.scans.kinds)?;
+    frames::show_list(out, lent.moves.gained)?;
+    frames::show_list(out, lent.moves.cuts)?;
+    frames::show_list(out, lent.moves.ends)?;
+    frames::show_list(out, lent.scans.recipes)?;
+    frames::show_list(out, lent.scans.kinds)?;
     show_scratch(out, lent.scratch)
 }
 
 // ---- Asking
-
-fn ask<W: Write>(
-    out: &mut W,
-    asked: Asked,
-    edition: u16,
-    job: Job,
-    book: Book,
-    sides: &mut [u16],
-    lent: &mut Lent,
-) -> io::Result<()> {
-    if asked == Asked::Pass {
-        return show_passed(out, split::pass_once(edition, job, book, sides, lent));
-    }
-    show_ran(out, runs::run(edition, job, book, sides, lent))
-}
 
 fn call<W: Write>(
     out: &mut W,
@@ -153,10 +99,13 @@ fn call<W: Write>(
     sides: &mut [u16],
     lent: &mut Lent,
 ) -> io::Result<()> {
-    ask(out, asked, edition, job, book, sides, lent)?;
-    show_list(out, sides)?;
-    show_gains(out, lent.gains)?;
-    show_list(out, lent.moves.tried)?;
+    match asked {
+        Asked::Pass => show_passed(out, split::pass_once(edition, job, book, sides, lent))?,
+        _ => show_ran(out, runs::run(edition, job, book, sides, lent))?,
+    }
+    frames::show_list(out, sides)?;
+    frames::show_list(out, lent.gains)?;
+    frames::show_list(out, lent.moves.tried)?;
     if asked == Asked::RunInShort {
         return Ok(());
     }

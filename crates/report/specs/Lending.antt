@@ -3,13 +3,9 @@ use Rattle.std.specs.Prelude.{◌≡◌, ℕ, ◌+◌, ◌≤◌, List, length, 
 use Rattle.rules.specs.declared.refusal.Refusal.{Refusal}
 use Rattle.rules.specs.declared.Verdict.{Verdict}
 
--- lent n bytes or more, an answer is never refused for want of room
-abbrev pub Answered : ℕ → Verdict → List ℕ → Type 0
-Answered n v room = n ≤ length room → v.number ≡ 0
-
--- the same of what a call of src/ answers
-abbrev pub Told : {A : Type 0} → ℕ → Result A Refusal → List ℕ → Type 0
-Told n result room = n ≤ length room → IsOk result
+-- lent n bytes or more, a call is never refused
+abbrev pub Answered : {A : Type 0} → ℕ → Result A Refusal → List ℕ → Type 0
+Answered n result room = n ≤ length room → IsOk result
 
 -- n counts bytes at the start of the room, so that a program can lend just these on
 abbrev pub Lendable : ℕ → List ℕ → Type 0

@@ -46,7 +46,7 @@ pub struct Listing<'a> {
     pub kinds: &'a [u16],
 }
 
-// A refusal in a comparison, and the job that it is of.
+// A refusal in a comparison, and the job that it is of; by number and place, since any are told.
 #[derive(Clone, Copy)]
 pub struct RefusedJob {
     pub job: usize,

@@ -7,14 +7,14 @@ mod refusal;
 pub use refusal::{Refusal, numbered};
 
 // A number for no and its place; 0 and 0 is done.
-#[derive(Clone, Copy)]
+#[derive(Clone, Copy, Default)]
 pub struct Verdict {
     pub number: usize,
     pub place: usize,
 }
 
 // The measure: the cut and |A| of a job as it stands, and the numbers of unread files and of recipes that hold one.
-#[derive(Clone, Copy)]
+#[derive(Clone, Copy, Default)]
 pub struct Measured {
     pub cut: usize,
     pub size: u64,
@@ -23,7 +23,7 @@ pub struct Measured {
 }
 
 // What a pass answers: the cut before; the cut and |A| after; moves tried and kept, scans, visits; unread files and recipes that hold one.
-#[derive(Clone, Copy)]
+#[derive(Clone, Copy, Default)]
 pub struct Passed {
     pub before: usize,
     pub cut: usize,
@@ -37,7 +37,7 @@ pub struct Passed {
 }
 
 // What a run answers: its counts are sums over the passes; with the number of passes and settled besides.
-#[derive(Clone, Copy)]
+#[derive(Clone, Copy, Default)]
 pub struct Ran {
     pub figures: Passed,
     pub passes: u64,
@@ -64,7 +64,7 @@ pub struct HandedOut {
 }
 
 // What balancing answers: the moves made, and the cut and |A| after them; unread files and recipes that hold one.
-#[derive(Clone, Copy)]
+#[derive(Clone, Copy, Default)]
 pub struct Balanced {
     pub moves: usize,
     pub cut: usize,
@@ -74,7 +74,7 @@ pub struct Balanced {
 }
 
 // A difference of two jobs: what differs, its number, and the old and the new figure.
-#[derive(Clone, Copy)]
+#[derive(Clone, Copy, PartialEq, Eq)]
 pub struct Difference {
     pub what: u16,
     pub number: u16,

@@ -55,6 +55,7 @@ fn balance_with(
     let s = lay_out(1, job, book, sides, gains, scratch, lists, true)?;
     let window = window_of(job, s.weight, s.tolerance);
     let mut p = Progress::new(s.size, s.cut);
+    // No walk: it ends where no file is to move.
     while let Some(f) = heavy_file(window, p.size as u32, sides, scratch, gains) {
         p = treat_move(book, sides, gains, scans, scratch, f, p).counted();
     }

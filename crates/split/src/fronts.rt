@@ -38,7 +38,7 @@ fn shape_of(extent: Extent) -> Shape
     }
 }
 
-// A function of its own, as `choose_front` and `follow` are: what a struct leaves of a list is known of a list handed over, not of a part taken here.
+// A function of its own, as `choose_front` and `follow` are: a proof knows what a struct leaves of a list that was handed over, and not of a part that is taken here.
 fn enter(links: &mut [u16], shape: Shape, marks: &[u16], standing: Standing)
     ensures { links.new ≡ entered_all shape marks.now standing.entry.sides.now standing.entry.gains.now links.old }
 {

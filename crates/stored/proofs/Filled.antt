@@ -58,15 +58,6 @@ taken-all {g} {n} {old} {new} t h =
 
 -- ---- the blocks past the header, kind after kind
 
-pub none-taken : (bytes : List ℕ) (h : Header) (room : Room) → TakenTo bytes h 1 room room
-none-taken bytes h room = record {
-  sizes = taken_none _ _ _ (omega arith);
-  sides = taken_none _ _ _ (omega arith);
-  marks = taken_none _ _ _ (omega arith);
-  bounds = taken_none _ _ _ (omega arith);
-  pins = taken_none _ _ _ (omega arith);
-}
-
 -- where a block of each kind lies, and how many things it has
 files-block : (h : Header) (b : ℕ) → kind_of h b ≡ 2 → (0 < b) × (b < bounds_at h) × (values_in h b ≡ 2 * held_in 126 h.files (b - 1))
 files-block h b e = (grind (arith, nat_tests), grind (arith, nat_tests), grind (arith, nat_tests))

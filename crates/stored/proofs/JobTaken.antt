@@ -31,14 +31,6 @@ use Rattle.stored.proofs.Readings.{first-written}
 
 -- ---- the job in the first entries of the lists
 
--- the figures of the header are those of the job
-pub first-whole : (h : Header) (lists : Room) (figures : Figures) → figures ≡ figures_in h
-    → whole_job figures (take h.files lists.sizes) (take h.files lists.sides) (take h.files lists.marks) (take (h.recipes + 1) lists.bounds) (take h.pins lists.pins)
-    ≡ first_of h lists
-first-whole h lists figures e =
-    ap
-    (λ (g : Figures). whole_job g (take h.files lists.sizes) (take h.files lists.sides) (take h.files lists.marks) (take (h.recipes + 1) lists.bounds) (take h.pins lists.pins)) e
-
 -- lists of a program's own, the gain list cut to the files
 pub own-lent : (most : Limits) (sizes : List ℕ) (n : ℕ) → length sizes ≡ n → n ≤ most.files
     → own_lent most (take n (replicate most.files (pos 0))) ≡ own_lent most (replicate (length sizes) (pos 0))

@@ -26,7 +26,7 @@ use start::prepare;
 pub use zones::{Extent, MOST_NUMBERS, MOST_SCANS, Zones};
 
 // The check of a pass by an edition or of the balancing, with the lengths of the lent lists under 3; where it lets through, cells, locks and counts are laid out in the
-// scratch, and the gains are the starting ones. Of the move lists and scan lists only their lengths are told.
+// scratch, and the gains are the starting ones. Of the move lists and scan lists only their lengths are told. `balancing` is the word that `LaysOut` takes.
 pub fn lay_out(
     edition: u16,
     job: Job,

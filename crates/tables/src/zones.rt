@@ -52,6 +52,7 @@ impl Extent {
     {
         let counts = self.scans();
         let numbers = self.pins as usize + 4 * self.files as usize + counts + 16;
+        // Of any number that is handed in, as the definition has it.
         if edition == 2 {
             return numbers + counts;
         }

@@ -10,7 +10,7 @@ ghost use Rattle.rules.specs.Check.{check_edition};
 ghost use Rattle.rules.specs.Report.{refusal, «printed», into_room, prints};
 ghost use Rattle.rules.specs.Trace.{traces};
 ghost use Rattle.job.specs.Given.{the_limits};
-ghost use Rattle.report.specs.Lending.{Told, Lendable};
+ghost use Rattle.report.specs.Lending.{Answered, Lendable};
 
 pub use arguments::edition_named;
 use job::Job;
@@ -39,7 +39,7 @@ pub const TRACE_BYTES: usize = TRACE_FIGURES_BYTES
 // The line of an argument that names no edition there is.
 pub fn refuse_edition(out: &mut [u8]) -> Result<usize, Refusal>
     ensures out_after { «printed» (as_printed result) out.new ≡ into_room (refusal (check_edition 0)) out.old }
-    ensures answered { Told TEXT_BYTES result out.old × IfOk result (λ n. Lendable n out.new) }
+    ensures answered { Answered TEXT_BYTES result out.old × IfOk result (λ n. Lendable n out.new) }
 {
     print_refusal(Refusal::NoEdition, out)
 }
@@ -47,7 +47,7 @@ pub fn refuse_edition(out: &mut [u8]) -> Result<usize, Refusal>
 // The night's report of a stored job by an edition: what the program `edition` prints where its argument names that edition, and `night` by edition 1, for every input.
 pub fn night(edition: u16, input: &[u8], out: &mut [u8]) -> Result<usize, Refusal>
     ensures out_after { «printed» (as_printed result) out.new ≡ into_room (prints edition the_limits input.now) out.old }
-    ensures answered { Told TEXT_BYTES result out.old × IfOk result (λ n. Lendable n out.new) }
+    ensures answered { Answered TEXT_BYTES result out.old × IfOk result (λ n. Lendable n out.new) }
 {
     tell::<Report>(edition, input, out)
 }
@@ -55,7 +55,7 @@ pub fn night(edition: u16, input: &[u8], out: &mut [u8]) -> Result<usize, Refusa
 // The trace of one pass by an edition over a stored job: what the program `trace` prints, for every input.
 pub fn trace(edition: u16, input: &[u8], out: &mut [u8]) -> Result<usize, Refusal>
     ensures out_after { «printed» (as_printed result) out.new ≡ into_room (traces edition the_limits input.now) out.old }
-    ensures answered { Told TRACE_BYTES result out.old × IfOk result (λ n. Lendable n out.new) }
+    ensures answered { Answered TRACE_BYTES result out.old × IfOk result (λ n. Lendable n out.new) }
 {
     tell::<Trace>(edition, input, out)
 }

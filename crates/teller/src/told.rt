@@ -8,7 +8,7 @@ ghost use Rattle.rules.specs.Report.{refusal, «printed», into_room, all_lent};
 ghost use Rattle.job.specs.Given.{the_limits, the_job, contents};
 ghost use Rattle.rules.specs.Trace.{listing};
 ghost use Rattle.report.specs.Cases.{listed};
-ghost use Rattle.report.specs.Lending.{Told, Lendable};
+ghost use Rattle.report.specs.Lending.{Answered, Lendable};
 ghost use Rattle.stored.specs.Steps.{job_taken};
 ghost use Rattle.teller.specs.Telling.{run_report, pass_trace, told_of};
 
@@ -21,7 +21,7 @@ use stored::TakenUp;
 // What is refused is told in a line.
 pub(crate) fn print_refusal(refused: Refusal, out: &mut [u8]) -> Result<usize, Refusal>
     ensures out_after { «printed» (as_printed result) out.new ≡ into_room (refusal (verdict_of refused)) out.old }
-    ensures answered { Told TEXT_BYTES result out.old × IfOk result (λ n. Lendable n out.new) }
+    ensures answered { Answered TEXT_BYTES result out.old × IfOk result (λ n. Lendable n out.new) }
 {
     let none = job::Files {
         sizes: &[],
@@ -50,7 +50,7 @@ pub(crate) trait Telling {
         requires each_file { (length sides.old ≡ length book.files.sizes.now) × (length book.files.marks.now ≡ length book.files.sizes.now) }
         requires zeros_lent { contents lent.old ≡ all_lent the_limits (the_job job book sides.old) }
         ensures out_after { «printed» (as_printed result) out.new ≡ into_room (text edition (the_job job book.entry sides.old)) out.old }
-        ensures answered { Told room result out.old };
+        ensures answered { Answered room result out.old };
 
     // It is enough for a refusal's line too.
     ghost roomy: { TEXT_BYTES ≤ room };
@@ -125,7 +125,7 @@ impl Telling for Trace {
 // Of a job that was taken up, with lists of the teller's own.
 fn tell_taken<T: Telling>(edition: u16, taken: &TakenUp, out: &mut [u8]) -> Result<usize, Refusal>
     ensures out_after { «printed» (as_printed result) out.new ≡ into_room (T.text edition (job_taken taken.now)) out.old }
-    ensures answered { Told T.room result out.old }
+    ensures answered { Answered T.room result out.old }
 {
     let c = taken.header.files as usize;
     let mut sides = taken.sides;
@@ -165,7 +165,7 @@ fn tell_taken<T: Telling>(edition: u16, taken: &TakenUp, out: &mut [u8]) -> Resu
 // Of a stored job: what reading refuses is told in a line.
 pub(crate) fn tell<T: Telling>(edition: u16, input: &[u8], out: &mut [u8]) -> Result<usize, Refusal>
     ensures out_after { «printed» (as_printed result) out.new ≡ into_room (told_of (T.text edition) the_limits input.now) out.old }
-    ensures answered { Told T.room result out.old × IfOk result (λ n. Lendable n out.new) }
+    ensures answered { Answered T.room result out.old × IfOk result (λ n. Lendable n out.new) }
 {
     match stored::take_up(input) {
         Ok(taken) => tell_taken::<T>(edition, &taken, out),

@@ -11,7 +11,7 @@ use Rattle.std.specs.Slice.{IsGetRangeResult}
 use Rattle.std.proofs.Common.{inl, inr}
 use Rattle.rules.specs.Job.{view_of}
 use Rattle.rules.proofs.Views.{none-past, none-order, none-beyond, is-part}
-use Rattle.job.proofs.book.Recipes.view.Goals as goal
+use Rattle.job.proofs.book.view.Goals as goal
 
 -- a part of the pins, or none where its bounds are out of order or beyond them
 part-or : (bs ps : List ℕ) (j a b : ℕ) (r : Option (Bor (List ℕ))) (d : Bor (List ℕ)) → d.now ≡ [] → j < length bs - 1 → a ≡ get_or bs j 0 → b ≡ get_or bs (j + 1) 0
@@ -23,8 +23,8 @@ part-or bs ps j a b None d z h p q r =
       | no l ↦ none-beyond bs ps j a b h p q (omega arith) (elim r.0 [ inl k ↦ absurd (omega arith) | inr k ↦ k ])
     ]
 
-pub returns-then-count-j : goal.returns-then-count-j
-returns-then-count-j c = none-past _ _ _ (omega arith)
+pub returns-then-recipe_count-j : goal.returns-then-recipe_count-j
+returns-then-recipe_count-j c = none-past _ _ _ (omega arith)
 
 pub returns : goal.returns
 returns c = rw c.unwrap_or.ensures (part-or _ _ _ _ _ _ _ refl (omega arith) refl refl c.get.ensures.lookup)
