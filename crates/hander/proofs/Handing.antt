@@ -14,12 +14,11 @@ use Rattle.rules.specs.declared.Verdict.{Verdict}
 use Rattle.rules.specs.Numbers.{BalanceFigures}
 use Rattle.rules.specs.Numbers.{Printed}
 use Rattle.rules.specs.Numbers.{Handed}
-use Rattle.std.specs.Prelude.{IfOk, IsOk, Result, Ok, Err}
+use Rattle.std.specs.Prelude.{IfOk, Result, Ok, Err}
 use Rattle.rules.specs.declared.refusal.Refusal.{Refusal}
 use Rattle.rules.specs.declared.HandedOut.{HandedOut as Answer}
 use Rattle.rules.specs.Cases.{as_handed}
 use Rattle.rules.proofs.CasesOne.{as_handed-one}
-use Rattle.rules.proofs.Exits.{not-done}
 use Rattle.rules.specs.Lists.{onto}
 use Rattle.rules.specs.Job.{Job, Limits}
 use Rattle.rules.specs.Check.{done, refuse_if}

@@ -1,7 +1,6 @@
 -- Room that is always enough for what is told, and what of it a program can lend on. Assumes nothing.
 use Rattle.std.specs.Prelude.{◌≡◌, ℕ, ◌+◌, ◌≤◌, List, length, take, Result, IsOk}
 use Rattle.rules.specs.declared.refusal.Refusal.{Refusal}
-use Rattle.rules.specs.declared.Verdict.{Verdict}
 
 -- lent n bytes or more, a call is never refused
 abbrev pub Answered : {A : Type 0} → ℕ → Result A Refusal → List ℕ → Type 0

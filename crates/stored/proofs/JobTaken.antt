@@ -1,6 +1,6 @@
 -- What a stored job that was taken up has: its verdict, and the job in the first entries of the lists. Assumes nothing.
 use mathlib.Core.Path.{◌≡◌, sym, ap, ap₂, ◌∙◌}
-use Prim.Native.Nat.{ℕ, ◌+◌, ◌*◌, ◌≤◌, ◌<◌}
+use Prim.Native.Nat.{ℕ, ◌*◌, ◌≤◌, ◌<◌}
 use mathlib.Core.List.{List}
 use native.Mathlib.Decide.{dec_lt}
 use native.Mathlib.Omega.{arith}
@@ -9,8 +9,6 @@ use lib.IntN.{pos}
 use Rattle.rules.specs.declared.Verdict.{Verdict}
 use Rattle.rules.specs.Numbers.{ReadFigures}
 use Rattle.rules.specs.declared.Header.{Header}
-use Rattle.job.specs.declared.Job.{Job as Figures}
-use Rattle.job.specs.Parts.{whole_job}
 use Rattle.rules.specs.Job.{Job, Limits}
 use Rattle.rules.specs.Stored.{Room, header_of, block_count, job_of, Reading, written, reading, read_verdict}
 use Rattle.rules.specs.Report.{all_room, own_lent}
@@ -26,7 +24,7 @@ use Rattle.rules.specs.declared.refusal.Refusal.{Refusal}
 use Rattle.rules.specs.Numbers.{verdict_of}
 use Rattle.rules.specs.Check.{done}
 use Rattle.stored.specs.Room.{lists_of, as_taken}
-use Rattle.stored.specs.Steps.{figures_in, first_of, job_taken, Held}
+use Rattle.stored.specs.Steps.{first_of, job_taken, Held}
 use Rattle.stored.proofs.Readings.{first-written}
 
 -- ---- the job in the first entries of the lists

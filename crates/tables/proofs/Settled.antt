@@ -1,5 +1,5 @@
 -- What is prepared is settled: two scratches prepared from one are the same, entry by entry. Assumes nothing.
-use mathlib.Core.Path.{◌≡◌, refl, sym, ap, ap₂, ◌∙◌}
+use mathlib.Core.Path.{◌≡◌, sym, ap, ap₂, ◌∙◌}
 use Prim.Native.Nat.{ℕ, ◌+◌, ◌-◌, ◌*◌, ◌≤◌, ◌<◌}
 use mathlib.Core.Bool.{Bool}
 use mathlib.Core.List.{List}
@@ -11,11 +11,11 @@ use lib.Seq.{get_or-drop, ext_get_or}
 use lib.IntN.{ℤ}
 use Rattle.rules.specs.Job.{Job, Limits}
 use Rattle.rules.specs.Split.{recipes_of}
-use Rattle.std.specs.Prelude.{Result, Ok, Err}
+use Rattle.std.specs.Prelude.{Result}
 use Rattle.rules.specs.declared.refusal.Refusal.{Refusal}
-use Rattle.rules.proofs.CasesOne.{undone, case_of, case-refused}
 use Rattle.job.specs.declared.figures.Surveyed.{Surveyed}
 use Rattle.job.specs.Survey.{Survey, as_survey}
+use Rattle.job.proofs.Unique.{as_survey-one}
 use Rattle.tables.specs.Zones.{cells_at, starts_at, counts_at, side_at, part, start_in, end_in}
 use Rattle.tables.specs.Building.{read_of}
 use Rattle.tables.specs.Filling.{start_of}
@@ -113,17 +113,6 @@ module _ {bounds pins sides marks z₀ z z' : List ℕ} {g g' : List ℤ} {n : �
   prepared-once = ext_get_or 0 z z' (d.long ∙ sym d'.long) (further Same (at + 4 * n) (length z) (length z) (omega arith) same-counts (λ j h. same-beyond j))
 
 -- ---- the answer, the gains and the scratch
-
--- the numbers of a survey tell its whole answer
-abbrev survey_case : Survey → Result Surveyed Refusal
-survey_case n = case_of n.verdict (record { weight = n.weight; tolerance = n.tolerance; size = n.size; cut = n.cut; unread = n.unread; holding = n.holding })
-
-survey-back : (r : Result Surveyed Refusal) → survey_case (as_survey r) ≡ r
-survey-back (Ok x) = refl
-survey-back (Err r) = case-refused r _
-
-pub as_survey-one : (r s : Result Surveyed Refusal) → as_survey r ≡ as_survey s → r ≡ s
-as_survey-one = undone as_survey survey_case survey-back
 
 module _ {balancing : Bool} {most : Limits} {job : Job} {word : Bool} {gains₀ : List ℤ} {z₀ : List ℕ} where
   numbers-once : {g g' : List ℤ} {z z' : List ℕ} {s s' : Survey} → LaysOut balancing most job word gains₀ z₀ g z s → LaysOut balancing most job word gains₀ z₀ g' z' s'
