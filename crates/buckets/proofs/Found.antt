@@ -44,6 +44,11 @@ module _ (nil from : ℕ) (z : List ℕ) where
   pub goes_on : (k : ℕ) → 0 < k → get_or z (from + (k - 1)) 0 ≡ nil → highest_in nil from z k ≡ highest_in nil from z (k - 1)
   goes_on k h e = rw (eq-eqb (get_or z (from + (k - 1)) 0) nil e) at (step k h)
 
+  -- the file that the head just below k names
+  pub front-is : (k : ℕ) → k ≢ 0 → get_or z (from + (k - 1)) 0 ≡ front_at nil from z k
+  front-is zero n = absurd (n refl)
+  front-is (suc k) n = let e : suc k - 1 ≡ k = omega arith in rw e refl
+
   -- the file that the head just below the top names, where the top stands above that bucket
   pub front-file : (bucket : Option' Bucket) (front r : Option' ℕ) → IfSome bucket (λ b. b.front ≡ get_or z (from + b.level) 0)
       → MatchOption bucket (front ≡ None) (λ b. front ≡ Some b.front) → MatchOption front (r ≡ None) (λ f. r ≡ if_file nil f) → r ≡ if_file nil (front_at nil from z (as_top bucket))

@@ -1,5 +1,5 @@
 -- A gain and its level; a vault's slots among all. Assumes nothing.
-use mathlib.Core.Path.{◌≡◌, refl, sym, ap₂, ◌∙◌}
+use mathlib.Core.Path.{◌≡◌, refl, sym, ap, ap₂, ◌∙◌}
 use Prim.Native.Nat.{ℕ, suc, ◌+◌, ◌*◌, ◌≤◌, ◌<◌}
 use mathlib.Core.Bool.{Bool, true, false, not, cond, ◌&&◌}
 use native.Mathlib.Decide.{dec_lt}
@@ -7,7 +7,7 @@ use native.Mathlib.Omega.{arith}
 use lib.Dec.{eqb, ltb}
 use lib.IntN.{ℤ, pos, negsuc, ◌+ℤ◌}
 use lib.Signed.{lt_z}
-use borrow.Author.Tests.{eqb-true, eqb-false, eq-eqb, ne_eqb, lt-ltb, le-ltb}
+use borrow.Author.Tests.{eqb-true, eqb-false, ltb-true, ltb-false, eq-eqb, ne_eqb, lt-ltb, le-ltb}
 use Rattle.rules.specs.Lists.{diff}
 use Rattle.rules.specs.Fronts.{equal}
 use Rattle.rules.proofs.Signed.{up, down, abs, ltb-same, lt_z-key, diff-key}
@@ -16,6 +16,18 @@ use Rattle.buckets.specs.Slots.{levels, slots, cut_off, level_of, vault_at, slot
 -- ---- the level
 
 module _ (top : ℕ) where
+  pub too-low : (s : ℤ) → lt_z s (pos 0) ≡ true → 0 ≡ cut_off top s
+  too-low (pos n) e = absurd (omega (arith, ltb-true n 0 e))
+  too-low (negsuc n) e = refl
+
+  pub too-high : (s : ℤ) → lt_z (pos top) s ≡ true → top ≡ cut_off top s
+  too-high (pos n) e = omega (arith, ltb-true top n e)
+  too-high (negsuc n) e = cc
+
+  pub within : (s : ℤ) → lt_z s (pos 0) ≡ false → lt_z (pos top) s ≡ false → s ≡ pos (cut_off top s)
+  within (pos n) e f = let q : n ≡ cut_off top (pos n) = omega (arith, ltb-false top n f) in ap pos q
+  within (negsuc n) e f = cc
+
   cut_most : (s : ℤ) → cut_off top s ≤ top
   cut_most (pos n) = omega arith
   cut_most (negsuc n) = omega arith

@@ -1,6 +1,6 @@
 -- The walk of the balancing's choice over the files: the leader is the greatest of the files passed. Assumes nothing.
 use mathlib.Core.Path.{◌≡◌, refl, sym, ap, ◌∙◌}
-use Prim.Native.Nat.{ℕ, ◌+◌, ◌≤◌, ◌<◌}
+use Prim.Native.Nat.{ℕ, ◌+◌, ◌*◌, ◌≤◌, ◌<◌}
 use native.Mathlib.Numerals.{add-one}
 use native.Mathlib.Omega.{arith}
 use mathlib.Core.Bool.{Bool, true, false, cond, ◌&&◌, ◌||◌}
@@ -9,15 +9,28 @@ use mathlib.Core.Option.{Option, none, some}
 use lib.Dec.{eqb}
 use lib.IntN.{ℤ}
 use lib.ListN.{length, take}
-use borrow.Author.Tests.{eq-eqb, ne_eqb}
+use borrow.Author.Tests.{le-leb, lt-leb, lt-ltb, le-ltb, eq-eqb, ne_eqb}
 use Rattle.std.specs.Prelude.{Option as Option', Some, None, IfSome, IsSomeAnd}
-use Rattle.rules.specs.Move.{greater, challenge, first_below}
+use Rattle.rules.specs.Move.{distance, greater, challenge, first_below}
 use Rattle.rules.proofs.Tests.{and-false}
 use Rattle.rules.proofs.First.{first-ok}
+use Rattle.choice.specs.declared.window.Window.{Window}
 use Rattle.choice.specs.Choosing.{fit_files, file_or}
-use Rattle.choice.specs.Heavy.{free_in, gain_in, leader_in, greatest_in, greatest_file}
+use Rattle.choice.specs.Heavy.{heavy_in, free_in, gain_in, leader_in, greatest_in, greatest_file}
 use Rattle.choice.specs.Cases.{as_file}
 use Rattle.choice.proofs.Fitting.{lengths-fit}
+
+-- ---- the side to move from; d is the distance from the aim
+
+module _ (w : Window) (size d : ℕ) (e : d ≡ distance (w.den * size) w.aim) where
+  pub heavy-none : d ≤ w.span → 2 ≡ heavy_in w size
+  heavy-none h = rw (← e, le-leb d w.span h) refl
+
+  pub heavy-from-A : w.span < d → w.aim < w.den * size → 0 ≡ heavy_in w size
+  heavy-from-A h l = rw (← e, lt-leb d w.span h, lt-ltb w.aim (w.den * size) l) refl
+
+  pub heavy-from-B : w.span < d → w.den * size ≤ w.aim → 1 ≡ heavy_in w size
+  heavy-from-B h l = rw (← e, lt-leb d w.span h, le-ltb w.aim (w.den * size) l) refl
 
 -- ---- one file against the leader so far, one of n files or none
 
@@ -60,6 +73,10 @@ lead-on ok goes n (some g) f h = rw (ne_eqb g n (λ e. absurd (omega (arith, h g
     go true = refl
     go false = refl
 
+or-few : (n : ℕ) (o : Option ℕ) → ((g : ℕ) → o ≡ some g → g < n) → file_or n o ≤ n
+or-few n none h = omega arith
+or-few n (some g) h = omega (arith, h g refl)
+
 -- the files below f are passed, and best leads them
 pub record Led (u : ℕ) (sides locks : List ℕ) (gains : List ℤ) (n f best : ℕ) : Type 0 where
   pub few : f ≤ n
@@ -76,6 +93,9 @@ module _ {u : ℕ} {sides locks : List ℕ} {gains : List ℤ} {n : ℕ} where
   led-none = record { few = omega arith; leads = refl }
 
   module _ {f best : ℕ} (l : Led u sides locks gains n f best) where
+    pub led-few : best ≤ n
+    led-few = rw l.leads (or-few n (greatest_in u sides locks gains f) (λ g e. omega (arith, greatest-below u sides locks gains f g e, l.few)))
+
     pub led-more : {best' : ℕ} → f < n → best' ≡ leader_in u sides locks gains n best f → Led u sides locks gains n (f + 1) best'
     unfolding leader_in greatest_in first_below
     led-more h e = record {

@@ -32,12 +32,17 @@ fn text_room() -> [u8; TEXT_BYTES]
     [0; TEXT_BYTES]
 }
 
+// The lines, on standard output. A function, so that the room is made once.
+fn show(rt: &HostRuntime, old: &[u8], new: &[u8]) -> io::Result<()> {
+    let mut text = text_room();
+    let bytes = comparer::tell(old, new, &mut text).unwrap();
+    rt.write_all(&text[..bytes])
+}
+
 fn main(rt: HostRuntime) -> io::Result<()> {
     let mut old = [0u8; layout::INPUT_BYTES];
     let came = take_file(&rt, 1, &mut old)?;
     let mut new = [0u8; layout::INPUT_BYTES];
     let got = take_file(&rt, 2, &mut new)?;
-    let mut text = text_room();
-    let bytes = comparer::tell(&old[..came], &new[..got], &mut text).unwrap();
-    rt.write_all(&text[..bytes])
+    show(&rt, &old[..came], &new[..got])
 }

@@ -33,7 +33,7 @@ if-few true xs n h = h
 if-few false xs n h = omega arith
 
 -- a part of the pins
-view-part : (bounds pins : List ℕ) (j : ℕ) → length (view_of bounds pins j) ≤ length pins
+pub view-part : (bounds pins : List ℕ) (j : ℕ) → length (view_of bounds pins j) ≤ length pins
 unfolding view_of
 view-part bounds pins j =
     let a = get_or bounds j 0 in

@@ -1,4 +1,4 @@
--- What is noted behind the records that are there: nothing, one, one step after another, a loop's turn. Assumes nothing.
+-- What is noted behind the records that are there: nothing, one, one step after another, a loop's turn; and how many are then there. Assumes nothing.
 use Rattle.std.proofs.Common.{◌≡◌, refl, sym, ap, ◌∙◌, ℕ, ◌+◌, ◌*◌, ◌≤◌, List, [], ◌∷◌, ◌++◌, length, append-nil, append_assoc, length-append, arith}
 use borrow.Rule.Slice.PartMut.{put_mid}
 use Rattle.rules.specs.declared.Difference.{Difference}
@@ -9,12 +9,42 @@ use Rattle.comparer.specs.declared.notes.Notes.{Notes}
 use Rattle.comparer.specs.Finding.{Noted, Adds}
 use Rattle.comparer.proofs.Records.{records-more, record-stay, record-made}
 
+-- ---- in a list of numbers
+
+pub nothing-noted : (n : ℕ) (numbers : List ℕ) → Noted n numbers [] n numbers
+nothing-noted n numbers = record { many = omega arith; noted = sym (append-nil (records_in n numbers)) }
+
+-- the same records by another name
+pub noted-as : {n m : ℕ} {before after : List ℕ} {ds es : List Difference} → ds ≡ es → Noted n before ds m after → Noted n before es m after
+noted-as e a = rw e at a
+
+-- one step, and then another
+pub noted-then : {n m k : ℕ} {x y z : List ℕ} {ds es : List Difference} → Noted n x ds m y → Noted m y es k z → Noted n x (ds ++ es) k z
+noted-then {n} {m} {k} {x} {y} {z} {ds} {es} a b = record {
+  many = omega (arith, length-append ds es, a.many, b.many);
+  noted = b.noted ∙ ap (λ (rs : List Difference). rs ++ es) a.noted ∙ append_assoc (records_in n x) ds es;
+}
+
+-- no turn of a loop yet, and one turn more
+pub noted-no-turn : (f : ℕ → List Difference) (n : ℕ) (numbers : List ℕ) → Noted n numbers (in_turn f 0) n numbers
+unfolding in_turn
+noted-no-turn f n numbers = nothing-noted n numbers
+
+pub noted-turn : {n m k : ℕ} {x y z : List ℕ} (f : ℕ → List Difference) (i : ℕ) → Noted n x (in_turn f i) m y → Noted m y (f i) k z → Noted n x (in_turn f (i + 1)) k z
+noted-turn f i a b = noted-as (sym (turn_more f i)) (noted-then a b)
+
+-- how many records there are then, at most
+pub noted-few : {n m : ℕ} {before after : List ℕ} {ds : List Difference} (k : ℕ) → Noted n before ds m after → length ds ≤ k → m ≤ n + k
+noted-few k a few = omega (arith, a.many)
+
+-- ---- in notes
+
 pub adds-none : (k : ℕ) (notes : Notes) → Adds k notes [] notes
 adds-none k notes = record {
   same = refl;
   long = refl;
   few = omega arith;
-  noted = record { many = omega arith; noted = sym (append-nil (records_in notes.count notes.numbers.now)) };
+  noted = nothing-noted notes.count notes.numbers.now;
 }
 
 -- one record, put at its place
@@ -31,14 +61,11 @@ adds-as e w = rw e at w
 
 -- one step, and then another
 pub adds-then : {k l : ℕ} {a b c : Notes} {ds es : List Difference} → Adds k a ds b → Adds l b es c → Adds (k + l) a (ds ++ es) c
-adds-then {k} {l} {a} {b} {c} {ds} {es} p q = record {
+adds-then p q = record {
   same = q.same ∙ p.same;
   long = q.long ∙ p.long;
   few = omega arith;
-  noted = record {
-    many = omega (arith, length-append ds es, p.noted.many, q.noted.many);
-    noted = q.noted.noted ∙ ap (λ (rs : List Difference). rs ++ es) p.noted.noted ∙ append_assoc (records_in a.count a.numbers.now) ds es;
-  };
+  noted = noted-then p.noted q.noted;
 }
 
 -- a loop: no turn yet, and one turn more

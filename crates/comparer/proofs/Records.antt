@@ -4,8 +4,8 @@ use Prim.Native.Nat.{ℕ, zero, suc, ◌+◌, ◌*◌, ◌≤◌, ◌<◌}
 use mathlib.Core.List.{List, [], ◌∷◌, ◌++◌}
 use native.Mathlib.Numerals.{add-one}
 use native.Mathlib.Omega.{arith}
-use lib.ListN.{length, get_or, take, length-append, length-drop, get_or-append}
-use lib.Seq.{length-take-le, get_or-take, get_or-append-add}
+use lib.ListN.{length, get_or, set, take, length-append, length-drop, get_or-append}
+use lib.Seq.{get_or-set_other, length-take-le, get_or-take, get_or-append-add}
 use borrow.Rule.Slice.PartMut.{put_mid}
 use Rattle.rules.specs.declared.Difference.{Difference}
 use Rattle.rules.specs.Lists.{up_to}
@@ -35,6 +35,13 @@ records-same zero before after same = rw (records-none after, records-none befor
 records-same (suc n) before after same =
     rw (records-suc n after, records-suc n before)
     (ap₂ (λ (ds : List Difference) (d : Difference). ds ++ (d ∷ [])) (records-same n before after (λ i h. same i (omega arith))) (same n (omega arith)))
+
+-- a number that is set from 4·n on leaves the first n records
+pub records-stay : (n : ℕ) (numbers : List ℕ) (place v : ℕ) → 4 * n ≤ place → records_in n (set numbers place v) ≡ records_in n numbers
+records-stay n numbers place v h = records-same n numbers (set numbers place v) (λ i l k. difference (stays (4 * i) (omega arith) k) (stays (4 * i + 1) (omega arith) k) (stays (4 * i + 2) (omega arith) k) (stays (4 * i + 3) (omega arith) k))
+  where
+    stays : (i : ℕ) → i < 4 * n → get_or (set numbers place v) i 0 ≡ get_or numbers i 0
+    stays i l = get_or-set_other numbers place i v 0 (λ e. omega arith)
 
 -- ---- the four numbers of a record, put at its place
 

@@ -13,7 +13,7 @@ use Rattle.rules.specs.Split.{side_of, on_side, size_of, is_free, weighs}
 use Rattle.rules.proofs.Count.{bit-most, total-up_to, largest-up_to}
 use Rattle.rules.proofs.Readable.{not-not}
 use Rattle.job.specs.declared.figures.Totals.{Totals}
-use Rattle.job.specs.Totals.{totals_of, with_file, Added}
+use Rattle.job.specs.Totals.{totals_of, with_file, Within, Added}
 
 same-totals : (t u : Totals) → t.weight ≡ u.weight → t.largest ≡ u.largest → t.size ≡ u.size → t.least ≡ u.least → t.most ≡ u.most → t.free ≡ u.free → t.unread ≡ u.unread → t ≡ u
 same-totals t u p q r l m s n = λ i. record { weight = p i; largest = q i; size = r i; least = l i; most = m i; free = s i; unread = n i }
@@ -68,3 +68,7 @@ module _ {job : Job} {n i : ℕ} {t : Totals} (w : Walked job n i t) where
 
   pub walked_end : n ≤ i → Added job n t
   walked_end h = let e : i ≡ n = omega (arith, w.stop) in rw (← e) w.added
+
+-- totals within a bound are within a larger one
+pub within_more : {t : Totals} {a b : ℕ} → a ≤ b → Within t a → Within t b
+within_more h w = record { weight = omega arith; largest = omega arith; size = omega arith; least = omega arith; most = omega arith; free = omega arith; unread = omega arith }

@@ -22,6 +22,9 @@ pub record Onwards (p : ℕ → Bool) (a n i : ℕ) : Type 0 where
   pub start : a ≤ i
   pub passed : Passed (onwards a p) n i
 
+pub onwards-none : {p : ℕ → Bool} {a n : ℕ} → a ≤ n → Onwards p a n a
+onwards-none {p} {a} h = record { start = omega arith; passed = record { stop = h; miss = onwards-below a p } }
+
 module _ {p : ℕ → Bool} {a n i : ℕ} (x : Onwards p a n i) where
   pub onwards-more : i < n → p i ≡ false → Onwards p a n (i + 1)
   onwards-more h e = record { start = omega (arith, x.start); passed = passed-more x.passed h (onwards-from a p i x.start ∙ e) }

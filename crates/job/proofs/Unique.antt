@@ -7,9 +7,12 @@ use Rattle.rules.proofs.Settling.{Settles, both}
 use Rattle.rules.specs.declared.Verdict.{Verdict}
 use Rattle.rules.specs.declared.refusal.Refusal.{Refusal}
 use Rattle.rules.specs.declared.Measured.{Measured}
-use Rattle.rules.specs.Check.{◌or_else◌}
 use Rattle.rules.proofs.CasesOne.{as_verdict-one, as_measure-one, case_of, case-refused, undone}
 use Rattle.std.specs.Prelude.{◌≡◌, refl, Result, Ok, Err}
+use denote.RattleType.{RattleType}
+use denote.Param.Laws.{Laws}
+use mir.Syntax.{Dict}
+use Rattle.job.specs.declared.verdict.Numbered.{Ghosts}
 use Rattle.job.specs.declared.Job.{Job}
 use Rattle.job.specs.declared.figures.Surveyed.{Surveyed}
 use Rattle.job.specs.Survey.{Survey, as_survey}
@@ -24,6 +27,8 @@ use Rattle.job.proofs.measure.Kinds as measure-kinds
 use Rattle.job.proofs.measure.Reads as measure
 use Rattle.job.proofs.survey.Kinds as survey-kinds
 use Rattle.job.proofs.survey.Reads as survey
+use Rattle.job.proofs.numbers.wide.Kinds as wide-kinds
+use Rattle.job.proofs.numbers.wide.Reads as wide
 use Rattle.job.proofs.numbers.entry_at.Kinds as entry-at-kinds
 use Rattle.job.proofs.numbers.entry_at.Reads as entry_at
 use Rattle.job.proofs.numbers.bit.Kinds as bit-kinds
@@ -36,6 +41,8 @@ use Rattle.job.proofs.book.recipe_count.Kinds as recipe-count-kinds
 use Rattle.job.proofs.book.recipe_count.Reads as recipe-count
 use Rattle.job.proofs.verdict.refuse_if.Kinds as refuse-if-kinds
 use Rattle.job.proofs.verdict.refuse_if.Reads as refuse-if
+use Rattle.job.proofs.verdict.or_else.Kinds as or-else-kinds
+use Rattle.job.proofs.verdict.or_else.Reads as or-else
 use Rattle.job.proofs.verdict.bad_k.Kinds as bad-k-kinds
 use Rattle.job.proofs.verdict.bad_k.Reads as bad-k
 use Rattle.job.proofs.verdict.check_counts.Kinds as check-counts-kinds
@@ -70,9 +77,8 @@ view-settled κs a x y e f p q = both p q
 pub new-settled : Settles 0 new-kinds.ps new-kinds.r Job (λ κs j _. j) new.Post
 new-settled κs a x y e f p q = λ i. record { num = both p.0 q.0 i; den = both p.1 q.1 i; cap = both p.2 q.2 i; k = both p.3 q.3 i }
 
--- a number widened is `as`, which is settled as any equation is
-pub wide-settled : (x y v : ℕ) → x ≡ v → y ≡ v → x ≡ y
-wide-settled x y v p q = both p q
+pub wide-settled : Settles 0 wide-kinds.ps wide-kinds.r ℕ (λ κs n _. n) wide.Post
+wide-settled κs a x y e f p q = both p q
 
 pub entry-at-settled : Settles 1 entry-at-kinds.ps entry-at-kinds.r ℕ (λ κs x _. x) entry_at.Post
 entry-at-settled κs a x y e f p q = both p q
@@ -89,12 +95,12 @@ tally-settled κs a x y e f p q = both p q
 pub recipe-count-settled : Settles 1 recipe-count-kinds.ps recipe-count-kinds.r ℕ (λ κs n _. n) recipe-count.Post
 recipe-count-settled κs a x y e f p q = both p q
 
-pub refuse-if-settled : Settles 0 refuse-if-kinds.ps refuse-if-kinds.r (Result (Unit {0}) Refusal) (λ κs v _. v) refuse-if.Post
-refuse-if-settled κs a x y e f p q = as_verdict-one x y (both p q)
+-- of whatever has a number and a place
+pub refuse-if-settled : (R : RattleType) (laws : Laws R) (numbers : Ghosts R.Denot) (d d' : Dict) → Settles 1 (refuse-if-kinds.ps R laws) (refuse-if-kinds.r R laws) (Result (Unit {0}) R.Denot) (λ κs v _. v) (refuse-if.Post R laws numbers d d')
+refuse-if-settled R laws numbers d d' κs a x y e f p q = both p.0 q.0
 
--- the first of two verdicts that refuses is `?`
-pub or-else-settled : (x y v w : Verdict) → x ≡ (v or_else w) → y ≡ (v or_else w) → x ≡ y
-or-else-settled x y v w p q = both p q
+pub or-else-settled : Settles 0 or-else-kinds.ps or-else-kinds.r Verdict (λ κs v _. v) or-else.Post
+or-else-settled κs a x y e f p q = both p q
 
 pub bad-k-settled : Settles 0 bad-k-kinds.ps bad-k-kinds.r Bool (λ κs b _. b) bad-k.Post
 bad-k-settled κs a x y e f p q = both p q

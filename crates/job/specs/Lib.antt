@@ -4,3 +4,4 @@ pub mod Pins
 pub mod Totals
 pub mod Survey
 pub mod Given
+pub mod Refusing

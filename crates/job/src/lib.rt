@@ -23,10 +23,10 @@ pub use figures::{Surveyed, count_on};
 use figures::{cut, holding, totals_of};
 pub use holds::{Held, Vaults, tally};
 pub use lent::{Lent, Moves, Scans};
-pub use numbers::{bit, entry_at};
+pub use numbers::{bit, entry_at, wide};
 use rules::{Measured, Refusal};
 use verdict::sound;
-pub use verdict::{bad_k, check_counts, check_sound, refuse_if};
+pub use verdict::{Numbered, bad_k, check_counts, check_sound, or_else, refuse_if};
 use weighed::Weighed;
 
 // What a job has besides its lists: the ratio num/den for A, the cap, and k of the tolerance.

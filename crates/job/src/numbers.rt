@@ -2,6 +2,13 @@
 ghost use Rattle.std.specs.Prelude.{◌≡◌, ◌*◌, ◌≤◌, get_or};
 ghost use Rattle.rules.specs.Lists.{«bit»};
 
+// A two-byte number as an index.
+pub fn wide(x: u16) -> usize
+    ensures { result ≡ x }
+{
+    x as usize
+}
+
 // Entry k, 0 where there is none.
 pub fn entry_at(list: &[u16], k: usize) -> u16
     ensures { result ≡ get_or list.now k 0 }

@@ -2,11 +2,13 @@
 #![tactic(auto, using(rules::proofs::Exits::exits), unfolding(rules::specs::Check::check_counts, rules::specs::Check::check_lists, rules::specs::Check::check_bounds, rules::specs::Check::bad_pin, rules::specs::Check::check_pins, rules::specs::Check::check_files, rules::specs::Check::check_lengths, rules::specs::Check::check_contents, rules::specs::Check::check_sound))]
 
 ghost use Rattle.std.specs.Prelude.{◌≡◌, ◌<◌, length, IfOk};
+ghost use Rattle.rules.specs.declared.Verdict.{Verdict};
 ghost use Rattle.rules.specs.Numbers.{verdict_of};
 ghost use Rattle.rules.specs.Cases.{as_verdict};
-ghost use Rattle.rules.specs.Check.{refuse_if, bad_k, check_counts, check_lists, check_bounds, check_pins, check_files, check_lengths, check_contents, check_sound};
+ghost use Rattle.rules.specs.Check.{refuse_if, ◌or_else◌, bad_k, check_counts, check_lists, check_bounds, check_pins, check_files, check_lengths, check_contents, check_sound};
 ghost use Rattle.job.specs.Parts.{of_files, of_recipes, of_lists};
 ghost use Rattle.job.specs.Given.{the_limits, the_files, the_recipes, the_pins, the_lists};
+ghost use Rattle.job.specs.Refusing.{refused_if, numbers_by};
 ghost use Rattle.job.specs.Survey.{verdict_in};
 
 use crate::Job;
@@ -14,13 +16,35 @@ use crate::book::{Book, Files, Recipes};
 use crate::files::first_bad_file;
 use crate::pins::first_bad_pin;
 use crate::placed::Placed;
-use rules::Refusal;
+use rules::{Refusal, Verdict};
+
+// What says no by a number and a place.
+pub trait Numbered {
+    ghost numbers: { Self → Verdict };
+}
+
+impl Numbered for Refusal {
+    ghost numbers = { verdict_of };
+}
+
+// Any number, at any place.
+impl Numbered for Verdict {
+    ghost numbers = { λ v. v };
+}
 
 // Refused, if the test passes; else done.
-pub fn refuse_if(test: bool, refusal: Refusal) -> Result<(), Refusal>
-    ensures { as_verdict result ≡ refuse_if test (verdict_of refusal).number (verdict_of refusal).place }
+pub fn refuse_if<R: Numbered + Drop>(test: bool, refusal: R) -> Result<(), R>
+    ensures answer { result ≡ refused_if test refusal }
+    ensures numbers { numbers_by R.numbers result ≡ refuse_if test (R.numbers refusal).number (R.numbers refusal).place }
 {
     if test { Err(refusal) } else { Ok(()) }
+}
+
+// The first of two verdicts that refuses.
+pub fn or_else(v: Verdict, w: Verdict) -> Verdict
+    ensures { result ≡ (v or_else w) }
+{
+    if v.number != 0 { v } else { w }
 }
 
 // 1 and 2, asked of a stored job's header too.

@@ -37,6 +37,26 @@ use Rattle.levels.specs.declared.edition3.Rival.{Rival}
 use Rattle.levels.specs.Vectors.{vector_in, above_in, chosen_vector, fit_vectors, vector_choice}
 use Rattle.levels.specs.Leading.{led_is, rival_is, leads, least_of, is_rival, rival_in, Passed, FirstRival, NextRival, led_of, best_by}
 
+-- ---- the files that are no rivals
+
+module _ {w : Window} {size : ℕ} {bar : ℤ} {sizes sides : List ℕ} {gains : List ℤ} {locks : List ℕ} {from : ℕ} where
+  pub passed_none : from ≤ length sizes → Passed w size bar sizes sides gains locks from from
+  passed_none h = record { least = omega arith; most = h; each = λ g k l. absurd (omega arith) }
+
+  pub passed-more : {f : ℕ} → f < length sizes → Passed w size bar sizes sides gains locks from f
+      → (is_rival w size bar sizes sides gains locks f ≡ false) × (lt_z (get_or gains f (pos 0)) least_gain ≡ false)
+      → Passed w size bar sizes sides gains locks from (f + 1)
+  passed-more {f} h o e =
+      record {
+        least = omega (arith, o.least);
+        most = omega arith;
+        each = λ g k l.
+            elim (ℕ_discrete g f) [
+              | yes z ↦ rw z e
+              | no z ↦ o.each g k (omega arith)
+            ];
+      }
+
 -- ---- the first rival
 
 no-rival : (t : Bool) (r : Rival) → cond t (Some r) None ≡ None → t ≡ false
@@ -173,7 +193,7 @@ module _ {c n p : ℕ} {w : Window} {size : ℕ} {sizes sides : List ℕ} {gains
 
   module _ (long : length sizes ≡ c) {f : ℕ} {b : Option' Led} (a : FilesPassed c n p w size sizes sides gains z f b) where
     -- the files up to the next rival change nothing
-    files-over : (r : ℕ) → Passed w size (least_of b) sizes sides gains (take c z) f r → FilesPassed c n p w size sizes sides gains z r b
+    pub files-over : (r : ℕ) → Passed w size (least_of b) sizes sides gains (take c z) f r → FilesPassed c n p w size sizes sides gains z r b
     unfolding chosen_vector first_below
     files-over zero o =
         let e : f ≡ 0 = omega (arith, o.least) in

@@ -19,6 +19,7 @@ use lib.Signed.{lt_z}
 use Rattle.rules.specs.Lists.{bit, diff}
 use Rattle.rules.specs.Job.{view_of}
 use Rattle.rules.specs.Levels.{Binding, adds, takes, greater_vector}
+use Rattle.rules.proofs.Tests.{and-false}
 use Rattle.rules.proofs.Count.{is0, Summed, summed-none, summed-bit, summed-entries}
 use Rattle.rules.specs.Split.{side_of}
 use Rattle.tables.specs.declared.zones.Zones.{Zones}
@@ -115,6 +116,26 @@ module _ (c n p : ℕ) (sides : List ℕ) (gains : List ℤ) (z : List ℕ) (f :
       rw (first, view, zones, number, starts, cells, mine, theirs, counts-are own other side (across (counts_at c p) n (side_of sides f) own side).1) refl
 
 -- ---- place by place
+
+or-false : (b : Bool) → (b || false) ≡ b
+or-false true = refl
+or-false false = refl
+
+pub greater-three : (a b : List ℤ) → length a ≡ 3 → length b ≡ 3
+    → (lt_z (get_or b 0 (pos 0)) (get_or a 0 (pos 0))
+    || (not (lt_z (get_or a 0 (pos 0)) (get_or b 0 (pos 0)))
+    && (lt_z (get_or b 1 (pos 0)) (get_or a 1 (pos 0)) || (not (lt_z (get_or a 1 (pos 0)) (get_or b 1 (pos 0))) && lt_z (get_or b 2 (pos 0)) (get_or a 2 (pos 0))))))
+    ≡ greater_vector a b
+unfolding greater_vector
+greater-three (x ∷ y ∷ z ∷ []) (u ∷ v ∷ w ∷ []) h k = simp (and-false, or-false)
+greater-three (x ∷ y ∷ z ∷ []) (u ∷ v ∷ w ∷ t ∷ b) h k = absurd (omega arith)
+greater-three (x ∷ y ∷ z ∷ []) (u ∷ v ∷ []) h k = absurd (omega arith)
+greater-three (x ∷ y ∷ z ∷ []) (u ∷ []) h k = absurd (omega arith)
+greater-three (x ∷ y ∷ z ∷ []) [] h k = absurd (omega arith)
+greater-three (x ∷ y ∷ z ∷ s ∷ a) b h k = absurd (omega arith)
+greater-three (x ∷ y ∷ []) b h k = absurd (omega arith)
+greater-three (x ∷ []) b h k = absurd (omega arith)
+greater-three [] b h k = absurd (omega arith)
 
 -- as arrays are compared, the first place where they differ decides
 abbrev ordered : ℤ → ℤ → Option' Ordering

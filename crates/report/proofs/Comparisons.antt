@@ -1,12 +1,12 @@
 -- The lines of a comparison: as forms and as pieces, and what is told of its answer. Assumes nothing.
 use mathlib.Core.Path.{◌≡◌, refl, sym, ap, ◌∙◌}
 use mathlib.Core.Logic.{◌≢◌}
-use Prim.Native.Nat.{ℕ, ◌*◌, ◌≤◌}
+use Prim.Native.Nat.{ℕ, ◌*◌, ◌≤◌, ◌<◌}
 use mathlib.Core.Bool.{Bool, true, false, not, cond}
 use mathlib.Core.List.{List, [], ◌∷◌, ◌++◌, map, append-nil, append_assoc}
 use lib.ListN.{length}
 use lib.Dec.{leb, ltb}
-use borrow.Author.Tests.{le-leb, le-ltb, eq-eqb, ne_eqb}
+use borrow.Author.Tests.{le-leb, lt-ltb, le-ltb, ltb-false, eq-eqb, ne_eqb}
 use Rattle.rules.specs.declared.Verdict.{Verdict}
 use Rattle.rules.specs.Numbers.{Compared}
 use Rattle.rules.specs.Lists.{lowest, up_to}
@@ -14,10 +14,11 @@ use Rattle.rules.specs.Job.{Limits}
 use Rattle.rules.specs.Check.{refuse_if, ◌or_else◌}
 use Rattle.rules.specs.Report.{text, spaced, line, Printing, printing, into_room}
 use Rattle.rules.specs.Compare.{difference, most_differences, difference_line, difference_lines, refused_of}
+use Rattle.rules.proofs.Verdicts.{passes-both, not-refused, zero_of}
 use Rattle.report.specs.Laying.{pieces, shown, filled}
 use Rattle.report.specs.Steps.{room_verdict}
 use Rattle.report.specs.Comparison.{record_at, records_in, comparison_text, records_verdict, comparison_telling}
-use Rattle.report.proofs.Printings.{ToldAfter}
+use Rattle.report.proofs.Printings.{room-tells, ToldAfter}
 use Rattle.report.proofs.Tellings.{at-two}
 
 -- ---- forms filled in
@@ -47,9 +48,21 @@ record-pieces numbers n = lines_of numbers (up_to n)
 -- ---- the verdict on the records
 
 module _ (most : Limits) (count n : ℕ) where
+  pub records-over : most_differences most < count → record { number = 2; place = 0 } ≡ records_verdict most count n
+  unfolding records_verdict
+  records-over h = rw (lt-ltb (most_differences most) count h)
+
   pub records-few : count ≤ most_differences most → refuse_if (not (leb (4 * count) n)) 3 0 ≡ records_verdict most count n
   unfolding records_verdict
   records-few h = rw (le-ltb (most_differences most) count h)
+
+  module _ {v : Verdict} (e : v ≡ records_verdict most count n) where
+    pub records-tell : v.number ≡ 0 → (count ≤ most_differences most) × (4 * count ≤ n)
+    unfolding records_verdict
+    records-tell z =
+        let over : Bool = ltb (most_differences most) count in
+        let both = passes-both (refuse_if over 2 0) (refuse_if (not (leb (4 * count) n)) 3 0) (zero_of e z) in
+        (ltb-false (most_differences most) count (not-refused over 1 0 both.0), room-tells (4 * count) n both.1)
 
   pub records-enough : {v : Verdict} → v ≡ records_verdict most count n → 4 * count ≤ n → v.number ≢ 3
   unfolding records_verdict

@@ -12,7 +12,7 @@ use Rattle.std.proofs.lemmas.Fmt.{AppendsLastDigit, decimal_from_appends, length
 use Rattle.rules.specs.Report.{digits_in, digits}
 use Rattle.rules.proofs.Digits.{Long, long-digits}
 use Rattle.report.specs.declared.text.Text.{Text}
-use Rattle.report.specs.Laying.{Ahead, value_of, shown, filled, widest, longest}
+use Rattle.report.specs.Laying.{Ahead, pieces, value_of, shown, filled, widest, longest}
 use Rattle.report.specs.Writing.{Wrote}
 use Rattle.report.proofs.Laying.{pieces-append, Laying, laying-more, laying-end, wrote_as}
 
@@ -63,6 +63,18 @@ module _ (ns form : List ℕ) {i : ℕ} {old mid : Text} (x : Filling ns form i 
 
   pub filling-end : length form ≤ i → Wrote (filled ns form) (longest (length ns) form) old mid
   filling-end h = wrote_as _ (laying-end 0 x h) refl (longest-within (length ns) form i)
+
+-- ---- a text with no number
+
+pub plain-longest : (text : List ℕ) → longest 0 text ≡ length text
+unfolding longest widest
+plain-longest [] = refl
+plain-longest (b ∷ text) = rw (le-ltb (value_of b) 0 (omega arith)) (omega (arith, plain-longest text))
+
+pub plain : (text : List ℕ) → filled [] text ≡ text
+unfolding pieces shown
+plain [] = refl
+plain (b ∷ text) = rw (le-ltb (value_of b) 0 (omega arith)) (ap (λ (l : List ℕ). b ∷ l) (plain text))
 
 -- ---- a form after a form
 

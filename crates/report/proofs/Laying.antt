@@ -6,7 +6,7 @@ use native.Mathlib.Nat.{add-zero, zero-add}
 use native.Mathlib.Numerals.{add-one}
 use native.Mathlib.Omega.{arith}
 use lib.ListN.{length, get_or, take, drop, set, length-append}
-use lib.Seq.{sets, set_out, sets-eq, take-suc, take_all}
+use lib.Seq.{sets, set_out, sets-eq, length-sets, take-suc, take_all}
 use Rattle.rules.specs.Lists.{onto, up_to}
 use Rattle.rules.proofs.Count.{length-up_to, get_d-up_to}
 use Rattle.report.specs.declared.text.Text.{Text}
@@ -22,20 +22,33 @@ over-more at (a ∷ t) u room =
 
 -- ---- one piece
 
-pub wrote_in : {t : Text} {b : ℕ} → Wrote (b ∷ []) 1 t (record { room = record t.room { now = set t.room.now t.at b }; at = t.at + 1 })
+pub laid_in : (at b : ℕ) (room : List ℕ) → Laid at (b ∷ []) room (at + 1) (set room at b)
 unfolding over
-wrote_in = record { laid = record { ends = refl; holds = refl }; short = omega arith; same = refl }
+laid_in at b room = record { ends = refl; holds = refl }
+
+pub laid_out_lem : (at b : ℕ) (room : List ℕ) → length room ≤ at → Laid at (b ∷ []) room (at + 1) room
+unfolding over
+laid_out_lem at b room h = record { ends = refl; holds = sym (set_out room at b h) }
+
+pub wrote_in : {t : Text} {b : ℕ} → Wrote (b ∷ []) 1 t (record { room = record t.room { now = set t.room.now t.at b }; at = t.at + 1 })
+wrote_in {t} {b} = record { laid = laid_in t.at b t.room.now; short = omega arith; same = refl }
 
 pub wrote_out : {t : Text} {b : ℕ} → length t.room.now ≤ t.at → Wrote (b ∷ []) 1 t (record { room = t.room; at = t.at + 1 })
-unfolding over
-wrote_out {t} {b} h = record { laid = record { ends = refl; holds = sym (set_out t.room.now t.at b h) }; short = omega arith; same = refl }
+wrote_out {t} {b} h = record { laid = laid_out_lem t.at b t.room.now h; short = omega arith; same = refl }
 
-laid_none : (at : ℕ) (room : List ℕ) → Laid at [] room at room
+pub laid_none : (at : ℕ) (room : List ℕ) → Laid at [] room at room
 unfolding over
 laid_none at room = record { ends = sym (add-zero at); holds = refl }
 
+pub laid-length : {at n : ℕ} {t room after : List ℕ} → Laid at t room n after → length after ≡ length room
+unfolding over
+laid-length {at} {n} {t} {room} l = ap length l.holds ∙ length-sets room at t
+
 wrote_none : {t : Text} → Wrote [] 0 t t
 wrote_none {t} = record { laid = laid_none t.at t.room.now; short = omega arith; same = refl }
+
+pub laid_as : {at n : ℕ} {t u room after : List ℕ} → t ≡ u → Laid at t room n after → Laid at u room n after
+laid_as {at} {n} {t} {u} {room} {after} e l = rw (← e) l
 
 -- the same text under another name, and at most so many bytes
 pub wrote_as : {a b : Text} {t u : List ℕ} {m : ℕ} (n : ℕ) → Wrote t m a b → t ≡ u → m ≤ n → Wrote u n a b
@@ -47,7 +60,7 @@ wrote_as {a} {b} n w e h = record {
 
 -- ---- a piece after a piece
 
-laid_more : {at p q : ℕ} {t u room mid after : List ℕ} → Laid at t room p mid → Laid p u mid q after → Laid at (t ++ u) room q after
+pub laid_more : {at p q : ℕ} {t u room mid after : List ℕ} → Laid at t room p mid → Laid p u mid q after → Laid at (t ++ u) room q after
 laid_more {at} {t = t} {u} {room} {mid} l m = record {
   ends = omega (arith, l.ends, m.ends, length-append t u);
   holds = m.holds ∙ ap (λ (k : ℕ). over k u mid) l.ends ∙ ap (over (at + length t) u) l.holds ∙ over-more at t u room;

@@ -1,18 +1,28 @@
--- The first lines, the lines of a report and those of a balancing, as forms. Assumes nothing.
-use mathlib.Core.Path.{◌≡◌}
-use Prim.Native.Nat.{ℕ}
-use mathlib.Core.List.{List, [], ◌∷◌, ◌++◌, append-nil, append_assoc}
+-- The first lines, the lines of a report and those of a balancing: as forms, and how long they can be. Assumes nothing.
+use mathlib.Core.Path.{◌≡◌, refl}
+use Prim.Native.Nat.{ℕ, ◌+◌, ◌≤◌}
+use mathlib.Core.Bool.{Bool, true, false}
+use mathlib.Core.List.{List, [], ◌∷◌, ◌++◌, map, append-nil, append_assoc}
+use native.Mathlib.Omega.{arith}
+use lib.ListN.{length, length-append, length-map}
 use borrow.Author.Tests.{eq-eqb, ne_eqb}
+use Rattle.rules.specs.Lists.{up_to}
+use Rattle.rules.proofs.Count.{length-up_to}
 use Rattle.rules.specs.Numbers.{RunFigures}
 use Rattle.rules.specs.Numbers.{BalanceFigures}
 use Rattle.rules.specs.declared.Verdict.{Verdict}
 use Rattle.rules.specs.Job.{Job}
 use Rattle.rules.specs.Split.{size_on}
-use Rattle.rules.specs.Report.{text, spaced, line, refusal, first_lines, size_line, sides_line, figure_lines}
+use Rattle.rules.specs.Report.{text, spaced, line, refusal, first_lines, letter_of, size_line, sides_line, figure_lines, of_files}
 use Rattle.rules.specs.Balance.{balance_lines}
 use Rattle.report.specs.Laying.{pieces, shown, filled}
 use Rattle.report.specs.Steps.{settled_line}
 use Rattle.report.proofs.Forms.{joined}
+
+-- the letters ask for no size
+pub sides-alone : (sizes marks sides : List ℕ) → sides_line (of_files [] marks) sides ≡ sides_line (of_files sizes marks) sides
+unfolding sides_line
+sides-alone sizes marks sides = refl
 
 -- ---- forms filled in
 
@@ -69,3 +79,16 @@ pub balance-form : (job : Job) (a : BalanceFigures) (sides : List ℕ) (b : ℕ)
     → first_lines a.unread a.holding ++ filled (a.moves ∷ a.cut ∷ a.size ∷ b ∷ []) (text "moves 0\ncut 1\nsize 2 3\n") ≡ balance_lines job a sides
 unfolding balance_lines size_line
 balance-form job a sides b e = rw (moves-form a.moves a.cut a.size b, e) (simp append_assoc)
+
+-- ---- how long
+
+pub settled-length : (b : Bool) → length (settled_line b) ≤ 12
+unfolding line spaced text
+settled-length true = omega arith
+settled-length false = omega arith
+
+pub sides-length : (job : Job) (sides : List ℕ) → length (sides_line job sides) ≡ length sides + 7
+unfolding sides_line text
+sides-length job sides =
+    let letters : List ℕ = map (letter_of job sides) (up_to (length sides)) in
+    omega (arith, length-append (text "sides " ++ letters) (10 ∷ []), length-append (text "sides ") letters, length-map (up_to (length sides)) (letter_of job sides), length-up_to (length sides))

@@ -1,13 +1,15 @@
 -- What is told of an answer: the verdict on it in the parts that the steps ask. Assumes nothing.
 use mathlib.Core.Path.{◌≡◌, refl, ap, ◌∙◌}
 use mathlib.Core.Logic.{◌≢◌}
-use Prim.Native.Nat.{ℕ}
+use Prim.Native.Nat.{ℕ, ◌≤◌}
 use mathlib.Core.Bool.{Bool, true, false, not, cond, ◌&&◌}
 use mathlib.Core.List.{List}
 use native.Mathlib.Omega.{arith}
 use lib.ListN.{length, get_or}
 use lib.Dec.{leb, ltb, eqb}
-use borrow.Author.Tests.{eq-eqb}
+use borrow.Author.Tests.{le-leb, ltb-false, eqb-true, eq-eqb}
+use Rattle.rules.proofs.Tests.{not-no, and_yes}
+use Rattle.rules.proofs.Verdicts.{passes-both, not-refused, zero_of}
 use Rattle.rules.specs.declared.Verdict.{Verdict}
 use Rattle.rules.specs.Numbers.{Figures, RunFigures, BalanceFigures}
 use Rattle.rules.specs.Job.{Limits}
@@ -15,7 +17,7 @@ use Rattle.rules.specs.Check.{done, refuse_if, refuse_at, ◌or_else◌}
 use Rattle.rules.specs.Report.{refusal, figure_lines, tells, report, of_files, split_verdict, Printing, printing, telling, reporting}
 use Rattle.rules.specs.Balance.{balance_lines, balance_report, balance_reporting}
 use Rattle.rules.specs.Trace.{Listing, pass_lines, trace, holds_pass, tracing}
-use Rattle.report.specs.Steps.{lengths_verdict, room_verdict}
+use Rattle.report.specs.Steps.{lengths_verdict, room_verdict, EachFile}
 use Rattle.report.proofs.Printings.{ToldAfter}
 
 -- ---- the verdict in two parts
@@ -52,7 +54,28 @@ told-parts most sizes sides marks held lent =
     split_parts most sizes sides marks (held && lent)
     ∙ held-part (lengths_verdict most.files sizes sides marks) (refuse_at 6 (λ f. ltb 1 (get_or sides f 0)) (length sides)) held lent
 
+pub lengths-tell : (most : ℕ) (sizes sides marks : List ℕ) {v : Verdict} → v ≡ lengths_verdict most sizes sides marks → v.number ≡ 0 → EachFile most sizes sides marks
+unfolding lengths_verdict
+lengths-tell most sizes sides marks e z =
+    let over : Bool = ltb most (length sizes) in
+    let each : Bool = eqb (length sides) (length sizes) && eqb (length marks) (length sizes) in
+    let both = passes-both (refuse_if over 2 0) (refuse_if (not each) 3 0) (zero_of e z) in
+    let same = and_yes _ _ (not-no each (not-refused (not each) 2 0 both.1)) in
+    record {
+      few = ltb-false most (length sizes) (not-refused over 1 0 both.0);
+      sided = eqb-true (length sides) (length sizes) same.0;
+      marked = eqb-true (length marks) (length sizes) same.1;
+    }
+
 -- ---- 3 is given for want of room alone
+
+-- a text of n bytes, and room for m at least
+module _ (m n : ℕ) (t room : List ℕ) (e : n ≡ length t) (h : n ≤ m) (long : m ≤ length room) where
+  text-fits : leb (length t) (length room) ≡ true
+  text-fits = le-leb (length t) (length room) (omega (arith, e))
+
+  pub refusal-enough : {v : Verdict} → v ≡ refuse_if (not (leb (length t) (length room))) 3 0 → v.number ≢ 3
+  refusal-enough q = rw (q, text-fits) (λ z. omega (arith, z))
 
 pub at-two : (b : Bool) → (refuse_if b 2 0 or_else done).number ≢ 3
 at-two true z = omega (arith, z)

@@ -67,7 +67,7 @@ pub record PassHeld (sizes : List ℕ) (f : Figures) (l : Listing) : Type 0 wher
   pub few : f.tried ≤ length sizes
   pub moves : MovesHeld f.tried l
 
-held_tells : (sizes : List ℕ) (f : Figures) (l : Listing) → holds_pass sizes f l ≡ true → PassHeld sizes f l
+pub held_tells : (sizes : List ℕ) (f : Figures) (l : Listing) → holds_pass sizes f l ≡ true → PassHeld sizes f l
 held_tells sizes f l h =
     let ends = and_yes _ _ h in
     let end = and_yes _ _ ends.0 in
@@ -166,6 +166,10 @@ pass-form job f sides l b e = rw (figures-form f.before f.cut f.size b f.tried f
 pub before-held : (l : Listing) (n : ℕ) → MovesHeld n l → scans_before l n ≤ length l.recipes
 before-held l zero h = omega arith
 before-held l (suc n) h = (in_order l n (h.scans n (omega arith))).told
+
+pub before_small : (l : Listing) (n : ℕ) → ((i : ℕ) → get_or l.ends i 0 < 65536) → scans_before l n < 65536
+before_small l zero h = omega arith
+before_small l (suc n) h = h n
 
 -- ---- a loop over the moves, with their scans
 

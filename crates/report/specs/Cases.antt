@@ -4,11 +4,10 @@ use Rattle.rules.specs.declared.Verdict.{Verdict}
 use Rattle.rules.specs.declared.Passed.{Passed}
 use Rattle.rules.specs.declared.Ran.{Ran}
 use Rattle.rules.specs.declared.Balanced.{Balanced}
-use Rattle.rules.specs.Numbers.{Figures, Compared}
+use Rattle.rules.specs.Numbers.{Compared}
 use Rattle.rules.specs.Cases.{pass_numbers, run_numbers, balance_numbers}
 use Rattle.rules.specs.Job.{Limits}
 use Rattle.rules.specs.Check.{done}
-use Rattle.rules.specs.Run.{no_figures}
 use Rattle.rules.specs.Report.{Printing, into_room, refusal, reporting}
 use Rattle.rules.specs.Trace.{Listing, tracing}
 use Rattle.rules.specs.Balance.{balance_reporting}
@@ -36,11 +35,6 @@ balance_telling most sizes marks (Err v) sides room = into_room (refusal v) room
 abbrev pub pass_telling : Limits → List ℕ → List ℕ → Result Passed Verdict → List ℕ → Listing → List ℕ → Printing
 pass_telling most sizes marks (Ok p) sides l room = tracing most sizes marks (pass_numbers p) sides l room
 pass_telling most sizes marks (Err v) sides l room = into_room (refusal v) room
-
--- the numbers that a trace goes by
-abbrev pub pass_told : Result Passed Verdict → Figures
-pass_told (Ok p) = pass_numbers p
-pass_told (Err v) = no_figures v
 
 -- the lines of a comparison; a refusal is of a job
 abbrev pub differences_telling : Limits → Result ℕ RefusedJob → List ℕ → List ℕ → Printing

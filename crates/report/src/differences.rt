@@ -16,6 +16,9 @@ use crate::told::Told;
 use job::refuse_if;
 use rules::{Difference, Refusal};
 
+// The line of a record takes no more.
+const DIFFERENCE_BYTES: usize = 84;
+
 // A record: its four numbers, one space between.
 fn put_difference(text: &mut Text, d: Difference)
     requires { Ahead text.old.at difference_bytes }
@@ -53,6 +56,10 @@ impl Told for DifferenceLines<'_> {
     ghost lines = { λ d. difference_lines (records_in d.count d.numbers.now) };
 
     ghost most = { λ d. difference_bytes * d.count };
+
+    fn fits(&self, room: usize) -> bool {
+        DIFFERENCE_BYTES * self.count <= room
+    }
 
     fn lay(&self, text: &mut Text) {
         for i in 0..self.count {

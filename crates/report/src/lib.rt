@@ -12,11 +12,11 @@ mod text;
 mod told;
 
 ghost use Rattle.std.specs.Prelude.{◌≡◌, length};
-ghost use Rattle.rules.specs.Cases.{as_printed};
+ghost use Rattle.rules.specs.Cases.{as_printed, pass_told};
 ghost use Rattle.rules.specs.Report.{printed};
 ghost use Rattle.job.specs.Given.{the_limits};
 ghost use Rattle.report.specs.Bytes.{figure_bytes, report_bytes};
-ghost use Rattle.report.specs.Cases.{listed, run_telling, balance_telling, pass_telling, pass_told, differences_telling, differences_told};
+ghost use Rattle.report.specs.Cases.{listed, run_telling, balance_telling, pass_telling, differences_telling, differences_told};
 ghost use Rattle.report.specs.Comparison.{EnoughLines};
 ghost use Rattle.report.specs.Steps.{Enough};
 ghost use Rattle.report.specs.Tracing.{EnoughTold};

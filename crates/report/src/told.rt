@@ -1,5 +1,5 @@
 // What is told of an answer, laid into the lent room.
-ghost use Rattle.std.specs.Prelude.{◌≡◌, ◌≢◌, ℕ, ◌≤◌, List, length, leb};
+ghost use Rattle.std.specs.Prelude.{◌≡◌, ◌≢◌, ℕ, ◌≤◌, List, length, leb, true};
 ghost use Rattle.rules.specs.Cases.{as_printed};
 ghost use Rattle.rules.specs.Report.{printed, printing};
 ghost use Rattle.report.specs.Laying.{Laid};
@@ -18,6 +18,13 @@ pub(crate) trait Told {
     // At most so many bytes.
     ghost most: { Self → ℕ };
 
+    // Whether it is known to fit into so many bytes before it is laid.
+    fn fits(&self, _room: usize) -> bool
+        ensures { result ≡ true → most self.now ≤ _room }
+    {
+        false
+    }
+
     fn lay(&self, text: &mut Text)
         requires { text.old.at ≡ 0 }
         ensures { Wrote (lines self.now) (most self.now) text.old text.new };
@@ -33,11 +40,14 @@ fn lay_into<T: Told>(room: &mut [u8], told: &T) -> usize
     text.at
 }
 
-// Refused with 3 for want of room, then with 6; else the text is laid.
+// Refused with 3 for want of room, then with 6; else the text is laid. What is sure to fit is not counted first.
 pub(crate) fn tell<T: Told>(told: &T, sides: &[u16], out: &mut [u8]) -> Result<usize, Refusal>
     ensures told { printed (as_printed result) out.new ≡ printing (room_verdict sides.now (leb (length (T.lines told.now)) (length out.old))) (T.lines told.now) out.old }
     ensures enough { T.most told.now ≤ length out.old → (as_printed result).verdict.number ≢ 3 }
 {
+    if told.fits(out.len()) && check_sides(sides).is_ok() {
+        return Ok(lay_into(out, told));
+    }
     let bytes = lay_into(&mut [], told);
     refuse_if(out.len() < bytes, Refusal::WrongLength)?;
     check_sides(sides)?;

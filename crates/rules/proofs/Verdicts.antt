@@ -73,6 +73,10 @@ not-refused false n p h = refl
 abbrev pub Plain : Verdict → Type 0
 Plain v = v.number ≡ 0 → v ≡ done
 
+pub plain-if : (b : Bool) (n p : ℕ) → Plain (refuse_if b (suc n) p)
+plain-if true n p h = absurd (omega arith)
+plain-if false n p h = refl
+
 pub plain-chain : (v w : Verdict) → Plain w → Plain (v or_else w)
 plain-chain v w p h = let r = passes-both v w h in rw (eq-eqb v.number 0 r.0) (p r.1)
 

@@ -52,6 +52,15 @@ abbrev pub as_run_figures : Result Ran Refusal → RunFigures
 as_run_figures (Ok r) = run_numbers r
 as_run_figures (Err r) = no_run_figures (verdict_of r)
 
+-- a pass and a run of which a refusal has any number and place
+abbrev pub pass_told : Result Passed Verdict → Figures
+pass_told (Ok p) = pass_numbers p
+pass_told (Err v) = no_figures v
+
+abbrev pub run_told : Result Ran Verdict → RunFigures
+run_told (Ok r) = run_numbers r
+run_told (Err v) = no_run_figures v
+
 -- reading
 abbrev pub as_read_figures : Result Header Refusal → ReadFigures
 as_read_figures (Ok h) = record { verdict = done; header = h }

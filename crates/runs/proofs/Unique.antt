@@ -5,12 +5,15 @@ use Rattle.std.specs.Prelude.{Result}
 use Rattle.rules.proofs.CasesOne.{as_run_figures-one}
 use Rattle.rules.proofs.Settling.{Settles, both}
 use Rattle.rules.specs.declared.refusal.Refusal.{Refusal}
+use Rattle.rules.specs.declared.Verdict.{Verdict}
 use Rattle.rules.specs.declared.Ran.{Ran}
 use Rattle.rules.specs.Numbers.{RunFigures}
 use Rattle.rules.specs.Run.{Ended}
 use Rattle.job.specs.Given.{contents}
 use Rattle.runs.proofs.run.Kinds as kinds
 use Rattle.runs.proofs.run.Reads as run
+use Rattle.runs.proofs.sums.refused.Kinds as refused-kinds
+use Rattle.runs.proofs.sums.refused.Reads as refused
 
 -- the answer, the sides and the other lent lists
 pub run_settled :
@@ -23,3 +26,6 @@ run_settled κs a x y e f p q =
       sides = (same i).sides;
       lent = (same i).lent;
     }
+
+pub refused-settled : Settles 0 refused-kinds.ps refused-kinds.r (Result Ran Verdict) (λ κs x e. x) refused.Post
+refused-settled κs a x y e f p q = both p.0 q.0

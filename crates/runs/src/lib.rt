@@ -10,6 +10,7 @@ ghost use Rattle.job.specs.Given.{the_limits, the_job, contents, SameLists};
 
 use job::{Book, Job, Lent};
 use rules::{Ran, Refusal};
+pub use sums::refused;
 use sums::{goes_on, with_first, with_pass};
 
 // Passes by an edition of the choice follow one another until one leaves the cut equal or the cap is reached, lent what one pass is. Only the first can be refused.

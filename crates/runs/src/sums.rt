@@ -1,9 +1,18 @@
 // The answer of a run so far, and whether another pass follows.
-ghost use Rattle.std.specs.Prelude.{◌≡◌, ◌≤◌};
-ghost use Rattle.rules.specs.Cases.{pass_numbers, run_numbers};
+ghost use Rattle.std.specs.Prelude.{◌≡◌, ◌≤◌, Err};
+ghost use Rattle.rules.specs.Cases.{pass_numbers, run_numbers, run_told};
+ghost use Rattle.rules.specs.Run.{no_run_figures};
 ghost use Rattle.runs.specs.Running.{plus_of, after_first, after_more, follows, SumsFit};
 
-use rules::{Passed, Ran};
+use rules::{Passed, Ran, Verdict};
+
+// A refused run: all other numbers are 0.
+pub fn refused(verdict: Verdict) -> Result<Ran, Verdict>
+    ensures answer { result ≡ Err verdict }
+    ensures numbers { run_told result ≡ no_run_figures verdict }
+{
+    Err(verdict)
+}
 
 // The first pass's figures as they are.
 pub(crate) fn with_first(first: Passed) -> Ran

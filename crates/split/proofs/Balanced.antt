@@ -10,16 +10,18 @@ use lib.Dec.{leb, ltb, eqb}
 use lib.IntN.{ℤ, pos}
 use lib.ListN.{length, get_or, take, set, replicate, length-replicate}
 use lib.Seq.{take-length}
-use borrow.Author.Tests.{leb-true, leb-false, le-leb, lt-leb, le-ltb, lt-ltb, eq-eqb}
+use borrow.Author.Tests.{leb-true, leb-false, le-leb, lt-leb, le-ltb, lt-ltb, eqb-true, eq-eqb}
+use Rattle.rules.proofs.Tests.{and_yes}
 use Rattle.rules.specs.declared.Verdict.{Verdict}
 use Rattle.rules.specs.Numbers.{BalanceFigures}
 use Rattle.rules.specs.Lists.{listed}
 use Rattle.rules.specs.Job.{Job, Limits, file_count, recipe_count, pin_count, recipes, Lent, lent_of, scratch_for, fits}
-use Rattle.rules.specs.Split.{size_of, cut, unread_files, unread_recipes, weight, tolerance, size_a}
+use Rattle.rules.specs.Split.{side_of, on_side, size_of, cut, unread_files, unread_recipes, weight, tolerance, size_a}
 use Rattle.rules.specs.Check.{done}
-use Rattle.rules.specs.Move.{State, moved, distance, after}
+use Rattle.rules.specs.Move.{State, moved, distance, greater, first_below, after}
 use Rattle.rules.specs.Balance.{too_large, too_small, heavy, balance_choice, balance_moves, balance_sides, balance_figures, no_balance_figures, balance_verdict, Balancing, balancing_of, balancing}
-use Rattle.rules.specs.Theorems.{Sound}
+use Rattle.rules.specs.Theorems.{Binary, Sound}
+use Rattle.rules.proofs.First.{first-ok}
 use Rattle.rules.proofs.Fits.{long-enough}
 use Rattle.rules.proofs.Verdicts.{zero_of}
 use Rattle.job.specs.Survey.{Survey}
@@ -40,14 +42,14 @@ use Rattle.split.specs.declared.progress.Progress.{Progress}
 use Rattle.split.specs.OwnLists.{OwnLists}
 use Rattle.split.specs.Scanning.{Treated, treated}
 use Rattle.choice.specs.Choosing.{file_or}
-use Rattle.choice.specs.Heavy.{heavy_in, greatest_in, greatest_file}
+use Rattle.choice.specs.Heavy.{heavy_in, free_in, gain_in, greatest_in, greatest_file}
 use Rattle.choice.proofs.Leading.{greatest-fit}
 use Rattle.split.specs.Moving.{Board, board, begun, counted_on, treat_from, move_one}
 use Rattle.split.specs.Movable.{Movable}
 use Rattle.split.specs.Playing.{balanced_from, heavy_file}
 use Rattle.split.proofs.Going.{begins, stands, Going}
 use Rattle.split.proofs.Playable.{Playable, Measured, size_at_start, cut_at_start}
-use Rattle.split.proofs.NextMove.{Picked}
+use Rattle.split.proofs.NextMove.{Picked, stands-binary}
 use Rattle.split.proofs.ChoiceNow.{gains-long, gains-fresh}
 use Rattle.split.proofs.LentLists.{listed-none}
 use Rattle.split.proofs.MoveNow.{MoveFits}
@@ -88,6 +90,20 @@ heavy_two job a u = go (too_large job a) (too_small job a)
     go true y e = let is : 0 ≡ u = cc in rw (← is) refl
     go false true e = let is : 1 ≡ u = cc in rw (← is) refl
     go false false e = cc
+
+-- ---- the choice by the lists
+
+-- no file is on a third side
+no_third : (sides locks : List ℕ) (gains : List ℤ) (n : ℕ) → Binary sides → greatest_in 2 sides locks gains n ≡ none
+unfolding greatest_in
+no_third sides locks gains n b = go (first_below (free_in 2 sides locks) (greater (gain_in gains)) n) refl
+  where
+    apart : (f : ℕ) → free_in 2 sides locks f ≡ true → ⊥
+    apart f e = omega (arith, b f, eqb-true (side_of sides f) 2 (and_yes (eqb (get_or locks f 0) 0) (on_side sides 2 f) e).1)
+
+    go : (o : Option ℕ) → first_below (free_in 2 sides locks) (greater (gain_in gains)) n ≡ o → o ≡ none
+    go none e = refl
+    go (some f) e = absurd (apart f (first-ok (free_in 2 sides locks) (greater (gain_in gains)) n f e).1)
 
 -- ---- the moves
 
@@ -142,31 +158,49 @@ module _ {job : Job} {l : Lent} {w : Window} {sides : List ℕ} {y : Treated} (u
 
   -- the choice where the side is known
   picks : (o : Option ℕ) → heavy job (size_a job st.sides) ≡ o
-      → cond (eqb (side_or o) 2) (length sides) (greatest_file (side_or o) sides y.scratch y.scanned.gains) ≡ file_or c (balance_choice job st)
+      → file_or c (greatest_in (side_or o) st.sides st.locks y.scanned.gains c) ≡ file_or c (balance_choice job st)
   unfolding greatest_in
-  picks none e = (choosable u.under).sides ∙ ap (file_or c) (sym (choice-stop job st e))
+  picks none e = ap (file_or c) (no_third st.sides st.locks y.scanned.gains c (stands-binary (line u.under) k) ∙ sym (choice-stop job st e))
   picks (some x) e =
-      let n : Choosable job b = choosable u.under in
       let way = toward-at may.most job may.sound may.wide k in
       let toward : Toward job x st = subst (λ (t : ℕ). Toward job t st) (sym (way.way x e)) way in
-      rw (heavy_two job (size_a job st.sides) x e)
-      (greatest-fit x sides y.scratch y.scanned.gains (n.gains ∙ sym n.sides) (omega (arith, n.sides, n.locks))
-      ∙ ap (λ (m : ℕ). file_or m (greatest_in x sides (take m y.scratch) y.scanned.gains m)) n.sides
-      ∙ ap₂ (λ (v z : List ℕ). file_or c (greatest_in x v z y.scanned.gains c)) g.sides g.locks
-      ∙ ap (file_or c) (listed_same job x st y.scanned.gains toward e (ap length g.gains ∙ gains-long (line u.under) k) (rw g.gains (gains-fresh (line u.under) k))))
+      ap (file_or c) (listed_same job x st y.scanned.gains toward e (ap length g.gains ∙ gains-long (line u.under) k) (rw g.gains (gains-fresh (line u.under) k)))
 
-  side-is : heavy_in w y.scanned.progress.size ≡ side_or (heavy job (size_a job st.sides))
-  side-is = ap (heavy_in w) g.progress.size ∙ sym (heavy-is job w may.measured (size_a job st.sides))
+  module _ {side f : ℕ} (heavier : side ≡ heavy_in w y.scanned.progress.size)
+      (greatest : f ≡ greatest_file side sides y.scratch y.scanned.gains) where
+    side-is : side ≡ side_or (heavy job (size_a job st.sides))
+    side-is = heavier ∙ ap (heavy_in w) g.progress.size ∙ sym (heavy-is job w may.measured (size_a job st.sides))
 
-  module _ {f : ℕ} (picked : f ≡ heavy_file w y.scanned.progress.size sides y.scratch y.scanned.gains) where
     file-is : f ≡ file_or c (balance_choice job st)
     file-is =
-        picked
-        ∙ ap (λ (side : ℕ). cond (eqb side 2) (length sides) (greatest_file side sides y.scratch y.scanned.gains)) side-is
+        let o : Choosable job b = choosable u.under in
+        greatest
+        ∙ greatest-fit side sides y.scratch y.scanned.gains (o.gains ∙ sym o.sides) (omega (arith, o.sides, o.locks))
+        ∙ ap (λ (n : ℕ). file_or n (greatest_in side sides (take n y.scratch) y.scanned.gains n)) o.sides
+        ∙ ap₂ (λ (x z : List ℕ). file_or c (greatest_in side x z y.scanned.gains c)) g.sides g.locks
+        ∙ ap (λ (x : ℕ). file_or c (greatest_in x st.sides st.locks y.scanned.gains c)) side-is
         ∙ picks (heavy job (size_a job st.sides)) refl
 
+  -- as src/ has it, which asks for a file only where there is a side
+  side-now : heavy_in w y.scanned.progress.size ≡ side_or (heavy job (size_a job st.sides))
+  side-now = ap (heavy_in w) g.progress.size ∙ sym (heavy-is job w may.measured (size_a job st.sides))
+
+  picks-now : (o : Option ℕ) → heavy job (size_a job st.sides) ≡ o
+      → cond (eqb (side_or o) 2) (length sides) (greatest_file (side_or o) sides y.scratch y.scanned.gains) ≡ file_or c (balance_choice job st)
+  picks-now none e = (choosable u.under).sides ∙ ap (file_or c) (sym (choice-stop job st e))
+  picks-now (some x) e =
+      let heavier : x ≡ heavy_in w y.scanned.progress.size = sym (side-now ∙ ap side_or e) in
+      rw (heavy_two job (size_a job st.sides) x e) (file-is heavier refl)
+
+  module _ {f : ℕ} (picked : f ≡ heavy_file w y.scanned.progress.size sides y.scratch y.scanned.gains) where
+    file-now : f ≡ file_or c (balance_choice job st)
+    file-now =
+        picked
+        ∙ ap (λ (side : ℕ). cond (eqb side 2) (length sides) (greatest_file side sides y.scratch y.scanned.gains)) side-now
+        ∙ picks-now (heavy job (size_a job st.sides)) refl
+
     chose : Chose job ms b f
-    chose = record { pick = λ i. balance_choice job (stands job ms i); picked = balance-picked may.most job may.sound may.wide; file = file-is }
+    chose = record { pick = λ i. balance_choice job (stands job ms i); picked = balance-picked may.most job may.sound may.wide; file = file-now }
 
     -- a file: it is moved
     module _ (is : f < length sides) where

@@ -170,3 +170,15 @@ module _ {edition : ℕ} {job : Job} {l : Lent} {w : Window} {b : Board} (u : Pa
 
     pub pass-gain : best.file < c → best.gain ≡ get_or gains best.file (pos 0)
     pass-gain = subst (λ (x : Best). x.file < c → x.gain ≡ get_or gains x.file (pos 0)) (sym best-is) (kept-gain _ _ c (pick_at edition job k))
+
+    -- the scratch that is left: by edition 2 the tops came down
+    pub picked-scratch : z ≡ cond (eqb edition 2) (with_links c (recipe_count job) (pin_count job) b.rest.scratch fronted.links) b.rest.scratch
+    unfolding picked_by
+    picked-scratch = ap (λ (x : Picked). x.scratch) answered ∙ go (eqb edition 2)
+      where
+        go : (t : Bool)
+            → (cond t (picked_is fronted.best (with_links c (recipe_count job) (pin_count job) b.rest.scratch fronted.links))
+            (picked_is (choice_in w size job.sizes b.sides b.rest.scratch gains) b.rest.scratch)).scratch
+            ≡ cond t (with_links c (recipe_count job) (pin_count job) b.rest.scratch fronted.links) b.rest.scratch
+        go true = refl
+        go false = refl

@@ -1,12 +1,12 @@
 -- What entering, choosing and following leave of the scratch; and that after a move the links stand for the free files, as before it. Assumes nothing.
 use mathlib.Core.Path.{◌≡◌, refl, sym, ap, ap₂, ◌∙◌}
-use mathlib.Core.Logic.{inl, inr, ◌≢◌}
+use mathlib.Core.Logic.{◌⊎◌, inl, inr, ◌≢◌}
 use Prim.Native.Nat.{ℕ, zero, suc, ◌+◌, ◌≤◌, ◌<◌}
 use mathlib.Core.Bool.{Bool, true, false, not, cond}
 use mathlib.Core.List.{List, [], ◌∷◌, ◌++◌, map, map-append}
 use native.Mathlib.Decide.{ℕ_discrete}
 use native.Mathlib.Omega.{arith}
-use lib.ListN.{length, get_or, set}
+use lib.ListN.{length, get_or, set, drop}
 use lib.Seq.{get_or-set_same, get_or-set_other}
 use lib.Dec.{eqb}
 use lib.IntN.{ℤ, pos}
@@ -18,6 +18,7 @@ use Rattle.rules.specs.Move.{State, free, steps_by, touches, Change, change_of, 
 use Rattle.rules.specs.Theorems.{scans_told}
 use Rattle.rules.specs.Fronts.{Buckets, without, to_front, reenters}
 use Rattle.rules.specs.FrontsHold.{Standing}
+use Rattle.rules.proofs.Tests.{and_yes}
 use Rattle.rules.proofs.Latest.{changed-enter}
 use Rattle.choice.specs.declared.window.Window.{Window}
 use Rattle.choice.specs.Best.{choice_in}
@@ -93,6 +94,10 @@ module _ (edition c n p : ℕ) (e : edition ≡ 2) (z : List ℕ) (fits : links_
       rw (links-entered marks sides gains) (enters-all (shape_of c n) marks sides gains (links_in c n p z) small gained (omega (arith, links-long c n p z fits)))
 
   module _ (w : Window) (size : ℕ) (sizes sides : List ℕ) (gains : List ℤ) where
+    pub best-picked : (picked_by edition c n p w size sizes sides gains z).best ≡ (chosen_front (shape_of c n) w size sizes sides gains (links_in c n p z)).best
+    unfolding picked_by
+    best-picked = rw (eq-eqb edition 2 e) refl
+
     pub links-picked : links_in c n p (picked_by edition c n p w size sizes sides gains z).scratch ≡ (chosen_front (shape_of c n) w size sizes sides gains (links_in c n p z)).links
     unfolding picked_by
     links-picked =
@@ -147,11 +152,26 @@ move-stands {order} s f t m gains' long fs held same = brings-all gains' long fs
 
 -- ---- the files that the scans listed change, in their order
 
+in_either : (x : ℕ) (xs ys : List ℕ) → x ∈ xs ++ ys → (x ∈ xs) ⊎ (x ∈ ys)
+unfolding ◌∈◌
+in_either x [] ys m = inr m
+in_either x (y ∷ xs) ys (inl e) = inl (inl e)
+in_either x (y ∷ xs) ys (inr m) = elim (in_either x xs ys m) [ inl k ↦ inl (inr k) | inr k ↦ inr k ]
+
 files-of : (k : ℕ) (xs : List ℕ) → map (λ (c : Change). c.file) (map (change_of k) xs) ≡ xs
 files-of k [] = refl
 files-of k (x ∷ xs) = ap (λ (l : List ℕ). x ∷ l) (files-of k xs)
 
 module _ (st : State) (t : ℕ) (look : ℕ → List ℕ) where
+  -- each of them is free
+  pub touched-free : (js ks : List ℕ) (x : ℕ) → x ∈ touched_by st t look js ks → free st x ≡ true
+  unfolding touched_by ◌∈◌
+  touched-free [] ks x m = absurd m
+  touched-free (j ∷ js) ks x m = elim (in_either x (those (touches st t (get_or ks 0 0)) (look j)) (touched_by st t look js (drop 1 ks)) m) [
+    | inl k ↦ (and_yes (free st x) _ (those-pass (touches st t (get_or ks 0 0)) x (look j) k).0).0
+    | inr k ↦ touched-free js (drop 1 ks) x k
+  ]
+
   -- they are the files of the changes
   pub touched-told : (rs : List (List ℕ)) (js ks : List ℕ) → length js ≡ length ks
       → ((i : ℕ) → i < length js → look (get_or js i 0) ≡ get_or rs (get_or js i 0) [])

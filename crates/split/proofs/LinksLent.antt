@@ -1,5 +1,5 @@
 -- The links lent from the scratch and put back, and what of the scratch that leaves as it was. Assumes nothing.
-use mathlib.Core.Path.{◌≡◌, refl, sym, ap, ap₂, ◌∙◌}
+use mathlib.Core.Path.{◌≡◌, refl, sym, subst, ap, ap₂, ◌∙◌}
 use Prim.Native.Nat.{ℕ, zero, suc, ◌+◌, ◌-◌, ◌≤◌}
 use mathlib.Core.Bool.{Bool, true, false, cond}
 use mathlib.Core.List.{List, ◌++◌}
@@ -30,6 +30,12 @@ pub record Kept (c n p : ℕ) (z z' : List ℕ) : Type 0 where
 
 pub kept_same : {c n p : ℕ} {z : List ℕ} → Kept c n p z z
 kept_same = record { long = refl; below = refl; beyond = refl }
+
+pub kept_then : {c n p : ℕ} {x y z : List ℕ} → Kept c n p x y → Kept c n p y z → Kept c n p x z
+kept_then a b = record { long = b.long ∙ a.long; below = b.below ∙ a.below; beyond = b.beyond ∙ a.beyond }
+
+pub kept-is : {c n p : ℕ} {x y z : List ℕ} → z ≡ y → Kept c n p x y → Kept c n p x z
+kept-is {c} {n} {p} {x} e k = subst (λ (u : List ℕ). Kept c n p x u) (sym e) k
 
 module _ (c n p : ℕ) (z : List ℕ) where
   -- the code lends from `from` up to `to`

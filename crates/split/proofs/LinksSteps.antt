@@ -1,27 +1,29 @@
 -- The files that scans changed and that are brought to the front, one more at the end, as a loop has them. Assumes nothing.
 use mathlib.Core.Path.{◌≡◌, refl, sym, ap, ap₂, ◌∙◌}
-use Prim.Native.Nat.{ℕ, zero, suc, ◌+◌, ◌-◌, ◌<◌}
+use Prim.Native.Nat.{ℕ, zero, suc, ◌+◌, ◌-◌, ◌≤◌, ◌<◌}
 use mathlib.Core.Bool.{Bool, true, false, cond, ◌&&◌}
 use mathlib.Core.List.{List, [], ◌∷◌, ◌++◌, append-nil, append_assoc}
 use native.Mathlib.Numerals.{add-one}
 use native.Mathlib.Omega.{arith}
 use lib.ListN.{length, get_or, take, drop, length-take, length-drop}
-use lib.Seq.{take-suc, get_or-take, get_or-drop}
-use lib.Dec.{ltb, leb}
+use lib.Seq.{take-suc, take-take, get_or-take, get_or-drop}
+use lib.Dec.{eqb, ltb, leb}
 use lib.IntN.{ℤ, pos}
 use Rattle.rules.specs.Lists.{those, AllBelow}
 use Rattle.rules.specs.Job.{view_of}
 use Rattle.rules.specs.Split.{side_of}
-use Rattle.rules.specs.Move.{State, steps_by, touches}
+use Rattle.rules.specs.Move.{State, steps_by, reaches, touches}
 use Rattle.rules.proofs.Changes.{steps-append}
 use Rattle.rules.proofs.Readable.{those-append}
 use Rattle.buckets.specs.declared.slots.Buckets.{Buckets}
 use Rattle.buckets.specs.declared.slots.Shape.{Shape}
 use Rattle.buckets.specs.Lent.{SameBuckets}
+use Rattle.tables.specs.Zones.{state_of, state_in}
 use Rattle.split.specs.declared.fronts.AfterMove.{AfterMove}
-use Rattle.split.specs.Links.{bringing, brought_all, touched_by}
+use Rattle.split.specs.Scanning.{changed_by}
+use Rattle.split.specs.Links.{links_at, links_long, bringing, brought_all, touched_by}
 use Rattle.split.specs.Bringing.{brought}
-use Rattle.split.proofs.LinksLent.{front_long}
+use Rattle.split.proofs.LinksLent.{Kept, front_long}
 
 -- the links stay as long as they are
 pub brought-long : (shape : Shape) (sides : List ℕ) (gains : List ℤ) (fs links : List ℕ) → length (brought_all shape sides gains fs links) ≡ length links
@@ -46,6 +48,23 @@ view-below c bounds pins j h = go (ltb (suc j) (length bounds) && leb a b && leb
         let k : i < b - a = omega (arith, length-take (b - a) (drop a pins)) in
         rw (get_or-take (b - a) (drop a pins) i 0 k, get_or-drop a pins i 0) (h (a + i) (omega (arith, length-take (b - a) (drop a pins), length-drop a pins)))
     go false i l = absurd (omega arith)
+
+-- the code's test, of a file
+pub touched-is : (c : ℕ) (sides z : List ℕ) (t k f : ℕ) → f < c → changed_by (get_or z f 0) (side_of sides f) t (1 - t) k ≡ touches (state_in c sides z) t k f
+touched-is c sides z t k f h = ap (λ (x : ℕ). eqb x 0 && reaches (eqb (side_of sides f) t) (eqb (side_of sides f) (1 - t)) k) (sym (get_or-take c z f 0 h))
+
+module _ (c n p : ℕ) where
+  -- the locks stand before the links
+  pub kept-locks : {z z' : List ℕ} → Kept c n p z z' → take c z' ≡ take c z
+  kept-locks {z} {z'} k =
+      let h : c ≤ links_at c n p = omega arith in
+      sym (take-take c (links_at c n p) z' h) ∙ ap (take c) k.below ∙ take-take c (links_at c n p) z h
+
+  pub kept-state : {z z' : List ℕ} (sides : List ℕ) → Kept c n p z z' → state_in c sides z' ≡ state_in c sides z
+  kept-state sides k = ap (state_of sides) (kept-locks k)
+
+  pub kept-fits : {z z' : List ℕ} → Kept c n p z z' → links_at c n p + links_long c n ≤ length z → links_at c n p + links_long c n ≤ length z'
+  kept-fits k h = omega (arith, k.long)
 
 -- one file more that is tested
 pub those-more : (p : ℕ → Bool) (fs : List ℕ) (i : ℕ) → i < length fs → those p (take (i + 1) fs) ≡ those p (take i fs) ++ those p (get_or fs i 0 ∷ [])

@@ -75,6 +75,12 @@ module _ {n : ℕ} {job : Job} {ms : List ℕ} {l : Lent} {w : Window} {b : Boar
   pub under-long : BoardLong job l b
   under-long = board-long line y.fitting g
 
+  pub sides-stay : length b.sides ≡ length job.sides
+  sides-stay = under-long.sides ∙ sym y.sound.sides_long
+
+  pub gains-stay : length b.rest.scanned.gains ≡ length l.gains
+  gains-stay = under-long.gains ∙ sym (long-enough 1 job l y.fitting).gains
+
   pub choosable : Choosable job b
   choosable =
       let m : BoardLong job l b = under-long in

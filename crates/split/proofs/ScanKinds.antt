@@ -1,20 +1,39 @@
 -- The kinds that the code scans a recipe for are those of document 01. Assumes nothing.
 use mathlib.Core.Path.{◌≡◌, refl, sym, ◌∙◌}
-use Prim.Native.Nat.{ℕ, zero, suc}
+use mathlib.Core.Logic.{◌≢◌}
+use Prim.Native.Nat.{ℕ, zero, suc, ◌+◌}
 use mathlib.Core.Bool.{cond, ◌&&◌}
 use mathlib.Core.List.{List, [], ◌∷◌, ◌++◌, map, append_assoc}
 use native.Mathlib.Omega.{arith}
 use lib.ListN.{length, get_or, set}
 use lib.Dec.{eqb}
+use borrow.Author.Tests.{eq-eqb, ne_eqb}
 use Rattle.rules.specs.Split.{other, side_of, count_on, times}
 use Rattle.rules.specs.Move.{State, locked_on, moved, kind_if, kinds_in, scan_pins}
 use Rattle.rules.proofs.Count.{is0, is1}
 use Rattle.rules.proofs.Locked.{kinds_by, kinds-by}
 use Rattle.rules.proofs.OneMove.{Moves, left-count, left-locked}
 use Rattle.tables.specs.Zones.{counts_at, CountsOf}
-use Rattle.split.specs.Scanning.{Scanned, scanned, visited_by, scan_if, kind_or_none, kind_there, kind_left, kinds_now, count_f, locked_f}
+use Rattle.split.specs.Scanning.{Scanned, scanned, visited_by, scan_if, kind_by, kind_or_none, kind_there, kind_left, kinds_now, count_f, locked_f}
 use Rattle.split.specs.Moving.{way_to}
 use Rattle.split.proofs.Recount.{counts-seen}
+
+-- ---- the cases of a kind by its counts
+
+module _ (k count locked : ℕ) where
+  pub kind-none : count ≡ 0 → k ≡ kind_by k count locked
+  kind-none e = simp (eq-eqb count 0 e)
+
+  pub kind-many : count ≢ 0 → count ≢ 1 → 0 ≡ kind_by k count locked
+  kind-many m n = simp (ne_eqb count 0 m, ne_eqb count 1 n)
+
+  pub kind-locked : count ≡ 1 → locked ≢ 0 → 0 ≡ kind_by k count locked
+  kind-locked e n = rw e (simp (ne_eqb locked 0 n))
+
+  pub kind-free : count ≡ 1 → locked ≡ 0 → k + 1 ≡ kind_by k count locked
+  kind-free e f = rw (e, f) refl
+
+-- ---- the scans that they ask for
 
 -- one scan, of recipe j, whose files are r
 unfoldable pub scan_one : State → ℕ → ℕ → List ℕ → ℕ → Scanned → Scanned

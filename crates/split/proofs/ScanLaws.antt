@@ -1,15 +1,16 @@
 -- One scan over the pins of a recipe: one pin more, and how far an entry goes. Assumes nothing.
 use mathlib.Core.Path.{◌≡◌, refl, sym, ap, ◌∙◌}
 use Prim.Native.Nat.{ℕ, zero, suc, ◌+◌, ◌-◌, ◌≤◌, ◌<◌, ◌^◌}
-use mathlib.Core.Bool.{Bool, true, false, cond}
+use mathlib.Core.Bool.{Bool, true, false, cond, ◌&&◌}
 use mathlib.Core.List.{List, [], ◌∷◌, ◌++◌}
 use native.Mathlib.Numerals.{add-one}
 use native.Mathlib.Omega.{arith}
+use lib.Dec.{eqb}
 use lib.IntN.{ℤ, pos, negsuc, ◌+ℤ◌}
 use lib.ListN.{length, get_or, set, take, length-take}
 use lib.Seq.{take-suc, set-get_or}
 use Rattle.rules.specs.Lists.{diff}
-use Rattle.rules.specs.Move.{State, touches, change, raises, scan_pins}
+use Rattle.rules.specs.Move.{State, reaches, touches, change, raises, scan_pins}
 use Rattle.rules.proofs.Signed.{abs, abs-add}
 use Rattle.rules.proofs.Steps.{scan-more}
 use Rattle.split.specs.Scanning.{shifted_by, RoomFor}
@@ -37,7 +38,7 @@ step-abs z true = abs-add z 1 0
 step-abs z false = abs-add z 0 1
 
 -- a scan changes a gain by at most one
-change-abs : (z : ℤ) (k : ℕ) → abs (z +ℤ change k) ≤ abs z + 1
+pub change-abs : (z : ℤ) (k : ℕ) → abs (z +ℤ change k) ≤ abs z + 1
 change-abs z k = step-abs z (raises k)
 
 set-abs : (g : List ℤ) (x f k : ℕ) → abs (get_or (set g x (get_or g x (pos 0) +ℤ change k)) f (pos 0)) ≤ abs (get_or g f (pos 0)) + 1
@@ -63,3 +64,18 @@ pub scan-room : (st : State) (t k : ℕ) (r : List ℕ) (i : ℕ) (g : List ℤ)
     → (f : ℕ) → abs (get_or h f (pos 0)) < 2 ^ 31 - 1
 scan-room st t k r i g {h} l e room f =
     omega (arith, ap (λ (y : List ℤ). abs (get_or y f (pos 0))) e, scan-abs st t k (take i r) g f, length-take i r, room f)
+
+-- ---- the cases of a scan's change, by the tests of the definition
+
+module _ (g : ℤ) (lock side there left kind : ℕ) where
+  abbrev reached : Bool
+  reached = eqb lock 0 && reaches (eqb side there) (eqb side left) kind
+
+  pub shifts-up : reached ≡ true → raises kind ≡ true → g +ℤ pos 1 ≡ shifted_by g lock side there left kind
+  shifts-up p q = sym (ap (λ (t : Bool). cond t (g +ℤ change kind) g) p ∙ ap (λ (t : Bool). g +ℤ cond t (pos 1) (negsuc 0)) q)
+
+  pub shifts-down : reached ≡ true → raises kind ≡ false → g +ℤ negsuc 0 ≡ shifted_by g lock side there left kind
+  shifts-down p q = sym (ap (λ (t : Bool). cond t (g +ℤ change kind) g) p ∙ ap (λ (t : Bool). g +ℤ cond t (pos 1) (negsuc 0)) q)
+
+  pub shifts_none : reached ≡ false → g ≡ shifted_by g lock side there left kind
+  shifts_none p = sym (ap (λ (t : Bool). cond t (g +ℤ change kind) g) p)

@@ -135,6 +135,9 @@ module _ {st : State} {way : Way} {look : ℕ → List ℕ} {a e : ℕ} {y₀ : 
       pub own_below : AllBelow way.files r
       own_below = subst (AllBelow way.files) (sym own) turn-treatable.below
 
+      pub seen-long : way.files ≤ length z'
+      seen-long = omega (arith, t.inside, t.scratch, ap length counted, recount-length way j y.scratch)
+
       pub first_fits : Fits (treat_all st way look (part a (e - a) y₀.scratch) y₀).scanned → Fits one
       first_fits f = fits-earlier (later-if seen way.side j r k.second one) (both-fit f)
 

@@ -6,6 +6,7 @@ use Rattle.std.specs.Prelude.{List, Result}
 use Rattle.rules.proofs.CasesOne.{as_balance_figures-one, as_figures-one}
 use Rattle.rules.proofs.Settling.{Settles, both}
 use Rattle.rules.specs.declared.refusal.Refusal.{Refusal}
+use Rattle.rules.specs.declared.Verdict.{Verdict}
 use Rattle.rules.specs.declared.Passed.{Passed}
 use Rattle.rules.specs.declared.Balanced.{Balanced}
 use Rattle.rules.specs.Numbers.{Figures}
@@ -16,6 +17,8 @@ use Rattle.split.proofs.balancing.balance.Kinds as balance-kinds
 use Rattle.split.proofs.balancing.balance.Reads as balance
 use Rattle.split.proofs.pass_once.Kinds as pass-kinds
 use Rattle.split.proofs.pass_once.Reads as pass
+use Rattle.split.proofs.from_job.refused.Kinds as refused-kinds
+use Rattle.split.proofs.from_job.refused.Reads as refused
 
 -- the answer, the sides and the other lent lists
 pub pass-settled :
@@ -28,6 +31,9 @@ pass-settled κs a x y e f p q =
       sides = (same i).sides;
       lent = (same i).lent;
     }
+
+pub refused-settled : Settles 0 refused-kinds.ps refused-kinds.r (Result Passed Verdict) (λ κs x e. x) refused.Post
+refused-settled κs a x y e f p q = both p.0 q.0
 
 -- the answer of the balancing, the sides and the scratch
 pub balance-settled : Settles 3 balance-kinds.ps balance-kinds.r (Result Balanced Refusal × List ℕ × List ℕ) (λ κs x e. (x, e.1.1.0.now, e.1.1.1.0.now)) balance.Post

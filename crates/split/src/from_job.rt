@@ -1,5 +1,7 @@
 // What a pass has from its job and the lists that it is lent: the balance window, the extent, and how long the lists are.
-ghost use Rattle.std.specs.Prelude.{◌≡◌, ℕ, ◌-◌, ◌*◌, ◌<◌, ◌^◌, length, get_or};
+ghost use Rattle.std.specs.Prelude.{◌≡◌, ℕ, ◌-◌, ◌*◌, ◌<◌, ◌^◌, length, get_or, Err};
+ghost use Rattle.rules.specs.Cases.{pass_told};
+ghost use Rattle.rules.specs.Run.{no_figures};
 ghost use Rattle.job.specs.Parts.{of_figures};
 ghost use Rattle.tables.specs.Zones.{extent_of};
 ghost use Rattle.choice.specs.Choosing.{window_of};
@@ -7,6 +9,7 @@ ghost use Rattle.split.specs.Passing.{lengths_of};
 
 use choice::Window;
 use job::{Book, Job, Moves, Scans};
+use rules::{Passed, Verdict};
 use tables::{Extent, ListLengths};
 
 // Den, and num·W and den times the tolerance.
@@ -36,6 +39,14 @@ pub(crate) fn extent_of(book: Book) -> Extent
         recipes: book.recipes.count() as u16,
         pins: book.recipes.pins.len() as u16,
     }
+}
+
+// A refused pass: all other numbers are 0.
+pub fn refused(verdict: Verdict) -> Result<Passed, Verdict>
+    ensures answer { result ≡ Err verdict }
+    ensures numbers { pass_told result ≡ no_figures verdict }
+{
+    Err(verdict)
 }
 
 // How long the lists of moves and of scans are.

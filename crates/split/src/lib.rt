@@ -20,6 +20,7 @@ ghost use Rattle.split.specs.Passing.{lists_of, board_of, Noted, moved_by, MoveF
 pub use balancing::balance;
 use choice::{Best, Standing};
 use editions::Edition;
+pub use from_job::refused;
 use from_job::{extent_of, lengths_of, two_byte_sizes, window_of};
 use fronts::{MoveScans, choose_by, enter_by, follow_by};
 use job::{Book, Job, Lent, Moves, Scans};

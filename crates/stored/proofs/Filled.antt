@@ -3,7 +3,9 @@ use Rattle.std.proofs.Common.{◌≡◌, ℕ, ◌+◌, ◌-◌, ◌*◌, ◌/◌
 use Rattle.std.proofs.lemmas.Bool.Decides.{nat_tests}
 use Rattle.std.proofs.Math.Nat.{add-zero, mul-one, mul-add, mul-add-div, div-eq_of_lt, mul-add-mod_self_left, mod-eq_of_lt}
 use Rattle.std.proofs.Math.Seq.{ext_get_or}
-use native.Mathlib.Decide.{dec_lt}
+use native.Mathlib.Decide.{ℕ_discrete, dec_lt}
+use lib.ListN.{set, length-set}
+use lib.Seq.{get_or-set_same, get_or-set_other}
 use Rattle.rules.specs.declared.Header.{Header}
 use Rattle.rules.specs.Lists.{up_to, onto}
 use Rattle.rules.specs.Stored.{Room, block_at, value_in, held_in, bounds_at, pins_at, block_count, kind_of, values_in}
@@ -11,13 +13,29 @@ use Rattle.rules.proofs.Count.{get_d-tabled, length-tabled}
 use Rattle.rules.proofs.Entries.{onto-length, onto-in, onto-stays}
 use Rattle.stored.specs.Steps.{Put, Taken, TakenTo}
 
+-- ---- one block's values
+
+pub put-none : (f : ℕ → ℕ) (a : ℕ) (xs : List ℕ) → Put f a 0 xs xs
+put-none f a xs = record { long = refl; put = λ v h. absurd (omega arith); before = λ i h. refl; after = λ i h. refl }
+
+pub put-more : {f : ℕ → ℕ} {a n : ℕ} {old new : List ℕ} (x : ℕ) → Put f a n old new → a + n < length new → x ≡ f n → Put f a (n + 1) old (set new (a + n) x)
+put-more {f} {a} {n} {old} {new} x p h e = record {
+  long = length-set new (a + n) x ∙ p.long;
+  put = λ v l. elim (ℕ_discrete v n) [
+    | yes q ↦ rw q (get_or-set_same new (a + n) x 0 h ∙ e)
+    | no z ↦ get_or-set_other new (a + n) (a + v) x 0 (λ q. z (omega arith)) ∙ p.put v (omega arith)
+  ];
+  before = λ i l. get_or-set_other new (a + n) i x 0 (λ q. omega arith) ∙ p.before i l;
+  after = λ i l. get_or-set_other new (a + n) i x 0 (λ q. omega arith) ∙ p.after i (omega arith);
+}
+
 -- ---- the blocks of a kind
 
-taken_none : (g : ℕ → ℕ) (xs : List ℕ) (n : ℕ) → n ≡ 0 → Taken g n xs xs
+pub taken_none : (g : ℕ → ℕ) (xs : List ℕ) (n : ℕ) → n ≡ 0 → Taken g n xs xs
 taken_none g xs n e = record { long = refl; taken = λ i h. absurd (omega arith); after = λ i h. refl }
 
 -- n entries more, those of g from a on
-taken_more : {f g : ℕ → ℕ} {a n m : ℕ} {old mid new : List ℕ} → Taken g a old mid → Put f a n mid new → m ≡ a + n → ((v : ℕ) → v < n → f v ≡ g (a + v)) → Taken g m old new
+pub taken_more : {f g : ℕ → ℕ} {a n m : ℕ} {old mid new : List ℕ} → Taken g a old mid → Put f a n mid new → m ≡ a + n → ((v : ℕ) → v < n → f v ≡ g (a + v)) → Taken g m old new
 taken_more {f} {g} {a} {n} {m} {old} {mid} {new} t p h e = record {
   long = p.long ∙ t.long;
   taken = λ i l. elim (dec_lt i a) [

@@ -1,6 +1,6 @@
 -- What a stored job that was taken up has: its verdict, and the job in the first entries of the lists. Assumes nothing.
 use mathlib.Core.Path.{◌≡◌, sym, ap, ap₂, ◌∙◌}
-use Prim.Native.Nat.{ℕ, ◌*◌, ◌≤◌, ◌<◌}
+use Prim.Native.Nat.{ℕ, ◌+◌, ◌*◌, ◌≤◌, ◌<◌}
 use mathlib.Core.List.{List}
 use native.Mathlib.Decide.{dec_lt}
 use native.Mathlib.Omega.{arith}
@@ -9,6 +9,8 @@ use lib.IntN.{pos}
 use Rattle.rules.specs.declared.Verdict.{Verdict}
 use Rattle.rules.specs.Numbers.{ReadFigures}
 use Rattle.rules.specs.declared.Header.{Header}
+use Rattle.job.specs.declared.Job.{Job as Figures}
+use Rattle.job.specs.Parts.{whole_job}
 use Rattle.rules.specs.Job.{Job, Limits}
 use Rattle.rules.specs.Stored.{Room, header_of, block_count, job_of, Reading, written, reading, read_verdict}
 use Rattle.rules.specs.Report.{all_room, own_lent}
@@ -24,10 +26,20 @@ use Rattle.rules.specs.declared.refusal.Refusal.{Refusal}
 use Rattle.rules.specs.Numbers.{verdict_of}
 use Rattle.rules.specs.Check.{done}
 use Rattle.stored.specs.Room.{lists_of, as_taken}
-use Rattle.stored.specs.Steps.{first_of, job_taken, Held}
+use Rattle.stored.specs.Steps.{figures_in, first_of, job_taken, Held}
 use Rattle.stored.proofs.Readings.{first-written}
 
 -- ---- the job in the first entries of the lists
+
+pub figures-whole : (figures : Figures) (h : Header) → (figures.num ≡ h.num) × (figures.den ≡ h.den) × (figures.cap ≡ h.cap) × (figures.k ≡ h.k) → figures ≡ figures_in h
+figures-whole figures h e = λ i. record { num = e.0 i; den = e.1 i; cap = e.2 i; k = e.3 i }
+
+-- the figures of the header are those of the job
+pub first-whole : (h : Header) (lists : Room) (figures : Figures) → figures ≡ figures_in h
+    → whole_job figures (take h.files lists.sizes) (take h.files lists.sides) (take h.files lists.marks) (take (h.recipes + 1) lists.bounds) (take h.pins lists.pins)
+    ≡ first_of h lists
+first-whole h lists figures e =
+    ap (λ (g : Figures). whole_job g (take h.files lists.sizes) (take h.files lists.sides) (take h.files lists.marks) (take (h.recipes + 1) lists.bounds) (take h.pins lists.pins)) e
 
 -- lists of a program's own, the gain list cut to the files
 pub own-lent : (most : Limits) (sizes : List ℕ) (n : ℕ) → length sizes ≡ n → n ≤ most.files

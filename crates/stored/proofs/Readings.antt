@@ -9,8 +9,8 @@ use Rattle.rules.specs.Job.{Job, Limits}
 use Rattle.rules.specs.Check.{done, refuse_if, ◌or_else◌, bad_k, check_counts, check_contents, check_sound, bad_pin}
 use Rattle.rules.specs.Stored.{Room, Reading, block_at, header_values, header_of, bounds_at, pins_at, block_count, roomy, job_of}
 use Rattle.rules.specs.Stored.{block_verdict, blocks_verdict, read_verdict, written, no_header, reading}
-use Rattle.rules.proofs.Tests.{and_yes}
-use Rattle.rules.proofs.Verdicts.{or_assoc, or-three, passes-both, chain-stop, refuse-go, sound-contents}
+use Rattle.rules.proofs.Tests.{and_yes, not-no}
+use Rattle.rules.proofs.Verdicts.{or_assoc, or-three, passes-both, chain-stop, refuse-go, not-refused, sound-contents}
 use Rattle.rules.proofs.Exits.{not-done, done-goes}
 use Rattle.rules.proofs.SoundJob.{some_of, few-of, counts-pass}
 use Rattle.rules.proofs.Refusals.{layout-chain, read-chain}
@@ -25,7 +25,7 @@ use Rattle.std.proofs.lemmas.List.{length-replicate}
 use Rattle.job.specs.Parts.{of_lists}
 use Rattle.stored.specs.Steps.{TakenTo, block_numbers, k_in, header_in, header_verdict, figures_verdict, opening_verdict, Allowed, Ample, first_of, job_taken}
 use Rattle.stored.proofs.Filled.{taken-all}
-use borrow.Author.Tests.{leb-true, le-ltb}
+use borrow.Author.Tests.{eqb-true, leb-true, le-ltb}
 
 -- ---- the stages of the verdict
 
@@ -55,6 +55,21 @@ module _ (most : Limits) (bytes : List ℕ) (room : Room) where
       ∙ or-three w c e (length-verdict or_else blocks-past))
       ∙ sym (layout-chain most bytes room))
       ∙ sym (read-chain most bytes room)
+
+  pub opening-tells : (opening_verdict most bytes room).number ≡ 0 → (length bytes ≡ 512 * block_count (header_of bytes)) × Allowed most (header_of bytes)
+  unfolding opening_verdict
+  opening-tells z =
+      let h : Header = header_of bytes in
+      let a = passes-both (refuse_if (ltb (length bytes) 512) 20 0) _ z in
+      let b = passes-both (block_verdict h bytes 0) _ a.1 in
+      let c = passes-both (figures_verdict most h room) length-verdict b.1 in
+      let w = passes-both (refuse_if (bad_k h.k) 22 0) _ c.0 in
+      let d = counts-pass most h.files h.recipes h.pins (passes-both (check_counts most h.files h.recipes h.pins) _ w.1).0 in
+      let some = some_of h.files h.recipes d.0 in
+      let few = few-of most h.files h.recipes h.pins d.1 in (
+        eqb-true (length bytes) (512 * block_count h) (not-no _ (not-refused _ 19 0 c.1)),
+        record { some-files = some.0; some-recipes = some.1; few-files = few.0; few-recipes = few.1; few-pins = few.2 },
+      )
 
 pub figures-allowed : (most : Limits) (h : Header) (room : Room) → done ≡ figures_verdict most h room → Allowed most h
 figures-allowed most h room e =
@@ -150,6 +165,27 @@ all-written bytes {h} {b} e r l t =
       bounds = (rw e at (taken-all (rw n at t.bounds) r.bounds)) i;
       pins = (rw e at (taken-all (rw p at t.pins) r.pins)) i;
     }
+
+-- ---- the reader's own lists, one entry for each that the limits allow
+
+pub own_room : (most : Limits) → Ample most.files most.recipes most.pins (all_room most)
+own_room most = record {
+  sizes = omega (arith, length-replicate {A = ℕ} most.files 0);
+  sides = omega (arith, length-replicate {A = ℕ} most.files 0);
+  marks = omega (arith, length-replicate {A = ℕ} most.files 0);
+  bounds = omega (arith, length-replicate {A = ℕ} (most.recipes + 1) 0);
+  pins = omega (arith, length-replicate {A = ℕ} most.pins 0);
+}
+
+module _ {most : Limits} {h : Header} (c : Allowed most h) where
+  pub room-enough : {r : Room} → Ample most.files most.recipes most.pins r → Ample h.files h.recipes h.pins r
+  room-enough w = record {
+    sizes = omega (arith, w.sizes, c.few-files);
+    sides = omega (arith, w.sides, c.few-files);
+    marks = omega (arith, w.marks, c.few-files);
+    bounds = omega (arith, w.bounds, c.few-recipes);
+    pins = omega (arith, w.pins, c.few-pins);
+  }
 
 -- ---- 4 to 6
 

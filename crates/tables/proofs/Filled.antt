@@ -1,18 +1,34 @@
 -- Entries made one value, over any kind of entry. Assumes nothing.
 use mathlib.Core.Path.{◌≡◌, refl, sym, ap, ap₂, ◌∙◌}
 use Prim.Native.Nat.{ℕ, ◌+◌, ◌-◌, ◌≤◌, ◌<◌}
+use mathlib.Core.Bool.{true, false, ◌&&◌, ◌||◌}
 use mathlib.Core.List.{List, [], ◌∷◌, ◌++◌, append-nil}
 use native.Mathlib.Numerals.{add-one}
 use native.Mathlib.Omega.{arith}
+use lib.Dec.{leb, ltb}
 use lib.ListN.{length, set, take, drop, replicate, length-take, length-drop, replicate-append-replicate, drop_of_length-le}
 use lib.Seq.{take-suc-set, drop-drop, take_all}
-use borrow.Author.Tests.{le-leb}
+use borrow.Author.Tests.{ltb-false, leb-true, le-ltb, le-leb}
 use borrow.Rule.Slice.PartMut.{put_mid}
+use Rattle.rules.proofs.Tests.{clash, or_no, and_yes, contra}
 use Rattle.tables.specs.Clearing.{cleared, cleared_in}
+
+-- a list has the places, by two tests
+pub places-in : (a b n : ℕ) → (ltb b a || ltb n b) ≡ false → (a ≤ b) × (b ≤ n)
+places-in a b n e =
+    let p = or_no (ltb b a) (ltb n b) e in
+    (ltb-false b a p.0, ltb-false n b p.1)
 
 module _ {A : Type 0} (a b : ℕ) (v : A) (xs : List A) where
   pub cleared-in : a ≤ b → b ≤ length xs → cleared_in a b v xs ≡ cleared a b v xs
   cleared-in h k = rw (le-leb a b h, le-leb b (length xs) k) refl
+
+  pub cleared-out : (ltb b a || ltb (length xs) b) ≡ true → xs ≡ cleared_in a b v xs
+  cleared-out e =
+      let none : (leb a b && leb b (length xs)) ≡ false = contra (leb a b && leb b (length xs)) (λ t.
+      let p = and_yes (leb a b) (leb b (length xs)) t in
+      clash (sym e ∙ rw (le-ltb b a (leb-true a b p.0), le-ltb (length xs) b (leb-true b (length xs) p.1)))) in
+      rw none refl
 
   -- a part that was lent and came back all v
   pub cleared-lent : a ≤ b → b ≤ length xs → (ys : List A) (m : ℕ) → length ys ≡ length (take (b - a) (drop a xs)) → m ≡ length ys → take m ys ≡ replicate m v

@@ -10,7 +10,7 @@ use borrow.Author.Count.{below_more}
 use Rattle.rules.specs.Split.{count_on}
 use Rattle.rules.specs.Move.{State}
 use Rattle.rules.specs.Move.{locked_on}
-use Rattle.tables.specs.Zones.{side_at, CountsOf}
+use Rattle.tables.specs.Zones.{side_at, CountsOf, Counts}
 use Rattle.tables.specs.Counting.{counted_side, counted}
 use Rattle.tables.proofs.Parts.{at_set}
 
@@ -88,6 +88,9 @@ pub record CountedTo (rs : List (List ℕ)) (st : State) (n j : ℕ) (z : List �
   pub long : length z ≡ 4 * n
   pub each : (i : ℕ) → i < j → CountsOf rs st 0 n z i
 
+pub counted_none : (rs : List (List ℕ)) (st : State) (n : ℕ) (z : List ℕ) → length z ≡ 4 * n → CountedTo rs st n 0 z
+counted_none rs st n z e = record { long = e; each = λ i l. absurd (omega arith) }
+
 pub counted-more : {rs : List (List ℕ)} {st : State} {n j : ℕ} {z : List ℕ} (r : List ℕ) → CountedTo rs st n j z → j < n → r ≡ get_or rs j []
     → CountedTo rs st n (j + 1) (counted st n j r z)
 counted-more {rs} {st} {n} {j} {z} r s h q =
@@ -97,3 +100,6 @@ counted-more {rs} {st} {n} {j} {z} r s h q =
           (λ i l. counts-stay st n j r z h s.long rs i (omega arith) (λ e. omega arith) (s.each i l))
           (counts-set st n j r z h s.long rs q);
     }
+
+pub counted-end : {rs : List (List ℕ)} {st : State} {n j : ℕ} {z : List ℕ} → CountedTo rs st n j z → n ≤ j → Counts rs st 0 n z
+counted-end s h = record { each = λ i l. s.each i (omega arith) }

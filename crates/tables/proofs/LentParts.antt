@@ -131,6 +131,10 @@ pub record ThreeZones (c p n a d e : ℕ) (z z₁ z₂ z₃ : List ℕ) : Type 0
   pub before : TwoZones c p n a d e z z₁ z₂
   pub third : length z₃ ≡ length (part d (e - d) (two_zones a d z z₁ z₂))
 
+-- the zone that is lent for the locks
+pub locks-room : {c p n a d e : ℕ} (z : List ℕ) → Begins c p n a d e → counts_at c p + 4 * n ≤ length z → length (part 0 (a - 0) z) ≡ c
+locks-room {a = a} z g fits = part_length 0 (a - 0) z (omega (arith, g.cells)) ∙ omega (arith, g.cells)
+
 -- so they come back, where the code has the zones begin as it says
 pub lend : {c p n : ℕ} {at : Zones} {k : ℕ} {z z₁ z₂ z₃ : List ℕ} → at ≡ zones_of c p → k ≡ n → counts_at c p + 4 * n ≤ length z
     → length z₁ ≡ length (part 0 (at.cells - 0) z)
@@ -160,6 +164,10 @@ module _ {c p n a d e : ℕ} {z z₁ : List ℕ} (l : OneZone c p n a d e z z₁
   second_fits : length (part a (d - a) (one_zone a z z₁)) ≡ d - a
   second_fits = part_length a (d - a) (one_zone a z z₁) (omega (arith, second-in))
 
+  -- the zone that is lent for the cells
+  pub cells-room : length (part a (d - a) (one_zone a z z₁)) ≡ p + c + 1
+  cells-room = second_fits ∙ omega (arith, l.begins)
+
 module _ {c p n a d e : ℕ} {z z₁ z₂ : List ℕ} (l : TwoZones c p n a d e z z₁ z₂) where
   two-long : length (two_zones a d z z₁ z₂) ≡ length z
   two-long = same_len_mid a (d - a) (one_zone a z z₁) z₂ l.second ∙ one-long l.before
@@ -172,6 +180,10 @@ module _ {c p n a d e : ℕ} {z z₁ z₂ : List ℕ} (l : TwoZones c p n a d e 
 
   third-fits : length (part d (e - d) (two_zones a d z z₁ z₂)) ≡ e - d
   third-fits = part_length d (e - d) (two_zones a d z z₁ z₂) (omega (arith, third-in))
+
+  -- the zone that is lent for the counts
+  pub counts-room : length (part d (e - d) (two_zones a d z z₁ z₂)) ≡ 4 * n
+  counts-room = third-fits ∙ omega (arith, l.before.begins)
 
 module _ {c p n a d e : ℕ} {z z₁ z₂ z₃ : List ℕ} (l : ThreeZones c p n a d e z z₁ z₂ z₃) where
   abbrev g : Begins c p n a d e

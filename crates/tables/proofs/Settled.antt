@@ -115,7 +115,7 @@ module _ {bounds pins sides marks z₀ z z' : List ℕ} {g g' : List ℤ} {n : �
 -- ---- the answer, the gains and the scratch
 
 module _ {balancing : Bool} {most : Limits} {job : Job} {word : Bool} {gains₀ : List ℤ} {z₀ : List ℕ} where
-  numbers-once : {g g' : List ℤ} {z z' : List ℕ} {s s' : Survey} → LaysOut balancing most job word gains₀ z₀ g z s → LaysOut balancing most job word gains₀ z₀ g' z' s'
+  pub numbers-once : {g g' : List ℤ} {z z' : List ℕ} {s s' : Survey} → LaysOut balancing most job word gains₀ z₀ g z s → LaysOut balancing most job word gains₀ z₀ g' z' s'
       → (s ≡ s') × (g ≡ g') × (z ≡ z')
   numbers-once {g} {g'} {z} {z'} {s} {s'} a b = elim (ℕ_discrete s.verdict.number 0) [
     | yes e ↦

@@ -1,6 +1,6 @@
 -- The starting gains from cells and counts: a file's recipes walked by their numbers. Assumes nothing.
 use mathlib.Core.Path.{◌≡◌, refl, sym, ap, ap₂, ◌∙◌}
-use Prim.Native.Nat.{ℕ, zero, suc, ◌+◌, ◌-◌, ◌≤◌, ◌<◌}
+use Prim.Native.Nat.{ℕ, zero, suc, ◌+◌, ◌-◌, ◌*◌, ◌≤◌, ◌<◌}
 use mathlib.Core.Bool.{Bool, true, false, cond, ◌&&◌}
 use mathlib.Core.List.{List, [], ◌∷◌}
 use native.Mathlib.Omega.{arith}
@@ -19,12 +19,13 @@ use Rattle.rules.proofs.Count.{get_d-tabled, length-tabled}
 use Rattle.rules.proofs.Signed.{abs_diff}
 use Rattle.rules.proofs.Machine.{abs-fits}
 use Rattle.rules.specs.Split.{recipes_from, recipes_of}
-use Rattle.tables.specs.Zones.{cells_at, counts_at, side_at, part, start_in, end_in}
+use Rattle.tables.specs.Zones.{cells_at, counts_at, side_at, part, start_in, end_in, Cells}
 use Rattle.tables.specs.declared.sound_job.SoundJob.{SoundJob}
 use Rattle.tables.specs.SoundJob.{read_recipes, many_files, many_recipes, many_pins, state_at_start, gains_at_start, Stands}
 use Rattle.tables.specs.Counting.{gain_by, start_gain}
 use Rattle.tables.proofs.Buildable.{read-long}
 use Rattle.tables.proofs.Parts.{part-entry}
+use Rattle.tables.proofs.Sides.{side-within}
 
 -- ---- a difference of two counts, in the machine
 
@@ -132,3 +133,14 @@ module _ (job : SoundJob) {z : List ℕ} (stands : Stands job z) where
 pub start-gains-long : (job : SoundJob) → length (gains_at_start job) ≡ many_files job
 unfolding gains_after
 start-gains-long job = length-tabled _ (many_files job)
+
+-- what the gain of a file asks: its cells, and the counts of both sides, stand in the scratch
+pub gain-asks : {rs : List (List ℕ)} {c p : ℕ} {z : List ℕ} (n f side : ℕ) {s e own other : ℕ} → Cells rs c p z → f < c → p < 65535 → counts_at c p + 4 * n ≤ length z
+    → s ≡ cells_at c + start_in c p z f → e ≡ cells_at c + end_in c p z f → own ≡ side_at (counts_at c p) n side → other ≡ side_at (counts_at c p) n (1 - side)
+    → ((s ≤ e) × (e ≤ length z) × (e - s < 65536)) × ((own + n ≤ length z) × (other + n ≤ length z))
+gain-asks {c = c} {p = p} n f side d h few fits x y u v =
+    let a = d.order f h in
+    let b = d.inside f h in
+    let i = side-within (counts_at c p) n side in
+    let j = side-within (counts_at c p) n (1 - side) in
+    ((omega arith, omega arith, omega arith), (omega arith, omega arith))

@@ -23,10 +23,10 @@ use Rattle.rules.specs.declared.refusal.Refusal.{Refusal}
 use Rattle.rules.specs.Numbers.{verdict_of, in_numbers}
 use Rattle.rules.specs.declared.Ran.{Ran}
 use Rattle.rules.specs.declared.Passed.{Passed}
-use Rattle.rules.specs.Cases.{as_figures, as_run_figures}
+use Rattle.rules.specs.Cases.{as_figures, as_run_figures, pass_told}
 use Rattle.rules.proofs.Exits.{not-done}
 use Rattle.report.specs.Tracing.{EnoughTold}
-use Rattle.report.specs.Cases.{run_telling, pass_telling, pass_told}
+use Rattle.report.specs.Cases.{run_telling, pass_telling}
 use Rattle.stored.specs.Room.{taking_up, lists_of, as_taken}
 use Rattle.stored.specs.Steps.{job_taken}
 use Rattle.stored.proofs.JobTaken.{refused-read, zero_read, job_read}

@@ -10,6 +10,7 @@ use job::{Book, Files, Job, Recipes};
 use rules::{Refusal, Verdict};
 use std::io;
 use std::io::{Read, Write};
+use stored::Room;
 
 // Room for one number more than the longest list of a job may have.
 const MOST: usize = Job::MOST_PINS + 1;
@@ -19,6 +20,8 @@ const MOST_OUT: usize = 20000;
 
 const FILLED: u8 = 165;
 
+const DIGITS: [u8; 16] = *b"0123456789abcdef";
+
 // ---- Writing
 
 fn show_refusal<W: Write>(out: &mut W, refusal: Refusal) -> io::Result<()> {
@@ -26,18 +29,22 @@ fn show_refusal<W: Write>(out: &mut W, refusal: Refusal) -> io::Result<()> {
     write!(out, "refused {} {}", v.number, v.place)
 }
 
-// Two digits for each byte, 512 bytes to a line; what the last line lacks is zeros.
+// Two digits for each byte, 512 bytes to a line; what the last line lacks is zeros. A line is written whole: nothing is kept back between two writes.
 fn show_blocks<W: Write>(out: &mut W, bytes: &[u8]) -> io::Result<()> {
     for block in bytes.chunks(512) {
-        for byte in block {
-            write!(out, "{byte:02x}")?;
-        }
-        for _ in block.len()..512 {
-            write!(out, "00")?;
-        }
+        out.write_all(&line_of(block))?;
         out.write_all(b"\n")?;
     }
     Ok(())
+}
+
+fn line_of(block: &[u8]) -> [u8; 1024] {
+    let mut line = [b'0'; 1024];
+    for i in 0..block.len().min(512) {
+        line[2 * i] = DIGITS[(block[i] / 16) as usize];
+        line[2 * i + 1] = DIGITS[(block[i] % 16) as usize];
+    }
+    line
 }
 
 // ---- A call of the writer
@@ -80,20 +87,48 @@ fn show_call<R: Read, W: Write>(reader: &mut R, out: &mut W) -> io::Result<()> {
 
 // ---- A stored job, read and written back
 
+// The first numbers of a list, or all of it where there are not so many.
+fn first(list: &[u16], n: usize) -> &[u16] {
+    &list[..n.min(list.len())]
+}
+
 fn show_back<W: Write>(out: &mut W, bytes: &[u8]) -> io::Result<()> {
-    let taken = match stored::take_up(bytes) {
-        Ok(taken) => taken,
+    let mut sizes = [0u16; MOST];
+    let mut sides = [0u16; MOST];
+    let mut marks = [0u16; MOST];
+    let mut bounds = [0u16; MOST];
+    let mut pins = [0u16; MOST];
+    let mut room = Room {
+        sizes: &mut sizes,
+        sides: &mut sides,
+        marks: &mut marks,
+        bounds: &mut bounds,
+        pins: &mut pins,
+    };
+    let header = match stored::read(bytes, &mut room) {
+        Ok(header) => header,
         Err(refusal) => {
             show_refusal(out, refusal)?;
             return out.write_all(b"\n");
         }
     };
+    let files = header.files as usize;
+    let book = Book {
+        files: Files {
+            sizes: first(&sizes, files),
+            marks: first(&marks, files),
+        },
+        recipes: Recipes {
+            bounds: first(&bounds, header.recipes as usize + 1),
+            pins: first(&pins, header.pins as usize),
+        },
+    };
     let mut list = [FILLED; 65535];
     let length = bytes.len().min(65535);
     let written = writer::write(
-        taken.job(),
-        taken.book(),
-        taken.sides(),
+        stored::figures_of(header),
+        book,
+        first(&sides, files),
         &mut list[..length],
     );
     if written.is_ok() & (bytes == &list[..length]) {

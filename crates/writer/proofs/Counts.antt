@@ -1,5 +1,5 @@
 -- What the checks answer one after another is what `write_verdict` says. Assumes nothing.
-use Rattle.std.proofs.Common.{◌≡◌, ◌≢◌, refl, sym, ap, ◌∙◌, ℕ, ◌*◌, ◌≤◌, Bool, List, length, eqb, eq-eqb}
+use Rattle.std.proofs.Common.{◌≡◌, ◌≢◌, refl, sym, ap, ◌∙◌, ap₂, ℕ, ◌*◌, ◌≤◌, Bool, List, length, eqb, eq-eqb}
 use Rattle.std.specs.Prelude.{Result, Ok, Err, IsErrAnd}
 use Rattle.std.proofs.lemmas.Result.{err_from_is_err_and}
 use Rattle.rules.specs.Cases.{as_verdict}
@@ -8,7 +8,7 @@ use Rattle.rules.specs.declared.Header.{Header}
 use Rattle.rules.specs.declared.refusal.Refusal.{Refusal}
 use Rattle.rules.specs.Numbers.{verdict_of}
 use Rattle.rules.specs.Job.{Job, Limits, file_count, recipe_count, pin_count}
-use Rattle.rules.specs.Check.{done, refuse_if, bad_k, check_counts, check_lists, check_lengths, check_contents, check_sound}
+use Rattle.rules.specs.Check.{done, refuse_if, ◌or_else◌, bad_k, check_counts, check_lists, check_lengths, check_contents, check_sound}
 use Rattle.rules.specs.Stored.{block_count}
 use Rattle.rules.specs.Writing.{header_for, check_written, write_verdict, writing_of, writing}
 use Rattle.rules.specs.Theorems.{Sound}
@@ -25,6 +25,22 @@ refuses r z =
     let ok : Result ℕ Refusal = Ok 0 in
     let e : ok ≡ Err r = sym (rw (eq-eqb (verdict_of r).number 0 z) refl) ∙ case-refused r 0 in
     cc
+
+module _ (most : Limits) (job : Job) {o : Verdict} {n : ℕ} (counted : n ≡ recipe_count job) (e : o ≡ check_counts most (file_count job) n (pin_count job)) where
+  pub counts-stop : (lent : Bool) → (o.number ≡ 0 → ⊥) → o ≡ check_written most job lent
+  unfolding check_written check_sound check_lengths check_counts check_lists check_contents
+  counts-stop lent z =
+      let first = chain-stop (check_lists job lent) (e ∙ ap (λ (k : ℕ). check_counts most (file_count job) k (pin_count job)) counted) z in
+      chain-stop (refuse_if (bad_k job.k) 7 0) (chain-stop (check_contents job) first z) z
+
+-- what 1 to 6 answer, told that the output list is as long as the blocks, and then k
+pub verdict-is : (most : Limits) (job : Job) (out : List ℕ) {v s t : Verdict} {lent bad : Bool} {n : ℕ} → s ≡ check_sound most (of_lists job.sizes job.sides job.marks job.bounds job.pins) lent
+    → n ≡ block_count (header_for job) → lent ≡ eqb (length out) (512 * n) → bad ≡ bad_k job.k → t ≡ refuse_if bad 7 0 → v ≡ (s or_else t) → v ≡ write_verdict most job out
+unfolding check_written check_sound
+verdict-is most job out {lent = lent} e c w b f o =
+    o
+    ∙ ap₂ ◌or_else◌ (e ∙ lists-only most job lent ∙ ap (check_sound most job) (w ∙ ap (λ (k : ℕ). eqb (length out) (512 * k)) c))
+    (f ∙ ap (λ (x : Bool). refuse_if x 7 0) b)
 
 module _ (most : Limits) (job : Job) (out : List ℕ) where
   -- refused, the output list stays

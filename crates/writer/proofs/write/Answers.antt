@@ -23,7 +23,7 @@ returns-in_err-check_sound c =
 pub returns-in_err-refuse_if : goal.returns-in_err-refuse_if
 returns-in_err-refuse_if c =
     let exit = c.from_residual-in_err-refuse_if.ensures.1 in
-    k-refuse _ _ _ c.header_for-header.ensures c.block_count.ensures c.in_ok-check_sound.ensures _ _ c.bad_k.ensures exit c.in_err-refuse_if.ensures
+    k-refuse _ _ _ c.header_for-header.ensures c.block_count.ensures c.in_ok-check_sound.ensures _ _ c.bad_k.ensures exit c.in_err-refuse_if.ensures.numbers
 
 pub invariant_of-checked : goal.invariant_of-checked
 invariant_of-checked c =
@@ -35,10 +35,10 @@ pub put_blocks-requires : goal.put_blocks-requires
 put_blocks-requires c =
     let own = c.header_for-header.ensures in
     let job : Job = the_job c.args.job c.args.book c.args.sides.now in
-    let last = k-last the_limits job c.args.out.now own c.block_count.ensures c.in_ok-check_sound.ensures c.bad_k.ensures c.in_ok-refuse_if.ensures in
+    let last = k-last the_limits job c.args.out.now own c.block_count.ensures c.in_ok-check_sound.ensures c.bad_k.ensures c.in_ok-refuse_if.ensures.numbers in
     write-exact _ _ _ last refl ∙ ap (λ (h : Header). 512 * block_count h) (sym own)
 
 pub returns : goal.returns
 returns c =
-    let last = k-last _ _ _ c.header_for-header.ensures c.block_count.ensures c.in_ok-check_sound.ensures c.bad_k.ensures c.in_ok-refuse_if.ensures in
+    let last = k-last _ _ _ c.header_for-header.ensures c.block_count.ensures c.in_ok-check_sound.ensures c.bad_k.ensures c.in_ok-refuse_if.ensures.numbers in
     write_done _ _ _ last refl c.put_blocks.ensures

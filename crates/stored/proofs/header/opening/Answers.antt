@@ -23,12 +23,12 @@ pub returns-in_err-refuse_if-clause-verdict : goal.returns-in_err-refuse_if-clau
 returns-in_err-refuse_if-clause-verdict c =
     let z = c.in_ok-header.ensures in
     ap verdict_in (exit-is _ _ c.from_residual-in_err-refuse_if.ensures.1)
-    ∙ total-told _ _ _ z.verdict z.header c.in_ok-figures_verdict.ensures c.block_count.ensures c.in_err-refuse_if.ensures
+    ∙ total-told _ _ _ z.verdict z.header c.in_ok-figures_verdict.ensures c.block_count.ensures c.in_err-refuse_if.ensures.numbers
 
 pub returns-clause-verdict : goal.returns-clause-verdict
 returns-clause-verdict c =
     let z = c.in_ok-header.ensures in
-    total-told _ _ _ z.verdict z.header c.in_ok-figures_verdict.ensures c.block_count.ensures c.in_ok-refuse_if.ensures
+    total-told _ _ _ z.verdict z.header c.in_ok-figures_verdict.ensures c.block_count.ensures c.in_ok-refuse_if.ensures.numbers
 
 pub returns-clause-allowed : goal.returns-clause-allowed
 returns-clause-allowed c = figures-allowed _ _ _ c.in_ok-figures_verdict.ensures

@@ -6,7 +6,7 @@ use Rattle.job.proofs.weighed.Weighed.check_start.Goals.{then-balancing, else-ba
 pub returns : goal.returns
 returns c =
     λ job has.
-    c.refuse_if.ensures
+    c.refuse_if.ensures.numbers
     ∙ elim c.if-balancing.branch [
       | then-balancing w ↦ rw (c.is_balanced.ensures, w.least-is, w.if-balancing.true) (possible-is has)
       | else-balancing w ↦ rw (c.is_balanced.ensures, w.least-is, w.if-balancing.false) (start_is has)

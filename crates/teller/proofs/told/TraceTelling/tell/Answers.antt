@@ -1,8 +1,7 @@
 use mathlib.Core.Path.{ap, ◌∙◌}
 use native.Mathlib.Omega.{arith}
-use Rattle.rules.specs.Cases.{as_printed}
+use Rattle.rules.specs.Cases.{as_printed, pass_told}
 use Rattle.job.specs.Given.{the_limits, the_job}
-use Rattle.report.specs.Cases.{pass_told}
 use Rattle.report.proofs.Lending.{result-answered}
 use Rattle.teller.proofs.Telling.{pass-numbered, pass-told, enough-as, pass-printed}
 use Rattle.teller.proofs.told.TraceTelling.tell.Goals as goal
